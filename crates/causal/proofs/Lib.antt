@@ -1,0 +1,10 @@
+pub mod Tests
+pub mod Chain
+pub mod Codes
+pub mod Lists
+pub mod Bits
+pub mod Sets
+pub mod Ranks
+pub mod Clocks
+pub mod Array
+pub mod Walk

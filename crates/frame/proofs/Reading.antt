@@ -1,0 +1,109 @@
+-- What the reader of a frame answers, by its steps. Assumes nothing.
+use Prim.Native.Nat.{ℕ, zero, suc, _+_, _-_, _*_, _/_, _%_, _<_, _≤_}
+use mathlib.Core.Path.{_≡_, refl, sym, ap, _∙_}
+use mathlib.Core.Bool.{Bool, true, false}
+use mathlib.Core.List.{List}
+use native.Mathlib.Omega.{arith}
+use lib.Dec.{leb, ltb, eqb}
+use lib.ListN.{length, getD, take, drop}
+use borrow.Author.Tests.{ltb-true, eqb-true}
+use Rattle.causal.specs.Tests.{both}
+use Rattle.causal.specs.Codes.{check}
+use Rattle.causal.specs.Lists.{part}
+use Rattle.causal.proofs.Tests.{both-true}
+use Rattle.frame.specs.declared.entry.Entry.{Entry}
+use Rattle.frame.specs.declared.entry.Frame.{Frame}
+use Rattle.frame.specs.Entries.{entryOk}
+use Rattle.frame.specs.Words.{kindIs, idsFrom, clockFrom}
+use Rattle.frame.specs.Frames.{ringOk, officesIn, countIn, frameOf, accepts, blankFrame}
+use Rattle.frame.specs.Reading.{shapeOk, kindsOk, ascends, sumOk, checked, frameAt}
+use Rattle.frame.specs.Calls.{readFrameCode, frameIf, readFrame}
+use Rattle.frame.proofs.Entries.{ring-facts}
+use Rattle.frame.proofs.Frames.{checks-accept}
+
+-- what the shape says
+pub record Shape (n : ℕ) (ws : List ℕ) : Type 0 where
+  pub ring : officesIn ws ≡ n
+  pub exact : length ws ≡ n + countIn ws + 4
+
+pub shape-facts : (n : ℕ) (ws : List ℕ) → shapeOk n ws ≡ true → Shape n ws
+unfolding shapeOk
+shape-facts n ws e =
+    let a = both-true (ltb 0 (length ws)) _ e in
+    let b = both-true (kindIs 1 (getD ws 0 0)) _ (a .1) in
+    let c = both-true (eqb (officesIn ws) n) _ (b .1) in
+    record { ring = eqb-true (officesIn ws) n (c .0); exact = eqb-true (length ws) (n + countIn ws + 4) (c .1) }
+
+module _ (n p : ℕ) (ws : List ℕ) where
+  -- the dependencies stand between the clock and the check
+  pub deps-between : Shape n ws → take (length ws - 1 - (3 + n)) (drop (3 + n) ws) ≡ part ws (3 + n) (countIn ws)
+  unfolding part
+  deps-between s = let e : length ws - 1 - (3 + n) ≡ countIn ws = omega (arith, s .exact) in ap (λ (k : ℕ). take k (drop (3 + n) ws)) e
+
+  pub frame-at : Shape n ws → (deps : List ℕ) → deps ≡ idsFrom (part ws (3 + n) (countIn ws)) → frameAt n ws deps ≡ frameOf ws
+  unfolding frameAt frameOf
+  frame-at s deps d =
+      let o = sym (s .ring) in
+      let e : deps ≡ idsFrom (part ws (3 + officesIn ws) (countIn ws)) = d ∙ ap (λ (m : ℕ). idsFrom (part ws (3 + m) (countIn ws))) o in
+      λ i.
+      record {
+        offices = o i;
+        hops = frameOf ws .hops;
+        entry =
+            record {
+              office = frameOf ws .entry .office;
+              serial = frameOf ws .entry .serial;
+              plot = frameOf ws .entry .plot;
+              value = frameOf ws .entry .value;
+              clock = ap (clockFrom ws 3) o i;
+              deps = e i;
+            };
+      }
+
+  -- ---- refusals
+
+  pub read-refused : (c code : ℕ) (f : Frame) → readFrameCode n p ws ≡ suc c → code ≡ suc c → f ≡ blankFrame
+      → (code ≡ readFrameCode n p ws) × (f ≡ readFrame n p ws)
+  unfolding readFrame frameIf
+  read-refused c code f e q b = (q ∙ sym e, b ∙ ap (λ (k : ℕ). frameIf k ws) (sym e))
+
+  pub settings-refused : ringOk n p ≡ false → readFrameCode n p ws ≡ 1
+  unfolding readFrameCode check
+  settings-refused e = rw e refl
+
+  abbrev Rest : Bool
+  Rest = both (leb (frameOf ws .hops) (n - 2)) (both (entryOk n p (frameOf ws .entry)) (sumOk ws))
+
+  not-checked : ringOk n p ≡ true → checked n p ws ≡ false → readFrameCode n p ws ≡ 9
+  unfolding readFrameCode check
+  not-checked r e =
+      let f = ring-facts n p r in
+      rw (r, ← checks-accept n p ws (f .low) (f .high), e) refl
+
+  pub shape-refused : ringOk n p ≡ true → shapeOk n ws ≡ false → readFrameCode n p ws ≡ 9
+  unfolding checked both
+  shape-refused r e = not-checked r (rw e refl)
+
+  pub kinds-refused : ringOk n p ≡ true → shapeOk n ws ≡ true → kindsOk n ws ≡ false → readFrameCode n p ws ≡ 9
+  unfolding checked both
+  kinds-refused r s e = not-checked r (rw (s, e) refl)
+
+  pub ids-refused : ringOk n p ≡ true → shapeOk n ws ≡ true → kindsOk n ws ≡ true → ascends n 0 (part ws (3 + n) (countIn ws)) ≡ false → readFrameCode n p ws ≡ 9
+  unfolding checked both
+  ids-refused r s k e = not-checked r (rw (s, k, e) refl)
+
+  pub content-refused : ringOk n p ≡ true → shapeOk n ws ≡ true → kindsOk n ws ≡ true → ascends n 0 (part ws (3 + n) (countIn ws)) ≡ true → Rest ≡ false
+      → readFrameCode n p ws ≡ 9
+  unfolding checked both
+  content-refused r s k a e = not-checked r (rw (s, k, a) e)
+
+  -- ---- and otherwise
+
+  pub accepted : ringOk n p ≡ true → shapeOk n ws ≡ true → kindsOk n ws ≡ true → ascends n 0 (part ws (3 + n) (countIn ws)) ≡ true → Rest ≡ true
+      → (f : Frame) → f ≡ frameOf ws → (0 ≡ readFrameCode n p ws) × (f ≡ readFrame n p ws)
+  unfolding readFrameCode readFrame frameIf check checked both
+  accepted r s k a e f q =
+      let g = ring-facts n p r in
+      let c : checked n p ws ≡ true = rw (s, k, a) e in
+      let d : accepts n p ws ≡ true = sym (checks-accept n p ws (g .low) (g .high)) ∙ c in
+      (rw (r, d) refl, rw (r, d) q)

@@ -1,0 +1,219 @@
+-- What each turn of the codec's loops does, and what the writer's steps make together. Assumes nothing.
+use Prim.Native.Nat.{ℕ, zero, suc, _+_, _-_, _*_, _/_, _%_, _^_, _<_, _≤_}
+use mathlib.Core.Path.{_≡_, refl, sym, ap, _∙_}
+use mathlib.Core.Bool.{Bool, true, false, cond}
+use mathlib.Core.Logic.{_⊎_, inl, inr, ⊎-elim}
+use mathlib.Core.List.{List, [], _∷_, _++_, foldl, foldl-append, append-nil}
+use native.Mathlib.Nat.{add-zero, zero-add, one-mul, mod-eq-of-lt}
+use native.Mathlib.Numerals.{add-one}
+use native.Mathlib.Omega.{arith}
+use lib.Bits.{bitAnd, bitOr}
+use lib.Count.{trailingZeros}
+use lib.Dec.{leb, ltb, eqb}
+use lib.ListN.{length, getD, take, drop, set, length-append, drop-of-length-le}
+use lib.Seq.{sets, take-suc, take-all, drop-cons, ext-getD, length-sets}
+use borrow.Author.Tests.{lt-ltb, le-ltb, le-leb, lt-leb}
+use Rattle.causal.specs.Tests.{both}
+use Rattle.causal.specs.Lists.{tab, zeros}
+use Rattle.causal.specs.Sets.{bit, has, IdSet, inserted}
+use Rattle.causal.proofs.Tests.{both-true, lt-or-le}
+use Rattle.causal.proofs.Lists.{sets-append, sets-front, take-front, tab-length, tab-at, getD-sets-in, getD-sets-after}
+use Rattle.causal.proofs.Bits.{one-shl}
+use Rattle.causal.proofs.Sets.{zero-at}
+use Rattle.causal.proofs.Walk.{Passed, Next, next, fold-next, fold-end}
+use Rattle.frame.specs.declared.entry.Frame.{Frame}
+use Rattle.frame.specs.Words.{payload, payAt, clockWords, clockPlace, clockFrom, idWord, idWordIf, idWordsTo, idWords, idWordsIn, idIn, idsFrom, sumWord, summed}
+use Rattle.causal.specs.Codes.{check}
+use Rattle.frame.specs.Refusals.{Reply, replied}
+use Rattle.frame.specs.Frames.{headWord, bodyWords, frameWords, frameOk}
+use Rattle.frame.specs.Calls.{laid, laidIf, writeFrameCode, writeFrame, writeFrameRow}
+use Rattle.frame.specs.Reading.{idOk, ascends}
+use Rattle.frame.proofs.Words.{IdFacts, id-facts, ids-in, length-summed, length-clock}
+use Rattle.frame.proofs.Frames.{length-body, length-frame}
+
+-- ---- words of ids, read
+
+pub ascends-next : (n last : ℕ) (ws : List ℕ) (i : ℕ) → i < length ws → idOk n last (getD ws i 0) ≡ true
+    → ascends n last (drop i ws) ≡ ascends n (payload (getD ws i 0)) (drop (i + 1) ws)
+unfolding ascends both
+ascends-next n last ws i h e = rw (add-one, drop-cons ws i 0 h, e) refl
+
+pub ascends-stops : (n last : ℕ) (ws : List ℕ) (i : ℕ) → i < length ws → idOk n last (getD ws i 0) ≡ false → ascends n last (drop i ws) ≡ false
+unfolding ascends both
+ascends-stops n last ws i h e = rw (drop-cons ws i 0 h, e) refl
+
+pub ascends-ends : (n last : ℕ) (ws : List ℕ) (i : ℕ) → length ws ≤ i → ascends n last (drop i ws) ≡ true
+unfolding ascends
+ascends-ends n last ws i h = rw (drop-of-length-le ws {i = i} h) refl
+
+pub ids-next : (n last : ℕ) (ws ids : List ℕ) (i : ℕ) → i < length ws → idOk n last (getD ws i 0) ≡ true → ids ≡ idsFrom (take i ws)
+    → set ids (payload (getD ws i 0) / 256) (bitOr (getD ids (payload (getD ws i 0) / 256) 0) (1 * 2 ^ (payload (getD ws i 0) % 256 - 1) % 4294967296)) ≡ idsFrom (take (i + 1) ws)
+unfolding idsFrom inserted
+ids-next n last ws ids i h e q =
+    let w : ℕ = getD ws i 0 in
+    let f = id-facts n last w e in
+    let k1 : idIn w / 32 ≡ payload w / 256 = omega (arith, f .from, f .to) in
+    let k2 : idIn w % 32 ≡ payload w % 256 - 1 = omega (arith, f .from, f .to) in
+    let two : 1 * 2 ^ (payload w % 256 - 1) % 4294967296 ≡ 2 ^ (payload w % 256 - 1) = one-shl (payload w % 256 - 1) (omega (arith, f .to)) in
+    sym
+    (ap idsFrom (ap (λ (m : ℕ). take m ws) (add-one i) ∙ take-suc ws i 0 h)
+    ∙ foldl-append (λ (s : List ℕ) (v : ℕ). inserted s (idIn v)) zeros (take i ws) (w ∷ [])
+    ∙ ap (λ (s : List ℕ). inserted s (idIn w)) (sym q)
+    ∙ rw (k1, k2, two) refl)
+
+-- ---- a clock, read
+
+pub clock-whole : (ws : List ℕ) (at n : ℕ) → n ≤ 8 → sets zeros 0 (tab n (λ j. payAt ws (at + j))) ≡ clockFrom ws at n
+unfolding clockFrom
+clock-whole ws at n h =
+    ext-getD 0 (sets zeros 0 (tab n G)) (tab 8 (clockPlace ws at n)) (length-sets zeros 0 (tab n G) ∙ sym (tab-length 8 (clockPlace ws at n)))
+    (λ j l.
+    let j8 : j < 8 = omega (arith, length-sets zeros 0 (tab n G)) in
+    ⊎-elim (within j j8) (beyond j j8) (lt-or-le j n) ∙ sym (tab-at 8 (clockPlace ws at n) j 0 j8))
+  where
+    G : ℕ → ℕ
+    G j = payAt ws (at + j)
+
+    within : (j : ℕ) → j < 8 → j < n → getD (sets zeros 0 (tab n G)) j 0 ≡ clockPlace ws at n j
+    within j j8 l =
+        let e : 0 + j ≡ j = zero-add j in
+        ap (λ (i : ℕ). getD (sets zeros 0 (tab n G)) i 0) (sym e)
+        ∙ getD-sets-in zeros 0 (tab n G) j (omega (arith, tab-length n G)) (omega (arith, tab-length n G))
+        ∙ tab-at n G j 0 l
+        ∙ ap (λ (b : Bool). cond b (payAt ws (at + j)) 0) (sym (lt-ltb j n l))
+
+    beyond : (j : ℕ) → j < 8 → n ≤ j → getD (sets zeros 0 (tab n G)) j 0 ≡ clockPlace ws at n j
+    beyond j j8 l =
+        getD-sets-after zeros 0 (tab n G) j (omega (arith, tab-length n G)) ∙ zero-at j
+        ∙ ap (λ (b : Bool). cond b (payAt ws (at + j)) 0) (sym (le-ltb j n l))
+
+-- ---- words of ids, written
+
+module _ (j w : ℕ) where
+  abbrev Ids : ℕ → List ℕ
+  Ids b = idWordsIn j w b
+
+  ids-none : (i : ℕ) → i < 32 → bit w i ≡ 0 → Ids (suc i) ≡ Ids i
+  unfolding idWordsIn idWordIf
+  ids-none i h e = rw (e) (append-nil (Ids i))
+
+  ids-one : (i : ℕ) → bit w i ≡ 1 → Ids (i + 1) ≡ Ids i ++ (idWord (32 * j + i) ∷ [])
+  unfolding idWordsIn idWordIf
+  ids-one i e = rw (add-one, e) refl
+
+  ids-grow : (b c : ℕ) → length (Ids b) ≤ length (Ids (c + b))
+  unfolding idWordsIn
+  ids-grow b zero = rw zero-add (omega arith)
+  ids-grow b (suc c) =
+      let e : suc c + b ≡ suc (c + b) = omega arith in
+      rw e (omega (arith, ids-grow b c, length-append (Ids (c + b)) (idWordIf (eqb (bit w (c + b)) 1) (32 * j + (c + b)))))
+
+  pub ids-room : (b : ℕ) → b ≤ 32 → length (Ids b) ≤ length (Ids 32)
+  ids-room b h = let e : 32 - b + b ≡ 32 = omega arith in rw e at (ids-grow b (32 - b))
+
+  -- the word of the next id, and the words up to it
+  pub ids-step : (b rest : ℕ) → Passed w b rest → (rest ≡ 0 → ⊥) → Ids (trailingZeros 32 rest + 1) ≡ Ids b ++ ((1610612737 + 256 * j + trailingZeros 32 rest) ∷ [])
+  ids-step b rest p n =
+      let x = next w b rest p n in
+      let t : ℕ = trailingZeros 32 rest in
+      let v : idWord (32 * j + t) ≡ 1610612737 + 256 * j + t = place j t (x .below) in
+      ids-one t (x .member) ∙ ap (λ (l : List ℕ). l ++ (idWord (32 * j + t) ∷ [])) (fold-next Ids w ids-none b rest t x) ∙ ap (λ (y : ℕ). Ids b ++ (y ∷ [])) v
+    where
+      place : (j t : ℕ) → t < 32 → idWord (32 * j + t) ≡ 1610612737 + 256 * j + t
+      place j t h =
+          let d : (32 * j + t) / 32 ≡ j = omega arith in
+          let m : (32 * j + t) % 32 ≡ t = omega arith in
+          rw (d, m) (omega arith)
+
+  pub ids-end : (b rest : ℕ) → Passed w b rest → rest ≡ 0 → Ids 32 ≡ Ids b
+  ids-end b rest p z = fold-end Ids w ids-none b rest p z
+
+-- one word of a set more
+pub ids-word : (s : List ℕ) (j : ℕ) → idWordsTo s (32 * (j + 1)) ≡ idWordsTo s (32 * j) ++ idWordsIn j (getD s j 0) 32
+ids-word s j = let e : 32 * (j + 1) ≡ 32 * j + 32 = omega arith in rw e (ids-in s j 32 (omega arith))
+
+words-grow : (s : List ℕ) (a d : ℕ) → length (idWordsTo s a) ≤ length (idWordsTo s (d + a))
+unfolding idWordsTo
+words-grow s a zero = rw zero-add (omega arith)
+words-grow s a (suc d) =
+    let e : suc d + a ≡ suc (d + a) = omega arith in
+    rw e (omega (arith, words-grow s a d, length-append (idWordsTo s (d + a)) (idWordIf (Rattle.causal.specs.Sets.isIn s (d + a)) (d + a))))
+
+pub words-room : (s : List ℕ) (j : ℕ) → j < 8 → length (idWordsTo s (32 * j)) + length (idWordsIn j (getD s j 0) 32) ≤ length (idWords s)
+unfolding idWords
+words-room s j h =
+    let e : 256 - 32 * (j + 1) + 32 * (j + 1) ≡ 256 = omega arith in
+    let g : length (idWordsTo s (32 * (j + 1))) ≤ length (idWordsTo s 256) = rw e at (words-grow s (32 * (j + 1)) (256 - 32 * (j + 1))) in
+    omega (arith, ap length (ids-word s j), length-append (idWordsTo s (32 * j)) (idWordsIn j (getD s j 0) 32))
+
+-- ---- the writer's steps make the writing
+
+pub frame-filled : (f : Frame) (out a0 a1 a2 a3 : List ℕ) (head end : ℕ)
+    → head ≡ headWord (f .entry .office) (f .entry .serial) (f .hops) (f .offices) (length (idWords (f .entry .deps)))
+    → a0 ≡ sets out 0 (head ∷ (805306368 + f .entry .plot) ∷ (1073741824 + f .entry .value) ∷ [])
+    → a1 ≡ sets a0 3 (clockWords (f .offices) (f .entry .clock))
+    → a2 ≡ sets a1 (3 + f .offices) (idWords (f .entry .deps))
+    → end ≡ 3 + f .offices + length (idWords (f .entry .deps))
+    → a3 ≡ set a2 end (sumWord (take end a2))
+    → length (frameWords f) ≤ length out
+    → a3 ≡ laid (frameWords f) out
+unfolding laid bodyWords frameWords summed
+frame-filled f out a0 a1 a2 a3 head end eh e0 e1 e2 ee e3 room = whole ∙ sets-front out (frameWords f) room
+  where
+    C : List ℕ
+    C = clockWords (f .offices) (f .entry .clock)
+
+    D : List ℕ
+    D = idWords (f .entry .deps)
+
+    H : List ℕ
+    H =
+        headWord (f .entry .office) (f .entry .serial) (f .hops) (f .offices) (length (idWords (f .entry .deps)))
+        ∷ (805306368 + f .entry .plot)
+        ∷ (1073741824 + f .entry .value)
+        ∷ []
+
+    body : a2 ≡ sets out 0 (bodyWords f)
+    body =
+        let f0 : a0 ≡ sets out 0 H = e0 ∙ ap (λ (x : ℕ). sets out 0 (x ∷ (805306368 + f .entry .plot) ∷ (1073741824 + f .entry .value) ∷ [])) eh in
+        let f1 : a1 ≡ sets out 0 (H ++ C) = e1 ∙ ap (λ (l : List ℕ). sets l 3 C) f0 ∙ sym (sets-append out 0 H C) in
+        let k : 3 + f .offices ≡ 0 + length (H ++ C) = omega (arith, length-append H C, length-clock (f .offices) (f .entry .clock)) in
+        e2 ∙ ap (λ (l : List ℕ). sets l (3 + f .offices) D) f1 ∙ ap (λ (i : ℕ). sets (sets out 0 (H ++ C)) i D) k ∙ sym (sets-append out 0 (H ++ C) D)
+
+    whole : a3 ≡ sets out 0 (frameWords f)
+    whole =
+        let B : List ℕ = bodyWords f in
+        let lb : length B ≡ f .offices + length D + 3 = length-body f in
+        let le : end ≡ length B = omega arith in
+        let t : take end (sets out 0 B) ≡ B = take-front out B end le (omega (arith, length-frame f)) in
+        let k : end ≡ 0 + length B = omega arith in
+        e3
+        ∙ ap (λ (l : List ℕ). set l end (sumWord (take end l))) body
+        ∙ ap (λ (l : List ℕ). set (sets out 0 B) end (sumWord l)) t
+        ∙ ap (λ (i : ℕ). set (sets out 0 B) i (sumWord B)) k
+        ∙ sym (sets-append out 0 B (sumWord B ∷ []))
+
+-- ---- what the writer answers
+
+module _ (f : Frame) (out : List ℕ) where
+  pub write-refused : (c : ℕ) → writeFrameCode f (length out) ≡ suc c
+      → (record { code = suc c; words = 0 } ≡ writeFrame f (length out)) × (out ≡ writeFrameRow f out)
+  unfolding writeFrame writeFrameRow replied laidIf
+  write-refused c e = (rw e refl, rw e refl)
+
+  pub write-accepted : (n : ℕ) (row : List ℕ) → writeFrameCode f (length out) ≡ 0 → n ≡ length (frameWords f) → row ≡ laid (frameWords f) out
+      → (record { code = 0; words = n } ≡ writeFrame f (length out)) × (row ≡ writeFrameRow f out)
+  unfolding writeFrame writeFrameRow replied laidIf
+  write-accepted n row e q r = (rw (e, q) refl, rw e r)
+
+  pub write-code-3 : frameOk (f .offices) 64 f ≡ false → writeFrameCode f (length out) ≡ 3
+  unfolding writeFrameCode check
+  write-code-3 e = rw e refl
+
+  pub write-code-8 : frameOk (f .offices) 64 f ≡ true → length out < length (frameWords f) → writeFrameCode f (length out) ≡ 8
+  unfolding writeFrameCode check
+  write-code-8 e h = rw (e, lt-leb (length (frameWords f)) (length out) h) refl
+
+  pub write-code-0 : frameOk (f .offices) 64 f ≡ true → length (frameWords f) ≤ length out → writeFrameCode f (length out) ≡ 0
+  unfolding writeFrameCode check
+  write-code-0 e h = rw (e, le-leb (length (frameWords f)) (length out) h) refl

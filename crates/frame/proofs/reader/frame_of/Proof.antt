@@ -1,0 +1,48 @@
+use Prim.Native.Nat.{ℕ, _+_, _-_, _*_, _/_, _%_, _≤_, _<_}
+use Rattle.frame.specs.Words.{payAt}
+use native.Mathlib.Omega.{arith}
+use mathlib.Core.Path.{_≡_, refl, sym, ap, _∙_}
+use Rattle.frame.specs.Reading.{frameAt}
+use borrow.Author.Needs.{needs}
+use Rattle.frame.proofs.reader.frame_of.Statement.{statement}
+use Rattle.frame.proofs.reader.frame_of.Tie as tie
+
+shared-slice-read-head : tie.Need-shared-slice-read-head
+shared-slice-read-head c = search needs
+
+clock-from-requires : tie.Need-clock-from-requires
+clock-from-requires c κs = search needs
+
+shared-slice-read-t13 : tie.Need-shared-slice-read-t13
+shared-slice-read-t13 c = search needs
+
+shared-slice-read-t16 : tie.Need-shared-slice-read-t16
+shared-slice-read-t16 c = search needs
+
+returns : tie.Need-returns
+unfolding frameAt
+returns c = let z = c .before .before .before .before .before .args in
+    λ i.
+    record {
+      offices = z .n;
+      hops = payAt (z .ws .now) 0 / 4096 % 16;
+      entry =
+          record {
+            office = payAt (z .ws .now) 0 / 16777216;
+            serial = payAt (z .ws .now) 0 / 65536 % 256;
+            plot = payAt (z .ws .now) 1;
+            value = payAt (z .ws .now) 2;
+            clock = (c .before .before .clock-from .ensures) i;
+            deps = z .deps;
+          };
+    }
+
+pub frame-of-spec : {M : Type 1} → statement M
+frame-of-spec =
+    tie.close
+    (tie.spec
+    shared-slice-read-head
+    clock-from-requires
+    shared-slice-read-t13
+    shared-slice-read-t16
+    returns)

@@ -1,0 +1,53 @@
+-- Sessions (01: errands): content, and when one is sound. Paper 01, "Entries and rank", "Sound stores and errands". Assumes nothing.
+use Prim.Native.Nat.{ℕ}
+use mathlib.Core.Bool.{Bool, true, not}
+use mathlib.Core.List.{List, [], _∷_, foldl}
+use lib.Dec.{leb, eqb}
+use lib.ListN.{length, getD}
+use Rattle.causal.specs.Tests.{both}
+use Rattle.causal.specs.Lists.{tab, zeros}
+use Rattle.causal.specs.Sets.{isIn, unite, inserted, subsetOf}
+use Rattle.frame.specs.declared.entry.Entry.{Entry}
+use Rattle.frame.specs.declared.session.Session.{Session}
+use Rattle.frame.specs.Entries.{idOf, clockOk, idsOk, entryOk}
+
+-- "An errand has a clock, a set of read names, and its own entries in writing order"
+pub record Content : Type 0 where
+  pub offices : ℕ
+  pub clock : List ℕ
+  pub read : List ℕ
+  pub own : List Entry
+
+-- what `getD` gives past the end of a row of entries
+abbrev pub nobody : Entry
+nobody = record { office = 0; serial = 0; plot = 0; value = 0; clock = []; deps = [] }
+
+-- what a session says: the first `count` of its entries are its own, and the others mean nothing
+unfoldable pub contentOf : Session → Content
+contentOf s =
+    record { offices = s .offices; clock = s .clock; read = s .read; own = tab (s .count) (λ i. getD (s .own) i nobody) }
+
+-- the ids of entries, as a set
+unfoldable pub idsOf : List Entry → List ℕ
+idsOf es = foldl (λ (s : List ℕ) (e : Entry). inserted s (idOf e)) zeros es
+
+-- "own entries have distinct names and keep the entry rules, and each depends only on read names and earlier own entries": seen is the set of
+-- the earlier ones
+unfoldable pub ownOk : ℕ → ℕ → List ℕ → List ℕ → List Entry → Bool
+ownOk n p read seen [] = true
+ownOk n p read seen (e ∷ es) =
+    both (entryOk n p e)
+    (both (not (isIn seen (idOf e)))
+    (both (subsetOf (e .deps) (unite read seen)) (ownOk n p read (inserted seen (idOf e)) es)))
+
+-- "An errand is sound for a store if the ring size agrees, it carries at most 16, names, clocks and plots are in range for that ring and
+-- those plots, .."
+unfoldable pub sessionOk : ℕ → ℕ → Content → Bool
+sessionOk n p s =
+    both (eqb (s .offices) n)
+    (both (leb (length (s .own)) 16)
+    (both (clockOk n (s .clock)) (both (idsOk n (s .read)) (ownOk n p (s .read) zeros (s .own)))))
+
+-- "A fresh errand has a clock of zeros, nothing read and nothing of its own"
+abbrev pub freshContent : ℕ → Content
+freshContent n = record { offices = n; clock = zeros; read = zeros; own = [] }

@@ -1,0 +1,180 @@
+// Entries, frames that carry them round the ring, and the rules they keep.
+ghost use mathlib.Core.Path.{_≡_};
+ghost use mathlib.Core.Bool.{not};
+ghost use Prim.Native.Nat.{_+_, _-_, _*_, _<_, _≤_};
+ghost use lib.Dec.{eqb};
+ghost use lib.ListN.{getD};
+ghost use Rattle.causal.specs.Tests.{both};
+ghost use Rattle.causal.specs.Sets.{isIn};
+ghost use Rattle.frame.specs.Entries.{clockPlaceOk, clockOk, idsPlaceOk, idsOk, boundsOk, entryOk, outranks as outranksOf, blankEntry};
+ghost use Rattle.frame.specs.Frames.{ringOk, frameOk};
+
+#[repr(C)]
+pub struct Entry {
+    pub office: u32,
+    pub serial: u32,
+    pub plot: u32,
+    pub value: u32,
+    pub clock: [u32; 8],
+    pub deps: [u32; 8],
+}
+
+#[repr(C)]
+pub struct Frame {
+    pub offices: u32,
+    pub hops: u32, // 01: offices still to hear after the receiver
+    pub entry: Entry,
+}
+
+// The settings of a ring: 2 to 8 offices, 1 to 64 plots.
+pub fn ring_ok(offices: u32, plots: u32) -> bool
+    ensures { λ r. ⌜ r ≡ ringOk offices plots ⌝ }
+{
+    if offices < 2 {
+        return false;
+    }
+    if offices > 8 {
+        return false;
+    }
+    if plots < 1 {
+        return false;
+    }
+    plots <= 64
+}
+
+fn clock_place_ok(n: usize, clock: [u32; 8], j: usize) -> bool
+    requires { ⌜ j < 8 ⌝ }
+    ensures { λ r. ⌜ r ≡ clockPlaceOk n clock j ⌝ }
+{
+    if j < n {
+        return clock[j] <= 32;
+    }
+    clock[j] == 0
+}
+
+// Numbers of 0 to 32, and zero for offices that the ring has not.
+pub fn clock_ok(n: usize, clock: [u32; 8]) -> bool
+    ensures { λ r. ⌜ r ≡ clockOk n clock ⌝ }
+{
+    for j in 0..8 {
+        if !clock_place_ok(n, clock, j) {
+            return false;
+        }
+    }
+    true
+}
+
+fn ids_place_ok(n: usize, ids: [u32; 8], j: usize) -> bool
+    requires { ⌜ j < 8 ⌝ }
+    ensures { λ r. ⌜ r ≡ idsPlaceOk n ids j ⌝ }
+{
+    if j < n {
+        return true;
+    }
+    ids[j] == 0
+}
+
+// No id of an office that the ring has not.
+pub fn ids_ok(n: usize, ids: [u32; 8]) -> bool
+    ensures { λ r. ⌜ r ≡ idsOk n ids ⌝ }
+{
+    for j in 0..8 {
+        if !ids_place_ok(n, ids, j) {
+            return false;
+        }
+    }
+    true
+}
+
+fn bounds_ok(n: u32, p: u32, office: u32, serial: u32, plot: u32, value: u32) -> bool
+    ensures { λ r. ⌜ r ≡ boundsOk n p office serial plot value ⌝ }
+{
+    if office >= n {
+        return false;
+    }
+    if serial < 1 {
+        return false;
+    }
+    if serial > 32 {
+        return false;
+    }
+    if plot >= p {
+        return false;
+    }
+    value < 0x1000_0000
+}
+
+// The rules of clock and dependencies.
+fn past_ok(n: usize, office: usize, serial: u32, clock: [u32; 8], deps: [u32; 8]) -> bool
+    requires { ⌜ (office < 8) × (1 ≤ serial) × (serial ≤ 32) ⌝ }
+    ensures { λ r. ⌜ r ≡ both (eqb (getD clock office 0) serial) (both (not (isIn deps (32 * office + (serial - 1)))) (both (clockOk n clock) (idsOk n deps))) ⌝ }
+{
+    if clock[office] != serial {
+        return false;
+    }
+    if causal::set::contains(deps, 32 * office + (serial as usize - 1)) {
+        return false;
+    }
+    if !clock_ok(n, clock) {
+        return false;
+    }
+    ids_ok(n, deps)
+}
+
+// The entry rules.
+pub fn entry_ok(n: u32, p: u32, e: Entry) -> bool
+    requires { ⌜ n ≤ 8 ⌝ }
+    ensures { λ r. ⌜ r ≡ entryOk n p e ⌝ }
+{
+    if !bounds_ok(n, p, e.office, e.serial, e.plot, e.value) {
+        return false;
+    }
+    let clock = e.clock;
+    let deps = e.deps;
+    past_ok(n as usize, e.office as usize, e.serial, clock, deps)
+}
+
+// What a frame may say.
+pub fn frame_ok(n: u32, p: u32, f: Frame) -> bool
+    ensures { λ r. ⌜ r ≡ frameOk n p f ⌝ }
+{
+    if f.offices != n {
+        return false;
+    }
+    if n < 2 {
+        return false;
+    }
+    if n > 8 {
+        return false;
+    }
+    if f.hops > n - 2 {
+        return false;
+    }
+    let e = f.entry;
+    entry_ok(n, p, e)
+}
+
+// Does e outrank f?
+pub fn outranks(e: Entry, f: Entry) -> bool
+    ensures { λ r. ⌜ r ≡ outranksOf e f ⌝ }
+{
+    let c = e.clock;
+    let d = f.clock;
+    causal::rank::outranks(c, e.office, d, f.office)
+}
+
+// What stands where there is no entry.
+pub fn blank_entry() -> Entry
+    ensures { λ r. ⌜ r ≡ blankEntry ⌝ }
+{
+    let clock = [0u32; 8];
+    let deps = [0u32; 8];
+    Entry {
+        office: 0,
+        serial: 0,
+        plot: 0,
+        value: 0,
+        clock,
+        deps,
+    }
+}

@@ -1,0 +1,134 @@
+// Reading a frame: each word is checked where it stands.
+ghost use mathlib.Core.Path.{_≡_};
+ghost use Prim.Native.Nat.{_+_, _-_, _≤_};
+ghost use lib.Dec.{leb};
+ghost use lib.ListN.{length};
+ghost use Rattle.frame.specs.Refusals.{numberOf, codeOf};
+ghost use Rattle.frame.specs.Frames.{blankFrame};
+ghost use Rattle.causal.specs.Tests.{both};
+ghost use Rattle.frame.specs.Entries.{entryOk};
+ghost use Rattle.frame.specs.Reading.{shapeOk, kindsOk, sumOk, frameAt};
+ghost use Rattle.frame.specs.Calls.{readFrameCode, readFrame};
+use crate::entry::Entry;
+use crate::entry::Frame;
+use crate::refusal::Refusal;
+use crate::refusal::Status;
+
+pub struct FrameRead {
+    pub status: Status,
+    pub frame: Frame, // all zeros on a refusal
+}
+
+fn refused(refusal: Refusal) -> FrameRead
+    ensures { λ r. ⌜ (codeOf (r .status) ≡ numberOf refusal) × (r .frame ≡ blankFrame) ⌝ }
+{
+    let entry = crate::entry::blank_entry();
+    let frame = Frame {
+        offices: 0,
+        hops: 0,
+        entry,
+    };
+    FrameRead {
+        status: Status::Refused(refusal),
+        frame,
+    }
+}
+
+// The head is one, for n offices, and the length is exact.
+fn shape_ok(ws: &[u32], n: u32) -> bool
+    requires { ⌜ n ≤ 8 ⌝ }
+    ensures { λ r. ⌜ r ≡ shapeOk n (now (ws .entry)) ⌝ }
+{
+    if ws.len() < 1 {
+        return false;
+    }
+    let head = ws[0];
+    if !crate::word::kind_is(1, head) {
+        return false;
+    }
+    if head % crate::word::LOW / 256 % 16 != n {
+        return false;
+    }
+    ws.len() == (n + head % crate::word::LOW % 256 + 4) as usize
+}
+
+// The fields of a row that has the shape of a frame, with the dependencies that were read.
+fn frame_of(ws: &[u32], n: u32, deps: [u32; 8]) -> Frame
+    requires { ⌜ (n ≤ 8) × (3 + n ≤ length (now ws)) ⌝ }
+    ensures { λ r. ⌜ r ≡ frameAt n (now (ws .entry)) deps ⌝ }
+{
+    let head = ws[0] % crate::word::LOW;
+    let clock = crate::word::clock_from(ws, 3, n as usize);
+    let entry = Entry {
+        office: head / 0x0100_0000,
+        serial: head / 0x1_0000 % 256,
+        plot: ws[1] % crate::word::LOW,
+        value: ws[2] % crate::word::LOW,
+        clock,
+        deps,
+    };
+    Frame {
+        offices: n,
+        hops: head / 0x1000 % 16,
+        entry,
+    }
+}
+
+// Are the words behind the head of their kinds, up to the dependencies?
+fn kinds_ok(ws: &[u32], n: u32) -> bool
+    requires { ⌜ (n ≤ 8) × (3 + n ≤ length (now ws)) ⌝ }
+    ensures { λ r. ⌜ r ≡ kindsOk n (now (ws .entry)) ⌝ }
+{
+    if !crate::word::kind_is(3, ws[1]) {
+        return false;
+    }
+    if !crate::word::kind_is(4, ws[2]) {
+        return false;
+    }
+    crate::word::clock_kinds(ws, 3, n as usize)
+}
+
+// May the frame say what it says, and is the check word right?
+fn content_ok(ws: &[u32], n: u32, p: u32, f: Frame) -> bool
+    requires { ⌜ (2 ≤ n) × (n ≤ 8) × (1 ≤ length (now ws)) ⌝ }
+    ensures { λ r. ⌜ r ≡ both (leb (f .hops) (n - 2)) (both (entryOk n p (f .entry)) (sumOk (now (ws .entry)))) ⌝ }
+{
+    if f.hops > n - 2 {
+        return false;
+    }
+    let e = f.entry;
+    if !crate::entry::entry_ok(n, p, e) {
+        return false;
+    }
+    crate::word::sum_ok(ws)
+}
+
+// 01: read a frame.
+pub fn read_frame(ws: &[u32], offices: u32, plots: u32) -> FrameRead
+    ensures { λ r. ⌜ (codeOf (r .status) ≡ readFrameCode offices plots (now (ws .entry))) × (r .frame ≡ readFrame offices plots (now (ws .entry))) ⌝ }
+{
+    if !crate::entry::ring_ok(offices, plots) {
+        return refused(Refusal::Settings);
+    }
+    if !shape_ok(ws, offices) {
+        return refused(Refusal::Format);
+    }
+    if !kinds_ok(ws, offices) {
+        return refused(Refusal::Format);
+    }
+    let from = 3 + offices as usize;
+    let end = ws.len() - 1;
+    let read = crate::word::ids_from(&ws[from..end], offices);
+    if !read.ok {
+        return refused(Refusal::Format);
+    }
+    let deps = read.ids;
+    let frame = frame_of(ws, offices, deps);
+    if !content_ok(ws, offices, plots, frame) {
+        return refused(Refusal::Format);
+    }
+    FrameRead {
+        status: Status::Accepted,
+        frame,
+    }
+}

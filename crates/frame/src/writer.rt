@@ -1,0 +1,73 @@
+// Writing a frame.
+ghost use mathlib.Core.Path.{_≡_};
+ghost use mathlib.Core.Bool.{true};
+ghost use mathlib.Core.List.{[], _∷_, _++_};
+ghost use Prim.Native.Nat.{_+_, _<_, _≤_};
+ghost use lib.ListN.{length, drop};
+ghost use lib.Seq.{sets};
+ghost use Rattle.frame.specs.Refusals.{replyOf};
+ghost use Rattle.frame.specs.Frames.{headWord, frameOk, frameWords};
+ghost use Rattle.frame.specs.Calls.{laid, writeFrame, writeFrameRow};
+use crate::entry::Entry;
+use crate::entry::Frame;
+use crate::refusal::Refusal;
+use crate::refusal::Written;
+
+fn put_head(out: &mut [u32], head: u32, plot: u32, value: u32)
+    requires { ⌜ (3 ≤ length (now out)) × (plot < 268435456) × (value < 268435456) ⌝ }
+    ensures { λ r. ⌜ now (out .exit) ≡ sets (now (out .entry)) 0 (head ∷ (805306368 + plot) ∷ (1073741824 + value) ∷ []) ⌝ }
+{
+    out[0] = head;
+    out[1] = 0x3000_0000 + plot;
+    out[2] = 0x4000_0000 + value;
+}
+
+fn head_word(office: u32, serial: u32, hops: u32, offices: u32, count: u32) -> u32
+    requires { ⌜ (office < 16) × (serial < 256) × (hops < 16) × (offices < 16) × (count < 256) ⌝ }
+    ensures { λ r. ⌜ r ≡ headWord office serial hops offices count ⌝ }
+{
+    0x1000_0000
+        + (office * 0x0100_0000 + (serial * 0x1_0000 + (hops * 0x1000 + (offices * 256 + count))))
+}
+
+// How many words a frame takes.
+pub fn words_of(f: Frame) -> usize
+    requires { ⌜ f .offices ≤ 8 ⌝ }
+    ensures { λ r. ⌜ r ≡ length (frameWords f) ⌝ }
+{
+    let e = f.entry;
+    let deps = e.deps;
+    f.offices as usize + causal::set::size(deps) + 4
+}
+
+// The words of a frame, where there is room for its n words.
+fn fill(f: Frame, out: &mut [u32], n: usize)
+    requires { ⌜ (frameOk (f .offices) 64 f ≡ true) × (n ≡ length (frameWords f)) × (n ≤ length (now out)) ⌝ }
+    ensures { λ r. ⌜ now (out .exit) ≡ laid (frameWords f) (now (out .entry)) ⌝ }
+{
+    let e = f.entry;
+    let clock = e.clock;
+    let deps = e.deps;
+    let offices = f.offices;
+    let count = n - offices as usize - 4;
+    let head = head_word(e.office, e.serial, f.hops, offices, count as u32);
+    put_head(out, head, e.plot, e.value);
+    crate::word::put_clock(clock, offices as usize, out, 3);
+    let end = crate::word::put_ids(deps, out, 3 + offices as usize);
+    crate::word::put_sum(out, end);
+}
+
+// 01: write a frame.
+pub fn write_frame(f: Frame, out: &mut [u32]) -> Written
+    ensures { λ r. ⌜ (replyOf r ≡ writeFrame f (length (now (out .entry)))) × (now (out .exit) ≡ writeFrameRow f (now (out .entry))) ⌝ }
+{
+    if !crate::entry::frame_ok(f.offices, 64, f) {
+        return Written::NotWritten(Refusal::Content);
+    }
+    let n = words_of(f);
+    if n > out.len() {
+        return Written::NotWritten(Refusal::Room);
+    }
+    fill(f, out, n);
+    Written::Words(n)
+}

@@ -1,0 +1,6 @@
+//! The archive's calls. A test links only those that it uses.
+#![allow(dead_code)]
+
+pub mod frames;
+pub mod office;
+pub mod tokens;

@@ -1,0 +1,122 @@
+//! The archive's calls on one office, made safe. They have the shapes of the model's calls.
+
+use super::frames::Written;
+use crate::model::session::Session;
+
+#[repr(C)]
+struct PlotRead {
+    refusal: u32,
+    found: u32,
+    value: u32,
+    name: u32,
+    session: Session,
+}
+
+#[repr(C)]
+struct JointRead {
+    refusal: u32,
+    session: Session,
+}
+
+#[repr(C)]
+struct Wrote {
+    refusal: u32,
+    words: usize,
+    session: Session,
+}
+
+#[repr(C)]
+struct Need {
+    refusal: u32,
+    words: usize,
+}
+
+extern "C" {
+    fn burial_store_need(offices: u32, own: u32, plots: u32) -> Need;
+    fn burial_read_plot(store: *mut u32, store_len: usize, session: Session, plot: u32) -> PlotRead;
+    fn burial_read_joint(
+        store: *mut u32,
+        store_len: usize,
+        session: Session,
+        plots: *const u32,
+        plots_len: usize,
+        answer: *mut u32,
+        answer_len: usize,
+    ) -> JointRead;
+    fn burial_write(
+        store: *mut u32,
+        store_len: usize,
+        session: Session,
+        plot: u32,
+        value: u32,
+        out: *mut u32,
+        out_len: usize,
+    ) -> Wrote;
+    fn burial_receive(
+        store: *mut u32,
+        store_len: usize,
+        frame: *const u32,
+        frame_len: usize,
+        out: *mut u32,
+        out_len: usize,
+    ) -> Written;
+}
+
+/// The refusal and the number of words.
+pub fn store_need(offices: u32, own: u32, plots: u32) -> (u32, usize) {
+    let need = unsafe { burial_store_need(offices, own, plots) };
+    (need.refusal, need.words)
+}
+
+/// The refusal, and found, value and name.
+pub fn read_plot(store: &mut [u32], session: &mut Session, plot: u32) -> (u32, [u32; 3]) {
+    let read = unsafe { burial_read_plot(store.as_mut_ptr(), store.len(), *session, plot) };
+    *session = read.session;
+    (read.refusal, [read.found, read.value, read.name])
+}
+
+pub fn read_joint(store: &mut [u32], session: &mut Session, plots: &[u32], answer: &mut [u32]) -> u32 {
+    let read = unsafe {
+        burial_read_joint(
+            store.as_mut_ptr(),
+            store.len(),
+            *session,
+            plots.as_ptr(),
+            plots.len(),
+            answer.as_mut_ptr(),
+            answer.len(),
+        )
+    };
+    *session = read.session;
+    read.refusal
+}
+
+/// The refusal and the number of words.
+pub fn write(
+    store: &mut [u32],
+    session: &mut Session,
+    plot: u32,
+    value: u32,
+    out: &mut [u32],
+) -> (u32, usize) {
+    let wrote = unsafe {
+        burial_write(store.as_mut_ptr(), store.len(), *session, plot, value, out.as_mut_ptr(), out.len())
+    };
+    *session = wrote.session;
+    (wrote.refusal, wrote.words)
+}
+
+/// The refusal and the number of words.
+pub fn receive(store: &mut [u32], frame: &[u32], out: &mut [u32]) -> (u32, usize) {
+    let received = unsafe {
+        burial_receive(
+            store.as_mut_ptr(),
+            store.len(),
+            frame.as_ptr(),
+            frame.len(),
+            out.as_mut_ptr(),
+            out.len(),
+        )
+    };
+    (received.refusal, received.words)
+}

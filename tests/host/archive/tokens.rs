@@ -1,0 +1,39 @@
+//! The archive's calls on tokens, opening and fresh sessions, made safe.
+
+use super::frames::Written;
+use crate::model::session::Session;
+
+#[repr(C)]
+struct TokenRead {
+    refusal: u32,
+    session: Session,
+}
+
+extern "C" {
+    fn burial_read_token(words: *const u32, len: usize, offices: u32, plots: u32) -> TokenRead;
+    fn burial_write_token(session: Session, out: *mut u32, len: usize) -> Written;
+    fn burial_open_office(offices: u32, own: u32, plots: u32, store: *mut u32, len: usize) -> u32;
+    fn burial_fresh_session(offices: u32) -> TokenRead;
+}
+
+/// The refusal and the session, which is all zeros on refusal.
+pub fn read_token(words: &[u32], offices: u32, plots: u32) -> (u32, Session) {
+    let read = unsafe { burial_read_token(words.as_ptr(), words.len(), offices, plots) };
+    (read.refusal, read.session)
+}
+
+/// The refusal and the number of words.
+pub fn write_token(session: &Session, out: &mut [u32]) -> (u32, usize) {
+    let written = unsafe { burial_write_token(*session, out.as_mut_ptr(), out.len()) };
+    (written.refusal, written.words)
+}
+
+pub fn open_office(offices: u32, own: u32, plots: u32, store: &mut [u32]) -> u32 {
+    unsafe { burial_open_office(offices, own, plots, store.as_mut_ptr(), store.len()) }
+}
+
+/// The refusal and the session, which is all zeros on refusal.
+pub fn fresh_session(offices: u32) -> (u32, Session) {
+    let fresh = unsafe { burial_fresh_session(offices) };
+    (fresh.refusal, fresh.session)
+}

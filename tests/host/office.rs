@@ -1,0 +1,90 @@
+//! Compares the archive's calls on one office with the model: reply, session, and every word of
+//! the store and of each row.
+
+mod archive;
+mod frame_cases;
+#[path = "../model/mod.rs"]
+mod model;
+mod random;
+mod report;
+mod ring;
+mod session_cases;
+mod single;
+mod store_cases;
+mod twin;
+
+use random::Random;
+use report::Report;
+use std::process::ExitCode;
+use twin::Twin;
+
+const SEED: u64 = 0x0FF1_CE20_2601_5EED;
+
+/// Each way in which a call can end; a run that misses one has not tested it.
+const OUTCOMES: &[(&str, &[&str])] = &[
+    ("store_need", &["accepted", "refused 1"]),
+    ("read_plot", &["none", "presented", "own", "refused 2", "refused 3", "refused 4", "refused 12"]),
+    (
+        "read_joint",
+        &[
+            "accepted",
+            "empty list",
+            "refused 2",
+            "refused 3",
+            "refused 4",
+            "refused 8",
+            "refused 12",
+            "refused 13",
+        ],
+    ),
+    (
+        "write",
+        &[
+            "accepted",
+            "carried",
+            "refused 2",
+            "refused 3",
+            "refused 4",
+            "refused 5",
+            "refused 6",
+            "refused 7",
+            "refused 8",
+            "refused 10",
+            "refused 11",
+            "refused 12",
+        ],
+    ),
+    (
+        "receive",
+        &[
+            "brought out",
+            "went on",
+            "refused 2",
+            "refused 8",
+            "refused 9",
+            "refused 10",
+            "refused 11",
+            "refused 12",
+        ],
+    ),
+];
+
+fn main() -> ExitCode {
+    let mut twin = Twin { random: Random::new(SEED), report: Report::default() };
+    single::needs(&mut twin);
+    for _ in 0..20_000 {
+        single::calls(&mut twin);
+    }
+    for _ in 0..2_000 {
+        single::any_words(&mut twin);
+    }
+    for _ in 0..500 {
+        ring::play(&mut twin);
+    }
+    for (call, outcomes) in OUTCOMES {
+        for outcome in *outcomes {
+            twin.report.met(&format!("{call}: {outcome}"));
+        }
+    }
+    twin.report.finish("office")
+}

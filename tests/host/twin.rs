@@ -1,0 +1,152 @@
+//! Makes each call twice, on the archive with copies and on the model, and compares all that is left.
+
+use crate::archive::office as archive;
+use crate::model::entry::Entry;
+use crate::model::office as model;
+use crate::model::session::Session;
+use crate::random::Random;
+use crate::report::Report;
+
+pub struct Twin {
+    pub random: Random,
+    pub report: Report,
+}
+
+/// What a call left behind.
+#[derive(Clone, PartialEq)]
+struct Left<R> {
+    reply: R,
+    store: Vec<u32>,
+    session: Session,
+    row: Vec<u32>,
+}
+
+fn first_difference(archive: &[u32], model: &[u32]) -> String {
+    match archive.iter().zip(model).position(|(a, m)| a != m) {
+        Some(at) => format!("word {at}: {:#X}, not {:#X}", archive[at], model[at]),
+        None => "same".to_string(),
+    }
+}
+
+fn describe<R: std::fmt::Debug>(archive: &Left<R>, model: &Left<R>) -> String {
+    let mut text = format!("archive {:?}, model {:?}", archive.reply, model.reply);
+    text += &format!("; store {}", first_difference(&archive.store, &model.store));
+    text += &format!("; row {}", first_difference(&archive.row, &model.row));
+    if archive.session != model.session {
+        text += &format!("\n  session {:?}\n  not {:?}", archive.session, model.session);
+    }
+    text
+}
+
+fn reply<T>(result: &Result<T, u32>, accepted: impl FnOnce(&T) -> usize) -> (u32, usize) {
+    match result {
+        Ok(value) => (0, accepted(value)),
+        Err(refusal) => (*refusal, 0),
+    }
+}
+
+fn outcome<T>(result: &Result<T, u32>, accepted: impl FnOnce(&T) -> &'static str) -> String {
+    match result {
+        Ok(value) => accepted(value).to_string(),
+        Err(refusal) => format!("refused {refusal}"),
+    }
+}
+
+fn found(entry: &Option<Entry>) -> [u32; 3] {
+    entry.map_or([0; 3], |entry| [1, entry.value, 256 * entry.office + entry.serial])
+}
+
+impl Twin {
+    /// A row of any words; its length is often just enough or one word short.
+    pub fn row_for(&mut self, needed: usize) -> Vec<u32> {
+        let room = match self.random.below(8) {
+            0 => needed.saturating_sub(1),
+            1 => self.random.index(needed + 1),
+            2 => needed + self.random.index(30),
+            _ => needed,
+        };
+        self.random.row(room)
+    }
+
+    fn compare<R: PartialEq + std::fmt::Debug>(
+        &mut self,
+        call: &str,
+        outcome: &str,
+        archive: Left<R>,
+        model: Left<R>,
+    ) {
+        self.report.check(&format!("{call}: {outcome}"), archive == model, || describe(&archive, &model));
+    }
+
+    pub fn store_need(&mut self, offices: u32, own: u32, plots: u32) {
+        let archive = archive::store_need(offices, own, plots);
+        let result = model::store_need(offices, own, plots);
+        let name = format!("store_need: {}", outcome(&result, |_| "accepted"));
+        self.report.same(&name, &archive, &reply(&result, |&words| words));
+    }
+
+    pub fn read_plot(&mut self, store: &mut [u32], session: &mut Session, plot: u32) {
+        let (mut store_copy, mut session_copy) = (store.to_vec(), *session);
+        let archive = archive::read_plot(&mut store_copy, &mut session_copy, plot);
+        let archive = Left { reply: archive, store: store_copy, session: session_copy, row: vec![] };
+
+        let result = model::read_plot(store, session, plot);
+        let outcome = outcome(&result, |entry| match entry {
+            None => "none",
+            Some(entry) if session.own_entries().contains(entry) => "own",
+            Some(_) => "presented",
+        });
+        let reply = result.map_or_else(|refusal| (refusal, [0; 3]), |entry| (0, found(&entry)));
+        let model = Left { reply, store: store.to_vec(), session: *session, row: vec![] };
+        self.compare("read_plot", &outcome, archive, model);
+    }
+
+    pub fn read_joint(&mut self, store: &mut [u32], session: &mut Session, plots: &[u32]) {
+        let mut row = self.row_for(3 * plots.len());
+        let (mut store_copy, mut session_copy, mut row_copy) = (store.to_vec(), *session, row.clone());
+        let archive = archive::read_joint(&mut store_copy, &mut session_copy, plots, &mut row_copy);
+        let archive = Left { reply: archive, store: store_copy, session: session_copy, row: row_copy };
+
+        let result = model::read_joint(store, session, plots, &mut row);
+        let outcome = outcome(&result, |_| if plots.is_empty() { "empty list" } else { "accepted" });
+        let model = Left { reply: result.err().unwrap_or(0), store: store.to_vec(), session: *session, row };
+        self.compare("read_joint", &outcome, archive, model);
+    }
+
+    /// The row's words that were written, if any.
+    pub fn write(&mut self, store: &mut [u32], session: &mut Session, plot: u32, value: u32) -> Vec<u32> {
+        // A trial on copies tells how much room the call needs.
+        let trial = model::write(&mut store.to_vec(), &mut session.clone(), plot, value, &mut [0; 4600]);
+        let any = self.random.index(300);
+        let mut row = self.row_for(trial.unwrap_or(any));
+        let (mut store_copy, mut session_copy, mut row_copy) = (store.to_vec(), *session, row.clone());
+        let archive = archive::write(&mut store_copy, &mut session_copy, plot, value, &mut row_copy);
+        let archive = Left { reply: archive, store: store_copy, session: session_copy, row: row_copy };
+
+        let result = model::write(store, session, plot, value, &mut row);
+        let one = 4 + session.offices as usize + row.first().map_or(0, |head| (head & 0xFF) as usize);
+        let outcome = outcome(&result, |&words| if words > one { "carried" } else { "accepted" });
+        let reply = reply(&result, |&words| words);
+        let model = Left { reply, store: store.to_vec(), session: *session, row };
+        let written = model.row[..reply.1].to_vec();
+        self.compare("write", &outcome, archive, model);
+        written
+    }
+
+    /// The words that go on, if any; none where the frame is refused.
+    pub fn receive(&mut self, store: &mut [u32], frame: &[u32]) -> Option<Vec<u32>> {
+        let mut row = self.row_for(frame.len());
+        let (mut store_copy, mut row_copy) = (store.to_vec(), row.clone());
+        let archive = archive::receive(&mut store_copy, frame, &mut row_copy);
+        let session = Session::default();
+        let archive = Left { reply: archive, store: store_copy, session, row: row_copy };
+
+        let result = model::receive(store, frame, &mut row);
+        let outcome = outcome(&result, |&words| if words == 0 { "brought out" } else { "went on" });
+        let reply = reply(&result, |&words| words);
+        let model = Left { reply, store: store.to_vec(), session, row };
+        let written = model.row[..reply.1].to_vec();
+        self.compare("receive", &outcome, archive, model);
+        (reply.0 == 0).then_some(written)
+    }
+}
