@@ -1,5 +1,11 @@
+pub mod Cases
 pub mod Entries
 pub mod Words
 pub mod Frames
 pub mod Turns
 pub mod Reading
+pub mod Ids
+pub mod Sessions
+pub mod Sane
+pub mod Back
+pub mod Tokens

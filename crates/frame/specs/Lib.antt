@@ -6,3 +6,4 @@ pub mod Reading
 pub mod Calls
 pub mod Sessions
 pub mod Tokens
+pub mod TokenCalls

@@ -1,7 +1,7 @@
 // Refusals, by name. specs/Refusals.antt gives the number of each.
 ghost use mathlib.Core.Path.{_≡_};
 ghost use Prim.Native.Nat.{_≤_};
-ghost use Rattle.frame.specs.Refusals.{numberOf};
+ghost use Rattle.frame.specs.Refusals.{numberOf, codeOf};
 
 pub enum Refusal {
     Settings, // 1: settings out of range
@@ -69,5 +69,15 @@ pub fn number_of(refusal: Refusal) -> u32
         Refusal::Different => 11,
         Refusal::Missing => 12,
         Refusal::OwnWrite => 13,
+    }
+}
+
+// The number of an answer: 0 where nothing is refused.
+pub fn code_of(status: Status) -> u32
+    ensures { λ r. ⌜ r ≡ codeOf status ⌝ }
+{
+    match status {
+        Status::Accepted => 0,
+        Status::Refused(refusal) => number_of(refusal),
     }
 }

@@ -1,0 +1,28 @@
+// Answers as C has them: a refusal number, 0 for none, and the values beside it.
+ghost use mathlib.Core.Path.{_≡_};
+ghost use Rattle.frame.specs.Refusals.{replyOf};
+
+#[repr(C)]
+pub struct FrameAnswer {
+    pub refusal: u32,
+    pub frame: frame::entry::Frame,
+}
+
+#[repr(C)]
+pub struct WordsAnswer {
+    pub refusal: u32,
+    pub words: usize,
+}
+
+// What a call that writes words answers.
+pub fn words_answer(written: frame::refusal::Written) -> WordsAnswer
+    ensures { λ r. ⌜ (r .refusal ≡ replyOf written .code) × (r .words ≡ replyOf written .words) ⌝ }
+{
+    match written {
+        frame::refusal::Written::Words(words) => WordsAnswer { refusal: 0, words },
+        frame::refusal::Written::NotWritten(refusal) => WordsAnswer {
+            refusal: frame::refusal::number_of(refusal),
+            words: 0,
+        },
+    }
+}

@@ -1,0 +1,9 @@
+pub mod Cases
+pub mod New
+pub mod Grows
+pub mod KeepCalls
+pub mod KeepWrite
+pub mod KeepSession
+pub mod KeptSession
+pub mod Kept
+pub mod NoneOver

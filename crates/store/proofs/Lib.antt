@@ -1,0 +1,13 @@
+pub mod Counts
+pub mod Reached
+pub mod Eights
+pub mod Gaps
+pub mod Rules
+pub mod Places
+pub mod Ready
+pub mod Joins
+pub mod Alike
+pub mod StoreBack
+pub mod Bridge
+pub mod Best
+pub mod Keep

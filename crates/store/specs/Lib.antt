@@ -1,0 +1,5 @@
+pub mod Reveal
+pub mod Offices
+pub mod Slots
+pub mod Current
+pub mod Tops
