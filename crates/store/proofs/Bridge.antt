@@ -1,4 +1,5 @@
--- The promise `storeWords ws O′` against what code does to the words: nothing, to reveal (eight words), to hold (a slot and the held set). Assumes nothing.
+-- The promise `storeWords ws O′` against what code does to the words: nothing; to reveal, eight words; to hold, a slot and the held set.
+-- Assumes nothing.
 use Prim.Native.Nat.{ℕ, _*_, _+_, _<_, _≤_, suc, zero}
 use mathlib.Core.Bool.{Bool, cond, false, true}
 use mathlib.Core.List.{List, [], _++_, _∷_, append-assoc}
@@ -7,7 +8,7 @@ use mathlib.Core.Path.{_∙_, _≡_, ap, refl, sym}
 use native.Mathlib.Omega.{arith}
 use lib.Dec.{eqb}
 use lib.ListN.{drop, getD, length, length-append, take, take-append-drop}
-use lib.Seq.{drop-at, drop-drop, sets, sets-eq, take-at, take-length}
+use lib.Seq.{drop-at, drop-drop, sets, sets-eq, take-at}
 use borrow.Author.Tests.{eq-eqb, ne-eqb}
 use Rattle.causal.specs.Lists.{part}
 use Rattle.causal.specs.Sets.{IdSet, has, inserted, isIn}
@@ -27,10 +28,6 @@ sets-mid A x Z v i la lx =
     let t : take i (A ++ (x ++ Z)) ≡ A = take-at A (x ++ Z) i la in
     let d : drop (i + length v) (A ++ (x ++ Z)) ≡ Z = sym (drop-drop (length v) i (A ++ (x ++ Z))) ∙ ap (drop (length v)) (drop-at A (x ++ Z) i la) ∙ drop-at x Z (length v) lx in
     sets-eq v (A ++ (x ++ Z)) i long ∙ ap (λ (l : List ℕ). l ++ v ++ drop (i + length v) (A ++ (x ++ Z))) t ∙ ap (λ (l : List ℕ). A ++ v ++ l) d ∙ append-assoc A v Z
-
-part-all : (xs : List ℕ) (n : ℕ) → length xs ≡ n → part xs 0 n ≡ xs
-unfolding part
-part-all xs n h = rw (sym h) (take-length xs)
 
 -- ---- nothing
 

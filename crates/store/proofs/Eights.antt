@@ -1,21 +1,19 @@
 -- Parts of eight words, as code reads them. Assumes nothing.
-use Prim.Native.Nat.{ℕ, zero, suc, _+_, _*_, _/_, _%_, _^_, _<_, _≤_}
-use mathlib.Core.Path.{_≡_, refl, sym, ap, _∙_}
-use mathlib.Core.Bool.{Bool, true, false}
-use mathlib.Core.Logic.{_⊎_, ⊎-elim}
-use mathlib.Core.List.{List, [], _∷_, _++_}
-use native.Mathlib.Nat.{add-suc, add-zero, suc-add}
+use Prim.Native.Nat.{ℕ, zero, suc, _+_, _<_, _≤_}
+use mathlib.Core.Path.{_≡_, sym, ap, _∙_}
+use mathlib.Core.Bool.{true}
+use mathlib.Core.List.{List, [], _∷_}
+use native.Mathlib.Nat.{add-zero}
 use native.Mathlib.Numerals.{add-one}
 use native.Mathlib.Omega.{arith}
-use lib.Dec.{eqb, lit<}
-use lib.ListN.{length, getD, set, length-set, length-append, List·getD-eq-default}
+use lib.Dec.{eqb}
+use lib.ListN.{length, getD, set, length-append}
 use lib.Seq.{sets, ext-getD}
 use borrow.Author.Tests.{eq-eqb}
 use Rattle.causal.specs.Tests.{allBelow}
 use Rattle.causal.specs.Lists.{part, eqWords}
-use Rattle.causal.specs.Sets.{IdSet}
-use Rattle.causal.proofs.Tests.{lt-or-le, same-test, all-at, all-intro}
-use Rattle.causal.proofs.Lists.{part-cons, part-length, part-at, sets-append, eqWords-eq, eqWords-refl}
+use Rattle.causal.proofs.Tests.{same-test, all-at, all-intro}
+use Rattle.causal.proofs.Lists.{part-length, part-at, sets-append, eqWords-eq, eqWords-refl}
 use Rattle.frame.specs.declared.entry.Entry.{Entry}
 use Rattle.store.specs.Offices.{entryWords}
 
@@ -35,15 +33,6 @@ part-eight ws a h = ext-getD 0 _ (part ws a 8) (sym (part-length ws a 8 h)) each
     each (suc (suc (suc (suc (suc (suc zero)))))) l = sym (part-at ws a 8 6 l)
     each (suc (suc (suc (suc (suc (suc (suc zero))))))) l = sym (part-at ws a 8 7 l)
     each (suc (suc (suc (suc (suc (suc (suc (suc i)))))))) l = absurd (omega arith)
-
--- eight words that fit are a set
-pub part-ids : (ws : List ℕ) (a : ℕ) → a + 8 ≤ length ws → ((i : ℕ) → getD ws i 0 < 2 ^ 32) → IdSet (part ws a 8)
-part-ids ws a h f = record { eight = part-length ws a 8 h; fits = fit }
-  where
-    fit : (i : ℕ) → getD (part ws a 8) i 0 < 2 ^ 32
-    fit i =
-        ⊎-elim (λ (l : i < 8). rw (part-at ws a 8 i l) (f (a + i)))
-        (λ (g : 8 ≤ i). rw (List·getD-eq-default (part ws a 8) 0 {n = i} (omega (arith, part-length ws a 8 h))) (lit< tt)) (lt-or-le i 8)
 
 -- the same words, place by place
 pub eq-eight : (xs ws : List ℕ) (a : ℕ) → length xs ≡ 8 → a + 8 ≤ length ws

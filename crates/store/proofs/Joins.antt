@@ -1,8 +1,8 @@
 -- The office's clock from the clocks in the slots: the turns of the join, and that it is the clock of the rules. Assumes nothing.
-use Prim.Native.Nat.{ℕ, zero, suc, _+_, _-_, _*_, _^_, _<_, _≤_, max}
+use Prim.Native.Nat.{ℕ, zero, suc, _+_, _*_, _^_, _<_, _≤_, max}
 use mathlib.Core.Path.{_≡_, refl, sym, ap, ap₂, _∙_}
 use mathlib.Core.Bool.{Bool, true, false, cond}
-use mathlib.Core.Logic.{_⊎_, ⊎-elim}
+use mathlib.Core.Logic.{⊎-elim}
 use mathlib.Core.List.{List}
 use native.Mathlib.Nat.{add-suc, add-zero}
 use native.Mathlib.Numerals.{add-one}
@@ -12,12 +12,12 @@ use lib.Dec.{eqb}
 use lib.ListN.{length, getD, set, length-set}
 use lib.Seq.{ext-getD, getD-set-same, getD-set-other}
 use borrow.Author.Tests.{eq-eqb, ne-eqb}
-use Rattle.causal.specs.Lists.{part, tab, sumBelow, zeros}
+use Rattle.causal.specs.Lists.{part, tab, zeros}
 use Rattle.causal.specs.Sets.{bit, has, isIn}
 use Rattle.causal.specs.Clocks.{join}
 use Rattle.causal.proofs.Tests.{eq-or-ne}
 use Rattle.causal.proofs.Lists.{part-at, tab-length, tab-at}
-use Rattle.causal.proofs.Sets.{in-is}
+use Rattle.causal.proofs.Sets.{in-is, zero-at}
 use Rattle.causal.proofs.Clocks.{join-at}
 use Rattle.causal.proofs.Walk.{Passed, Next, fold-next, fold-end, has-word, sum-ext, ones-bits}
 use Rattle.frame.specs.declared.entry.Entry.{Entry}
@@ -105,17 +105,6 @@ module _ (ws : List ℕ) (same : (k : ℕ) → has (part ws 11 8) k ≡ 1 → of
   tops-at : (j : ℕ) → j < 8 → (k : ℕ) → getD (topsTo ws (part ws 11 8) k) j 0 ≡ maxTo (visibleAt (officeOf ws) j) k
   unfolding topsTo maxTo
   tops-at j l zero = zero-at j
-    where
-      zero-at : (j : ℕ) → getD zeros j 0 ≡ 0
-      zero-at zero = refl
-      zero-at (suc zero) = refl
-      zero-at (suc (suc zero)) = refl
-      zero-at (suc (suc (suc zero))) = refl
-      zero-at (suc (suc (suc (suc zero)))) = refl
-      zero-at (suc (suc (suc (suc (suc zero))))) = refl
-      zero-at (suc (suc (suc (suc (suc (suc zero)))))) = refl
-      zero-at (suc (suc (suc (suc (suc (suc (suc zero))))))) = refl
-      zero-at (suc (suc (suc (suc (suc (suc (suc (suc i)))))))) = refl
   tops-at j l (suc k) = top-step j l k (isIn (part ws 11 8) k) refl (tops-at j l k)
 
   pub clock-is : (c : ℕ) (tops : List ℕ) → c ≡ made (officeOf ws) → getD ws 1 0 < 8 → tops ≡ topsTo ws (part ws 11 8) (32 * getD ws 0 0)

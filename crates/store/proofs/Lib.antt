@@ -1,5 +1,9 @@
 pub mod Counts
 pub mod Reached
+pub mod StoreBack
+pub mod Bridge
+pub mod Best
+pub mod Keep
 pub mod Eights
 pub mod Gaps
 pub mod Rules
@@ -7,7 +11,5 @@ pub mod Places
 pub mod Ready
 pub mod Joins
 pub mod Alike
-pub mod StoreBack
-pub mod Bridge
-pub mod Best
-pub mod Keep
+pub mod Changes
+pub mod SoundChanges

@@ -1,8 +1,8 @@
 -- The current entry by its id: the turns of the search for it, and that it is the entry that the rules call current. Assumes nothing.
-use Prim.Native.Nat.{ℕ, zero, suc, _+_, _-_, _*_, _/_, _%_, _^_, _<_, _≤_}
+use Prim.Native.Nat.{ℕ, zero, suc, _+_, _*_, _<_, _≤_}
 use mathlib.Core.Path.{_≡_, refl, sym, ap, ap₂, _∙_}
-use mathlib.Core.Bool.{Bool, true, false, not, cond}
-use mathlib.Core.Logic.{_⊎_, ⊎-elim}
+use mathlib.Core.Bool.{Bool, true, false, cond}
+use mathlib.Core.Logic.{_⊎_, inl, inr, ⊎-elim}
 use mathlib.Core.List.{List}
 use native.Mathlib.Nat.{add-suc, add-zero}
 use native.Mathlib.Numerals.{add-one}
@@ -11,13 +11,14 @@ use lib.Dec.{eqb}
 use lib.ListN.{length, getD}
 use borrow.Author.Tests.{eq-eqb, ne-eqb}
 use Rattle.causal.specs.Tests.{both}
-use Rattle.causal.specs.Sets.{bit, has, isIn}
+use Rattle.causal.specs.Lists.{part}
+use Rattle.causal.specs.Sets.{subsetOf, bit, has, isIn}
 use Rattle.causal.proofs.Sets.{in-is}
 use Rattle.causal.proofs.Walk.{Passed, Next, fold-next, fold-end, has-word}
-use Rattle.frame.specs.declared.entry.Entry.{Entry}
 use Rattle.frame.specs.Entries.{outranks}
-use Rattle.store.specs.Offices.{Office, slotAt, entryAt, Found, None, Some, better, consider, bestTo, current}
-use Rattle.store.specs.Current.{WordReaches, InSlots, betterAt, weighed, placeTo, placeIn, currentAt, foundAt}
+use Rattle.store.specs.Offices.{Office, slotAt, entryAt, Some, better, consider, bestTo, current}
+use Rattle.store.specs.Current.{InSlots, betterAt, weighed, placeTo, placeIn, currentAt, foundAt}
+use Rattle.store.proofs.Rules.{Rules, Held, reaches}
 use Rattle.store.specs.declared.current.Place.{Place}
 use Rattle.store.specs.declared.current.Place.the-variants.{At, Nowhere}
 
@@ -138,3 +139,35 @@ module _ (O : Office) (ws : List ℕ) (same : (k : ℕ) → has (O .visible) k �
   pub current-at : (plot : ℕ) → O .offices ≡ getD ws 0 0 → current O plot ≡ foundAt ws (currentAt ws (O .visible) plot)
   unfolding current currentAt
   current-at plot n = ap (λ (m : ℕ). bestTo O plot (32 * m)) n ∙ best-at plot (32 * getD ws 0 0)
+
+-- ---- the place found is that of a visible id, and its slot lies in the store
+
+weighed-from : (ws : List ℕ) (plot k j : ℕ) (best : Place) → weighed ws plot k best ≡ At j → (j ≡ k) ⊎ (best ≡ At j)
+unfolding weighed betterAt
+weighed-from ws plot k j best e = go (eqb (entryAt ws k .plot) plot) e
+  where
+    better-from : (b : Place) → betterAt ws k b ≡ At j → (j ≡ k) ⊎ (b ≡ At j)
+    better-from Nowhere f = let q : k ≡ j = cc in inl (sym q)
+    better-from (At b) f = two (outranks (entryAt ws k) (entryAt ws b)) f
+      where
+        two : (t : Bool) → cond t (At k) (At b) ≡ At j → (j ≡ k) ⊎ (At b ≡ At j)
+        two true g = let q : k ≡ j = cc in inl (sym q)
+        two false g = inr g
+
+    go : (t : Bool) → cond t (betterAt ws k best) best ≡ At j → (j ≡ k) ⊎ (best ≡ At j)
+    go true f = better-from best f
+    go false f = inr f
+
+pub place-visible : (ws v : List ℕ) (plot k j : ℕ) → placeTo ws v plot k ≡ At j → has v j ≡ 1
+unfolding placeTo
+place-visible ws v plot zero j e = let z : _≡_ {A = ℕ} 0 1 = cc in absurd (omega arith)
+place-visible ws v plot (suc k) j e = go (isIn v k) refl e (place-visible ws v plot k j)
+  where
+    go : (t : Bool) → isIn v k ≡ t → cond t (weighed ws plot k (placeTo ws v plot k)) (placeTo ws v plot k) ≡ At j
+        → (placeTo ws v plot k ≡ At j → has v j ≡ 1) → has v j ≡ 1
+    go true o f ih = ⊎-elim (λ q. ap (has v) q ∙ in-is v k o) ih (weighed-from ws plot k j (placeTo ws v plot k) f)
+    go false o f ih = ih f
+
+pub current-slot : (ws v : List ℕ) (plot k : ℕ) → Rules ws → length v ≡ 8 → subsetOf v (part ws 3 8) ≡ true → currentAt ws v plot ≡ At k → Held ws k
+unfolding currentAt
+current-slot ws v plot k r l s e = reaches ws v r l s k (place-visible ws v plot (32 * getD ws 0 0) k e)

@@ -1,20 +1,18 @@
 -- Soundness, slot by slot: how the checks of code go together, and what a sound store says. Assumes nothing.
-use Prim.Native.Nat.{ℕ, zero, suc, _+_, _-_, _*_, _/_, _%_, _^_, _<_, _≤_}
+use Prim.Native.Nat.{ℕ, suc, _+_, _-_, _*_, _<_, _≤_}
 use mathlib.Core.Path.{_≡_, refl, sym, ap, ap₂, _∙_}
 use mathlib.Core.Bool.{Bool, true, false, not, cond}
-use mathlib.Core.Logic.{_⊎_, ⊎-elim}
+use mathlib.Core.Logic.{⊎-elim}
 use mathlib.Core.List.{List}
-use native.Mathlib.Nat.{add-suc, add-zero}
-use native.Mathlib.Numerals.{add-one}
 use native.Mathlib.Omega.{arith}
 use lib.Dec.{ltb, leb, eqb}
 use lib.ListN.{length, getD}
-use borrow.Author.Tests.{eq-eqb, ne-eqb, ltb-true, leb-true, lt-leb, not-true, not-false}
+use borrow.Author.Tests.{ltb-true, leb-true, lt-leb, not-true, not-false}
 use Rattle.causal.specs.Tests.{both, implies, allBelow}
 use Rattle.causal.specs.Lists.{part}
 use Rattle.causal.specs.Sets.{bit, has, isIn, subsetOf}
-use Rattle.causal.proofs.Tests.{not-so, false-true, both-false, both-true, both-intro, all-none, all-more, all-fails, all-at, all-ext, all-intro, implies-elim}
-use Rattle.causal.proofs.Sets.{is-in, in-is, has-in, has-lt, subset-sound}
+use Rattle.causal.proofs.Tests.{not-so, false-true, both-false, both-true, all-none, all-more, all-fails, all-at, all-ext, all-intro, implies-elim}
+use Rattle.causal.proofs.Sets.{is-in, has-in, has-lt, subset-sound}
 use Rattle.causal.proofs.Lists.{part-length}
 use Rattle.causal.proofs.Walk.{Passed, Next, fold-next, fold-end, has-word}
 use Rattle.frame.specs.declared.entry.Entry.{Entry}
@@ -208,3 +206,7 @@ reaches ws v r e s k h =
 -- the same of one word of it
 pub reach-word : (ws v : List ℕ) → Rules ws → length v ≡ 8 → subsetOf v (part ws 3 8) ≡ true → (i b : ℕ) → b < 32 → bit (getD v i 0) b ≡ 1 → slotAt (32 * i + b) + 18 ≤ length ws
 reach-word ws v r e s i b l o = reaches ws v r e s (32 * i + b) (has-word v i b l ∙ o) .reach
+
+-- the slot of an id of the ring lies in the store
+pub slot-reach : (ws : List ℕ) → Laid ws → (k : ℕ) → k < 32 * getD ws 0 0 → (k < 256) × (slotAt k + 18 ≤ length ws)
+slot-reach ws L k h = (omega (arith, L .few), omega (arith, L .long))

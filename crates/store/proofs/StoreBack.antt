@@ -151,7 +151,7 @@ module _ (n : ℕ) (O : Office) (C : Canon n O) (ws : List ℕ) (long : need n �
   unfolding officeOf storeWords
   store-back = λ i. record { offices = O .offices; own = O .own; plots = O .plots; held = held-back i; visible = visible-back i; entry = λ k. each k i }
 
-  -- "IdSet of a row beyond those named stay": past the need, and in the slot of an id that is not held
+  -- "Words of a row beyond those named stay": past the need, and in the slot of an id that is not held
   pub store-rest : drop (need (O .offices)) (storeWords ws O) ≡ drop (need (O .offices)) ws
   unfolding storeWords
   store-rest =

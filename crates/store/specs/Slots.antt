@@ -1,12 +1,12 @@
 -- The rules of a store slot by slot, as code asks them, and the words after a hold. Assumes nothing.
 use Prim.Native.Nat.{ℕ, _+_, _*_, _<_, _≤_}
 use mathlib.Core.Bool.{Bool}
-use mathlib.Core.List.{List}
+use mathlib.Core.List.{List, _∷_, _++_}
 use lib.Dec.{ltb, eqb}
 use lib.ListN.{length, getD}
 use lib.Seq.{sets}
 use Rattle.causal.specs.Tests.{both, implies, allBelow}
-use Rattle.causal.specs.Lists.{part}
+use Rattle.causal.specs.Lists.{part, zeros}
 use Rattle.causal.specs.Sets.{bit, isIn, inserted, subsetOf}
 use Rattle.frame.specs.declared.entry.Entry.{Entry}
 use Rattle.frame.specs.Entries.{idOf, entryOk}
@@ -34,3 +34,7 @@ slotOk ws n p held visible k = implies (isIn held k) (both (ltb k (32 * n)) (fit
 -- the store with one entry more, hidden
 unfoldable pub holdWords : List ℕ → Entry → List ℕ
 holdWords ws e = sets (sets ws (slotAt (idOf e)) (entryWords e)) 3 (inserted (part ws 3 8) (idOf e))
+
+-- the store of an office that holds nothing
+unfoldable pub emptyWords : List ℕ → ℕ → ℕ → ℕ → List ℕ
+emptyWords ws n o p = sets ws 0 (n ∷ o ∷ p ∷ zeros ++ zeros)

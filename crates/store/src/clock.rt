@@ -2,7 +2,7 @@
 use crate::layout;
 ghost use mathlib.Core.Path.{_≡_};
 ghost use mathlib.Core.Bool.{true};
-ghost use Prim.Native.Nat.{_+_, _*_, _<_, _≤_};
+ghost use Prim.Native.Nat.{_<_};
 ghost use lib.ListN.{length};
 ghost use Rattle.store.specs.Offices.{officeOf, soundStore, made as madeOf, clockOf};
 ghost use Rattle.store.specs.Slots.{Laid};
@@ -18,7 +18,7 @@ pub fn made(store: &[u32]) -> u32
     u32::count_ones(store[3 + own])
 }
 
-// The join of the clocks of those that word i of a set has, w, and the clock before.
+// w is word i of a set: the join of the clocks of its ids and of the clock before.
 fn tops_in(store: &[u32], i: usize, w: u32, before: [u32; 8]) -> [u32; 8]
     requires { ⌜ (i < 8) × WordReaches (length (now store)) i w ⌝ }
     ensures { λ r. ⌜ r ≡ topsIn (now (store .entry)) i w 32 before ⌝ }
@@ -35,6 +35,7 @@ fn tops_in(store: &[u32], i: usize, w: u32, before: [u32; 8]) -> [u32; 8]
     tops
 }
 
+// At its own place how many entries it made, elsewhere the greatest number among visible entries.
 pub fn office_clock(store: &[u32]) -> [u32; 8]
     requires { ⌜ soundStore (now store) ≡ true ⌝ }
     ensures { λ r. ⌜ r ≡ clockOf (officeOf (now (store .entry))) ⌝ }

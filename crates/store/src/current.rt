@@ -2,8 +2,8 @@
 use crate::layout;
 ghost use mathlib.Core.Path.{_≡_};
 ghost use mathlib.Core.Bool.{true};
-ghost use Prim.Native.Nat.{_+_, _*_, _<_, _≤_};
-ghost use lib.ListN.{length, getD};
+ghost use Prim.Native.Nat.{_+_, _<_, _≤_};
+ghost use lib.ListN.{length};
 ghost use Rattle.causal.specs.Lists.{part};
 ghost use Rattle.causal.specs.Sets.{subsetOf};
 ghost use Rattle.frame.specs.Entries.{outranks};
@@ -44,7 +44,7 @@ fn weigh(store: &[u32], plot: u32, k: usize, best: Place) -> Place
     }
 }
 
-// The best of those that word i of a set has, w, and the best before.
+// w is word i of a set: the best of its ids and of what was found before.
 fn best_in(store: &[u32], plot: u32, i: usize, w: u32, before: Place) -> Place
     requires { ⌜ (i < 8) × WordReaches (length (now store)) i w × InSlots (length (now store)) before ⌝ }
     ensures { λ r. ⌜ r ≡ placeIn (now (store .entry)) plot i w 32 before ⌝ }

@@ -2,7 +2,7 @@
 use crate::layout;
 use frame::entry::Entry;
 ghost use mathlib.Core.Path.{_≡_};
-ghost use Prim.Native.Nat.{_+_, _<_, _≤_};
+ghost use Prim.Native.Nat.{_+_, _≤_};
 ghost use lib.ListN.{length};
 ghost use lib.Seq.{sets};
 ghost use Rattle.frame.specs.Entries.{idOf};
@@ -23,6 +23,7 @@ fn put_entry(store: &mut [u32], at: usize, e: Entry)
     layout::put(&mut *store, at + 10, deps);
 }
 
+// One more held entry. Nothing else changes.
 pub fn hold(store: &mut [u32], e: Entry)
     requires { ⌜ slotAt (idOf e) + 18 ≤ length (now store) ⌝ }
     ensures { λ _. ⌜ now (store .exit) ≡ holdWords (now (store .entry)) e ⌝ }

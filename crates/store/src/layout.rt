@@ -2,7 +2,7 @@
 // 19 + 18 * k on: plot, value, clock, deps.
 use frame::entry::Entry;
 ghost use mathlib.Core.Path.{_≡_};
-ghost use Prim.Native.Nat.{_+_, _*_, _<_, _≤_};
+ghost use Prim.Native.Nat.{_+_, _<_, _≤_};
 ghost use lib.ListN.{length};
 ghost use lib.Seq.{sets};
 ghost use Rattle.causal.specs.Lists.{part};

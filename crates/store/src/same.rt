@@ -2,7 +2,7 @@
 use crate::layout;
 use frame::entry::Entry;
 ghost use mathlib.Core.Path.{_≡_};
-ghost use Prim.Native.Nat.{_+_, _<_, _≤_};
+ghost use Prim.Native.Nat.{_+_, _≤_};
 ghost use lib.ListN.{length};
 ghost use Rattle.causal.specs.Lists.{part, eqWords};
 ghost use Rattle.frame.specs.Entries.{idOf, sameContent};

@@ -4,7 +4,7 @@ use frame::entry::Entry;
 ghost use mathlib.Core.Path.{_≡_};
 ghost use Prim.Native.Nat.{_+_, _*_, _<_, _≤_};
 ghost use lib.Dec.{ltb};
-ghost use lib.ListN.{length, getD};
+ghost use lib.ListN.{length};
 ghost use Rattle.causal.specs.Tests.{both, allBelow};
 ghost use Rattle.store.specs.Offices.{need, entryAt, officeOf, soundOffice, soundStore};
 ghost use Rattle.store.specs.Slots.{Laid, noGap, fits, slotOk};
@@ -34,6 +34,7 @@ fn fits_in(n: u32, p: u32, e: Entry, k: usize, held: [u32; 8], visible: [u32; 8]
     causal::set::subset(deps, visible)
 }
 
+// The same of what stands in the slot of k, which must be an id of the ring.
 fn slot_ok(store: &[u32], n: u32, p: u32, k: usize, held: [u32; 8], visible: [u32; 8]) -> bool
     requires { ⌜ (need n ≤ length (now store)) × (n ≤ 8) ⌝ }
     ensures { λ r. ⌜ r ≡ both (ltb k (32 * n)) (fits n p (entryAt (now (store .entry)) k) k held visible) ⌝ }
@@ -45,7 +46,7 @@ fn slot_ok(store: &[u32], n: u32, p: u32, k: usize, held: [u32; 8], visible: [u3
     fits_in(n, p, e, k, held, visible)
 }
 
-// The slots of what word i of the held set has.
+// The slots of the ids that word i of the held set has.
 fn word_ok(store: &[u32], n: u32, p: u32, i: usize, held: [u32; 8], visible: [u32; 8]) -> bool
     requires { ⌜ (need n ≤ length (now store)) × (n ≤ 8) × (i < 8) ⌝ }
     ensures { λ r. ⌜ r ≡ allBelow 32 (λ b. slotOk (now (store .entry)) n p held visible (32 * i + b)) ⌝ }
@@ -61,6 +62,7 @@ fn word_ok(store: &[u32], n: u32, p: u32, i: usize, held: [u32; 8], visible: [u3
     true
 }
 
+// All held slots.
 fn slots_ok(store: &[u32], n: u32, p: u32, held: [u32; 8], visible: [u32; 8]) -> bool
     requires { ⌜ (need n ≤ length (now store)) × (n ≤ 8) ⌝ }
     ensures { λ r. ⌜ r ≡ allBelow 256 (slotOk (now (store .entry)) n p held visible) ⌝ }
@@ -73,6 +75,7 @@ fn slots_ok(store: &[u32], n: u32, p: u32, held: [u32; 8], visible: [u32; 8]) ->
     true
 }
 
+// What is visible is held, the held slots keep the rules, and the own serials have no gap.
 fn content_ok(store: &[u32]) -> bool
     requires { ⌜ Laid (now store) ⌝ }
     ensures { λ r. ⌜ r ≡ soundOffice (officeOf (now (store .entry))) ⌝ }
@@ -89,6 +92,7 @@ fn content_ok(store: &[u32]) -> bool
     no_gap(held[own])
 }
 
+// Long enough, settings in range, and the content sound.
 pub fn is_sound(store: &[u32]) -> bool
     ensures { λ r. ⌜ r ≡ soundStore (now (store .entry)) ⌝ }
 {

@@ -5,10 +5,9 @@ use Rattle.causal.specs.Sets.{subsetOf}
 use Rattle.store.proofs.Joins.{tops-next, tops-none, clock-is}
 use Rattle.store.proofs.Ready.{entry-visible}
 use native.Mathlib.Omega.{arith}
-use mathlib.Core.Path.{_≡_, refl, sym, ap, _∙_}
-use Prim.Native.Nat.{ℕ, zero, suc, _+_, _-_, _*_, _/_, _%_, _^_, _<_, _≤_}
-use lib.ListN.{length, getD, set, take, length-set}
-use Rattle.store.proofs.Rules.{Rules, rules, Held, reaches}
+use mathlib.Core.Path.{_≡_, ap, _∙_}
+use Prim.Native.Nat.{ℕ, _-_, _*_, _≤_}
+use lib.ListN.{getD}
 use Rattle.causal.proofs.Array.{id-set}
 use Rattle.store.specs.Tops.{topsTo}
 use borrow.Author.Needs.{needs}

@@ -1,12 +1,10 @@
 use Rattle.store.proofs.Rules.{rules, reaches, reach-word}
 use Rattle.store.specs.Current.{placeTo, currentAt}
 use native.Mathlib.Omega.{arith}
-use mathlib.Core.Path.{_≡_, refl, sym, ap, _∙_}
-use Prim.Native.Nat.{ℕ, zero, suc, _+_, _-_, _*_, _/_, _%_, _^_, _<_, _≤_}
-use lib.ListN.{length, getD, set, take, length-set}
-use Rattle.store.proofs.Rules.{Rules, rules, Held, reaches}
+use mathlib.Core.Path.{_≡_, ap, _∙_}
+use Prim.Native.Nat.{ℕ, _-_, _*_, _≤_}
+use lib.ListN.{length, getD}
 use Rattle.causal.proofs.Array.{id-set}
-use Rattle.store.specs.Current.{InSlots, placeTo, currentAt}
 use Rattle.store.proofs.Places.{place-next, place-none, place-in-slots}
 use borrow.Author.Needs.{needs}
 use Rattle.store.proofs.current.current.Statement.{statement}

@@ -1,4 +1,4 @@
-use mathlib.Core.Path.{_≡_, refl, sym, ap, _∙_}
+use mathlib.Core.Path.{_∙_}
 use Rattle.store.specs.Offices.{entryAt}
 use Rattle.frame.specs.Entries.{outranks}
 use borrow.Author.Needs.{needs}

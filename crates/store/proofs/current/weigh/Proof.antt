@@ -1,5 +1,3 @@
-use native.Mathlib.Omega.{arith}
-use mathlib.Core.Path.{_≡_, refl, sym, ap, _∙_}
 use Rattle.store.proofs.Places.{weigh-skip, weigh-first, weigh-new, weigh-old, in-slots-at}
 use borrow.Author.Needs.{needs}
 use Rattle.store.proofs.current.weigh.Statement.{statement}

@@ -1,5 +1,3 @@
-use native.Mathlib.Omega.{arith}
-use mathlib.Core.Path.{_≡_, refl, sym, ap, _∙_}
 use Rattle.store.proofs.Alike.{hold-is}
 use borrow.Author.Needs.{needs}
 use Rattle.store.proofs.hold.hold.Statement.{statement}

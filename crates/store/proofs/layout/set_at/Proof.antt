@@ -1,5 +1,3 @@
-use native.Mathlib.Omega.{arith}
-use mathlib.Core.Path.{_≡_, refl, sym, ap, _∙_}
 use Rattle.store.proofs.Eights.{part-eight}
 use borrow.Author.Needs.{needs}
 use Rattle.store.proofs.layout.set_at.Statement.{statement}

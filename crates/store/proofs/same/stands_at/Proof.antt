@@ -1,16 +1,13 @@
-use Prim.Native.Nat.{ℕ, zero, suc, _+_, _-_, _*_, _/_, _%_, _^_, _<_, _≤_}
-use mathlib.Core.Bool.{Bool, true, false, not}
+use Prim.Native.Nat.{ℕ, _+_, _-_, _≤_}
+use mathlib.Core.Bool.{true}
 use borrow.Author.Tests.{eq-eqb, ne-eqb}
 use Rattle.causal.proofs.Tests.{all-none, all-more, all-fails}
 use Rattle.causal.proofs.Array.{id-set}
 use native.Mathlib.Omega.{arith}
-use mathlib.Core.Path.{_≡_, refl, sym, ap, _∙_}
-use Prim.Native.Nat.{ℕ, _-_, _+_, _<_, _≤_}
-use mathlib.Core.Bool.{true}
+use mathlib.Core.Path.{_≡_, sym, ap, _∙_}
 use lib.Dec.{eqb}
-use lib.ListN.{length, getD}
+use lib.ListN.{getD}
 use Rattle.causal.specs.Tests.{allBelow}
-use Rattle.causal.proofs.Tests.{all-none, all-more, all-fails, turn-done}
 use Rattle.store.proofs.Eights.{eq-eight}
 use borrow.Author.Needs.{needs}
 use Rattle.store.proofs.same.stands_at.Statement.{statement}

@@ -1,11 +1,10 @@
 use native.Mathlib.Omega.{arith}
-use mathlib.Core.Path.{_≡_, refl, sym, ap, _∙_}
-use Prim.Native.Nat.{ℕ, zero, suc, _+_, _-_, _*_, _/_, _%_, _^_, _<_, _≤_}
+use mathlib.Core.Path.{sym, _∙_}
+use Prim.Native.Nat.{_<_, _≤_}
 use Rattle.causal.proofs.Chain.{chain}
 use lib.ListN.{length, getD}
 use borrow.Author.Tests.{not-false}
 use Rattle.store.specs.Offices.{need, soundStore}
-use Rattle.store.specs.Slots.{Laid}
 use Rattle.store.proofs.Rules.{short, settings-laid}
 use borrow.Author.Needs.{needs}
 use Rattle.store.proofs.sound.is_sound.Statement.{statement}

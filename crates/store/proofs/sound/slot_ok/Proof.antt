@@ -1,9 +1,8 @@
-use mathlib.Core.Path.{_≡_, refl, sym, ap, _∙_}
+use mathlib.Core.Path.{ap, _∙_}
 use Rattle.causal.proofs.Chain.{chain, lt-passes}
 use Rattle.frame.specs.declared.entry.Entry.{Entry}
 use Rattle.store.specs.Slots.{fits}
 use native.Mathlib.Omega.{arith}
-use Rattle.causal.proofs.Chain.{chain}
 use borrow.Author.Needs.{needs}
 use Rattle.store.proofs.sound.slot_ok.Statement.{statement}
 use Rattle.store.proofs.sound.slot_ok.Tie as tie

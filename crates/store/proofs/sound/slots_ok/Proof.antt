@@ -1,7 +1,6 @@
-use native.Mathlib.Omega.{arith}
-use mathlib.Core.Path.{_≡_, refl, sym, ap, _∙_}
-use Prim.Native.Nat.{ℕ, zero, suc, _+_, _-_, _*_, _/_, _%_, _^_, _<_, _≤_}
-use mathlib.Core.Bool.{Bool, true, false, not}
+use mathlib.Core.Path.{_≡_}
+use Prim.Native.Nat.{_-_, _*_, _≤_}
+use mathlib.Core.Bool.{true}
 use Rattle.causal.specs.Tests.{allBelow}
 use Rattle.store.specs.Slots.{slotOk}
 use Rattle.store.proofs.Rules.{words-none, words-more, words-fail, words-done}

@@ -1,10 +1,10 @@
 use native.Mathlib.Omega.{arith}
-use mathlib.Core.Path.{_≡_, refl, sym, ap, _∙_}
-use Prim.Native.Nat.{ℕ, zero, suc, _+_, _-_, _*_, _/_, _%_, _^_, _<_, _≤_}
-use mathlib.Core.Bool.{Bool, true, false, not}
-use lib.ListN.{length, getD, set, take, length-set}
+use mathlib.Core.Path.{_≡_}
+use Prim.Native.Nat.{ℕ, _+_, _*_}
+use mathlib.Core.Bool.{true}
+use lib.ListN.{getD}
 use lib.Count.{trailingZeros, trailing-le}
-use Rattle.causal.proofs.Walk.{Passed, Next, passed-none, next}
+use Rattle.causal.proofs.Walk.{Passed, passed-none, next}
 use Rattle.causal.specs.Tests.{allBelow}
 use Rattle.causal.proofs.Tests.{all-none}
 use Rattle.causal.proofs.Array.{id-set}
