@@ -52,8 +52,9 @@ fn outcome<T>(result: &Result<T, u32>, accepted: impl FnOnce(&T) -> &'static str
     }
 }
 
-fn found(entry: &Option<Entry>) -> [u32; 3] {
-    entry.map_or([0; 3], |entry| [1, entry.value, 256 * entry.office + entry.serial])
+/// Whether an entry is handed back, and which: all zeros where none is.
+fn found(entry: &Option<Entry>) -> (u32, Entry) {
+    entry.map_or((0, Entry::default()), |entry| (1, entry))
 }
 
 impl Twin {
@@ -96,7 +97,7 @@ impl Twin {
             Some(entry) if session.own_entries().contains(entry) => "own",
             Some(_) => "presented",
         });
-        let reply = result.map_or_else(|refusal| (refusal, [0; 3]), |entry| (0, found(&entry)));
+        let reply = result.map_or_else(|refusal| (refusal, found(&None)), |entry| (0, found(&entry)));
         let model = Left { reply, store: store.to_vec(), session: *session, row: vec![] };
         self.compare("read_plot", &outcome, archive, model);
     }

@@ -1,14 +1,14 @@
 //! The archive's calls on one office, made safe. They have the shapes of the model's calls.
 
 use super::frames::Written;
+use crate::model::entry::Entry;
 use crate::model::session::Session;
 
 #[repr(C)]
 struct PlotRead {
     refusal: u32,
     found: u32,
-    value: u32,
-    name: u32,
+    entry: Entry,
     session: Session,
 }
 
@@ -68,11 +68,11 @@ pub fn store_need(offices: u32, own: u32, plots: u32) -> (u32, usize) {
     (need.refusal, need.words)
 }
 
-/// The refusal, and found, value and name.
-pub fn read_plot(store: &mut [u32], session: &mut Session, plot: u32) -> (u32, [u32; 3]) {
+/// The refusal, and whether an entry is handed back and which.
+pub fn read_plot(store: &mut [u32], session: &mut Session, plot: u32) -> (u32, (u32, Entry)) {
     let read = unsafe { burial_read_plot(store.as_mut_ptr(), store.len(), *session, plot) };
     *session = read.session;
-    (read.refusal, [read.found, read.value, read.name])
+    (read.refusal, (read.found, read.entry))
 }
 
 pub fn read_joint(store: &mut [u32], session: &mut Session, plots: &[u32], answer: &mut [u32]) -> u32 {
