@@ -47,10 +47,14 @@ module _ (n p : ℕ) (f : Frame) (most : p ≤ 64) (ok : frameOk n p f ≡ true)
   head = head-pay (f .entry .office) (f .entry .serial) (f .hops) (f .offices) (length (idWords (f .entry .deps))) fits
 
   pub offices-back : officesIn (frameWords f) ≡ f .offices
-  offices-back = ap (λ (x : ℕ). x / 256 % 16) head ∙ head-offices (f .entry .office) (f .entry .serial) (f .hops) (f .offices) (length (idWords (f .entry .deps))) fits
+  offices-back =
+      ap (λ (x : ℕ). x / 256 % 16) head
+      ∙ head-offices (f .entry .office) (f .entry .serial) (f .hops) (f .offices) (length (idWords (f .entry .deps))) fits
 
   pub count-back : countIn (frameWords f) ≡ length (idWords (f .entry .deps))
-  count-back = ap (λ (x : ℕ). x % 256) head ∙ head-count (f .entry .office) (f .entry .serial) (f .hops) (f .offices) (length (idWords (f .entry .deps))) fits
+  count-back =
+      ap (λ (x : ℕ). x % 256) head
+      ∙ head-count (f .entry .office) (f .entry .serial) (f .hops) (f .offices) (length (idWords (f .entry .deps))) fits
 
   bounds : BoundsFacts n p (f .entry .office) (f .entry .serial) (f .entry .plot) (f .entry .value)
   bounds = entry-facts n p (f .entry) (facts .entry) .bounds
@@ -74,23 +78,44 @@ module _ (n p : ℕ) (f : Frame) (most : p ≤ 64) (ok : frameOk n p f ≡ true)
   unfolding frameOf
   frame-back s =
       let H = head in
-      let clock-ok : clockOk (f .offices) (f .entry .clock) ≡ true = ap (λ (x : ℕ). clockOk x (f .entry .clock)) (facts .ring) ∙ entry-facts n p (f .entry) (facts .entry) .clock in
+      let clock-ok : clockOk (f .offices) (f .entry .clock) ≡ true =
+      ap (λ (x : ℕ). clockOk x (f .entry .clock)) (facts .ring) ∙ entry-facts n p (f .entry) (facts .entry) .clock
+      in
       let eight : f .offices ≤ 8 = omega (arith, facts .ring, facts .high) in
       let clock : clockFrom (frameWords f) 3 (officesIn (frameWords f)) ≡ f .entry .clock =
-      ap (clockFrom (frameWords f) 3) offices-back ∙ clock-back (frameWords f) 3 (f .offices) (f .entry .clock) eight clock-ok (s .clock8) (clock-word f)
+      ap (clockFrom (frameWords f) 3) offices-back
+      ∙ clock-back (frameWords f) 3 (f .offices) (f .entry .clock) eight clock-ok (s .clock8) (clock-word f)
       in
-      let office = ap (λ (x : ℕ). x / 16777216) head ∙ head-office (f .entry .office) (f .entry .serial) (f .hops) (f .offices) (length (idWords (f .entry .deps))) fits in
-      let serial = ap (λ (x : ℕ). x / 65536 % 256) head ∙ head-serial (f .entry .office) (f .entry .serial) (f .hops) (f .offices) (length (idWords (f .entry .deps))) fits in
-      let hops = ap (λ (x : ℕ). x / 4096 % 16) head ∙ head-hops (f .entry .office) (f .entry .serial) (f .hops) (f .offices) (length (idWords (f .entry .deps))) fits in
+      let office =
+      ap (λ (x : ℕ). x / 16777216) head
+      ∙ head-office (f .entry .office) (f .entry .serial) (f .hops) (f .offices) (length (idWords (f .entry .deps))) fits
+      in
+      let serial =
+      ap (λ (x : ℕ). x / 65536 % 256) head
+      ∙ head-serial (f .entry .office) (f .entry .serial) (f .hops) (f .offices) (length (idWords (f .entry .deps))) fits
+      in
+      let hops =
+      ap (λ (x : ℕ). x / 4096 % 16) head
+      ∙ head-hops (f .entry .office) (f .entry .serial) (f .hops) (f .offices) (length (idWords (f .entry .deps))) fits
+      in
       λ i.
       record {
         offices = offices-back i;
         hops = hops i;
-        entry = record { office = office i; serial = serial i; plot = plot-back i; value = value-back i; clock = clock i; deps = deps-back (s .deps-set) i };
+        entry =
+            record {
+              office = office i;
+              serial = serial i;
+              plot = plot-back i;
+              value = value-back i;
+              clock = clock i;
+              deps = deps-back (s .deps-set) i;
+            };
       }
 
 -- a row that is the writing of a frame is accepted just where the frame is one for the ring and the plots
-pub frame-accepted : (n p q m : ℕ) (f : Frame) → q ≤ 64 → frameOk m q f ≡ true → SaneEntry (f .entry) → accepts n p (frameWords f) ≡ frameOk n p f
+pub frame-accepted : (n p q m : ℕ) (f : Frame) → q ≤ 64 → frameOk m q f ≡ true → SaneEntry (f .entry)
+    → accepts n p (frameWords f) ≡ frameOk n p f
 unfolding accepts both
 frame-accepted n p q m f l ok s =
     ap (λ (x : Frame). both (frameOk n p x) (eqWords (frameWords f) (frameWords x))) (frame-back m q f l ok s)

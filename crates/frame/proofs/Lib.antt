@@ -9,3 +9,5 @@ pub mod Sessions
 pub mod Sane
 pub mod Back
 pub mod Tokens
+pub mod Payloads
+pub mod Changed

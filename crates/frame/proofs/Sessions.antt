@@ -36,12 +36,15 @@ with-set : (es : List Entry) (s : List ℕ) → IdSet s → IdSet (idsWith s es)
 with-set [] s w = w
 with-set (e ∷ es) s w = with-set es (inserted s (idOf e)) (ids-inserted s (idOf e) w)
 
-with-old : (es : List Entry) (s : List ℕ) → IdSet s → ((e : Entry) → List·Memᴰ e es → idOf e < 256) → (d : ℕ) → has s d ≡ 1 → has (idsWith s es) d ≡ 1
+with-old : (es : List Entry) (s : List ℕ) → IdSet s → ((e : Entry) → List·Memᴰ e es → idOf e < 256) → (d : ℕ) → has s d ≡ 1
+    → has (idsWith s es) d ≡ 1
 with-old [] s w b d h = h
 with-old (e ∷ es) s w b d h =
-    with-old es (inserted s (idOf e)) (ids-inserted s (idOf e) w) (λ f m. b f (List·Memᴰ·tail m)) d (inserted-old s (idOf e) (b e (List·Memᴰ·head refl)) w d h)
+    with-old es (inserted s (idOf e)) (ids-inserted s (idOf e) w) (λ f m. b f (List·Memᴰ·tail m)) d
+    (inserted-old s (idOf e) (b e (List·Memᴰ·head refl)) w d h)
 
-with-new : (es : List Entry) (s : List ℕ) → IdSet s → ((e : Entry) → List·Memᴰ e es → idOf e < 256) → (d : ℕ) → List·Memᴰ d (map idOf es) → has (idsWith s es) d ≡ 1
+with-new : (es : List Entry) (s : List ℕ) → IdSet s → ((e : Entry) → List·Memᴰ e es → idOf e < 256) → (d : ℕ) → List·Memᴰ d (map idOf es)
+    → has (idsWith s es) d ≡ 1
 with-new [] s w b d m = absurd (List·Memᴰ·not-nil m)
 with-new (e ∷ es) s w b d m =
     ⊎-elim
@@ -53,7 +56,8 @@ with-from : (es : List Entry) (s : List ℕ) → IdSet s → ((e : Entry) → Li
     → (has s d ≡ 1) ⊎ List·Memᴰ d (map idOf es)
 with-from [] s w b d h = inl h
 with-from (e ∷ es) s w b d h =
-    ⊎-elim (λ i. ⊎-elim (λ q. inr (List·Memᴰ·head q)) (λ j. inl j) (in-inserted s (idOf e) d (b e (List·Memᴰ·head refl)) w i)) (λ i. inr (List·Memᴰ·tail i))
+    ⊎-elim (λ i. ⊎-elim (λ q. inr (List·Memᴰ·head q)) (λ j. inl j) (in-inserted s (idOf e) d (b e (List·Memᴰ·head refl)) w i))
+    (λ i. inr (List·Memᴰ·tail i))
     (with-from es (inserted s (idOf e)) (ids-inserted s (idOf e) w) (λ f m. b f (List·Memᴰ·tail m)) d h)
 
 module _ (es : List Entry) (small : (e : Entry) → List·Memᴰ e es → idOf e < 256) where
@@ -113,7 +117,8 @@ unfolding ownOk
 facts-own n p read seen e es F =
     both-intro _ _ (F .ok) (both-intro _ _ (ap not (is-out seen (idOf e) (F .new))) (both-intro _ _ (F .deps) (F .rest)))
 
-pub own-each : (n p : ℕ) (read seen : List ℕ) (es : List Entry) → ownOk n p read seen es ≡ true → (e : Entry) → List·Memᴰ e es → entryOk n p e ≡ true
+pub own-each : (n p : ℕ) (read seen : List ℕ) (es : List Entry) → ownOk n p read seen es ≡ true → (e : Entry) → List·Memᴰ e es
+    → entryOk n p e ≡ true
 own-each n p read seen [] h e m = absurd (List·Memᴰ·not-nil m)
 own-each n p read seen (x ∷ es) h e m =
     let F = own-facts n p read seen x es h in

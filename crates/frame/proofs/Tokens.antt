@@ -36,7 +36,8 @@ first-word f Y = refl
 -- the first frame of a row
 pub first-length : (n : ℕ) (e : Entry) (Y : List ℕ) → frameOk n 64 (framed n 0 e) ≡ true
     → frameLength n (frameWords (framed n 0 e) ++ Y) ≡ length (frameWords (framed n 0 e))
-first-length n e Y ok = ap (λ (x : ℕ). n + x + 4) (first-word (framed n 0 e) Y ∙ count-back n 64 (framed n 0 e) (omega arith) ok) ∙ sym (length-frame (framed n 0 e))
+first-length n e Y ok =
+    ap (λ (x : ℕ). n + x + 4) (first-word (framed n 0 e) Y ∙ count-back n 64 (framed n 0 e) (omega arith) ok) ∙ sym (length-frame (framed n 0 e))
 
 own-back : (n : ℕ) (es : List Entry) (Y : List ℕ) → ((e : Entry) → List·Memᴰ e es → (frameOk n 64 (framed n 0 e) ≡ true) × SaneEntry e)
     → ownFrom (length es) n (rowsOf (map (framed n 0) es) ++ Y) ≡ es
@@ -113,7 +114,9 @@ module _ (s : Content) (ring : ringOk (s .offices) 64 ≡ true) (ok : sessionOk 
   clock-at-row : (j : ℕ) → j < s .offices → getD row (1 + j) 0 ≡ clockWord (s .clock) j
   clock-at-row j h =
       let q : 1 + j ≡ suc j = omega arith in
-      ap (λ (i : ℕ). getD row i 0) q ∙ List·getD-append U (D ++ (Ow ++ (c ∷ []))) 0 j (omega (arith, length-clock (s .offices) (s .clock))) ∙ clock-at (s .offices) (s .clock) j h
+      ap (λ (i : ℕ). getD row i 0) q
+      ∙ List·getD-append U (D ++ (Ow ++ (c ∷ []))) 0 j (omega (arith, length-clock (s .offices) (s .clock)))
+      ∙ clock-at (s .offices) (s .clock) j h
 
   after-clock : drop (1 + s .offices) row ≡ D ++ (Ow ++ (c ∷ []))
   after-clock =

@@ -1,4 +1,4 @@
--- No call loses an entry: what is held stays held. And no call changes the settings. Assumes nothing.
+-- No call loses an entry: what is held stays held. Assumes nothing.
 use Prim.Native.Nat.{ℕ, suc, zero}
 use mathlib.Core.Bool.{Bool, cond, false, true}
 use mathlib.Core.List.{List, [], _∷_}
@@ -14,12 +14,14 @@ use Rattle.frame.specs.declared.entry.Frame.{Frame}
 use Rattle.frame.proofs.Ids.{inserted-keeps}
 use Rattle.store.specs.Offices.{Office, hold, reveal}
 use Rattle.office.specs.Calls.{Result, given, holdAll, holdNew, jointCode, jointOn, readCode, readOn, receiveCode, receiveOn, receivedBy, sentOf, writeCode, writeOn}
+use Rattle.office.proofs.Cases.{Cases}
 
 abbrev pub Grows : Office → Office → Type 0
 Grows O O′ = (k : ℕ) → has (O .held) k ≡ 1 → has (O′ .held) k ≡ 1
 
 -- a property of the office before and of the one that an accepted call leaves
-pub given-by : (Q : Office → Type 0) (c : ℕ) (O : Office) (s : Content) (row : List ℕ) (R : Result Office Frame) → Q O → Q (R .store) → Q (given c O s row R .store)
+pub given-by : (Q : Office → Type 0) (c : ℕ) (O : Office) (s : Content) (row : List ℕ) (R : Result Office Frame) → Q O → Q (R .store)
+    → Q (given c O s row R .store)
 given-by Q zero O s row R a b = b
 given-by Q (suc c) O s row R a b = a
 
@@ -59,7 +61,8 @@ joint-grows O s plots row = given-by (Grows O) (jointCode O s plots (length row)
 
 pub write-grows : (O : Office) (s : Content) (plot value : ℕ) (row : List ℕ) → Grows O (writeOn O s plot value row .store)
 unfolding writeOn
-write-grows O s plot value row = given-by (Grows O) (writeCode O s plot value (length row)) O s row _ (λ k h. h) (all-grows (sentOf O s plot value) O)
+write-grows O s plot value row =
+    given-by (Grows O) (writeCode O s plot value (length row)) O s row _ (λ k h. h) (all-grows (sentOf O s plot value) O)
 
 pub receive-grows : (O : Office) (f : Frame) (row : List ℕ) → Grows O (receiveOn O f row .store)
 unfolding receiveOn

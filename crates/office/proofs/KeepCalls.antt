@@ -27,18 +27,45 @@ use Rattle.frame.proofs.Sessions.{SaneContent, SaneEntry}
 use Rattle.store.specs.Offices.{Office, current, hold, reveal}
 use Rattle.store.proofs.Keep.{Sound, hold-sound, reveal-sound}
 use Rattle.office.specs.Calls.{Result, allNoneOver, answerWords, entryCode, given, handed, holdNew, jointCode, jointOn, noted, notedAll, onward, ownCode, plotsOk, readCode, readOn, receiveCode, receiveOn, receiveSends, receivedBy}
+use Rattle.office.proofs.Cases.{Cases}
 
 -- ---- reading
 
 abbrev took : Office → Frame → List ℕ → Result Office Frame
 took O f row =
-    record { code = 0; count = length (rowsOf (receiveSends f)); found = []; store = receivedBy O f; session = freshContent 0; row = laid (rowsOf (receiveSends f)) row; sent = receiveSends f }
+    record {
+      code = 0;
+      count = length (rowsOf (receiveSends f));
+      found = [];
+      store = receivedBy O f;
+      session = freshContent 0;
+      row = laid (rowsOf (receiveSends f)) row;
+      sent = receiveSends f;
+    }
 
 abbrev pub readOne : Office → Content → ℕ → Result Office Frame
-readOne O s plot = record { code = 0; count = 0; found = handed (reveal O (s .read)) s plot ∷ []; store = reveal O (s .read); session = noted (current (reveal O (s .read)) plot) s; row = []; sent = [] }
+readOne O s plot =
+    record {
+      code = 0;
+      count = 0;
+      found = handed (reveal O (s .read)) s plot ∷ [];
+      store = reveal O (s .read);
+      session = noted (current (reveal O (s .read)) plot) s;
+      row = [];
+      sent = [];
+    }
 
 abbrev pub readAll : Office → Content → List ℕ → List ℕ → Result Office Frame
-readAll O s plots row = record { code = 0; count = 0; found = map (current (reveal O (s .read))) plots; store = reveal O (s .read); session = notedAll (reveal O (s .read)) plots s; row = laid (answerWords (reveal O (s .read)) plots) row; sent = [] }
+readAll O s plots row =
+    record {
+      code = 0;
+      count = 0;
+      found = map (current (reveal O (s .read))) plots;
+      store = reveal O (s .read);
+      session = notedAll (reveal O (s .read)) plots s;
+      row = laid (answerWords (reveal O (s .read)) plots) row;
+      sent = [];
+    }
 
 module _ (O : Office) (S : Sound O) (s : Content) (N : SaneContent s) where
   revealed-sound : subsetOf (s .read) (O .held) ≡ true → Sound (reveal O (s .read))
@@ -48,7 +75,8 @@ module _ (O : Office) (S : Sound O) (s : Content) (N : SaneContent s) where
   unfolding readOn readCode check
   read-keeps plot = go (sessionOk (O .offices) (O .plots) s) (ltb plot (O .plots)) (subsetOf (s .read) (O .held)) refl
     where
-      go : (a b c : Bool) → subsetOf (s .read) (O .held) ≡ c → Sound (given (check a 3 (check b 4 (check c 12 0))) O s [] (readOne O s plot) .store)
+      go : (a b c : Bool) → subsetOf (s .read) (O .held) ≡ c
+          → Sound (given (check a 3 (check b 4 (check c 12 0))) O s [] (readOne O s plot) .store)
       go true true true q = revealed-sound q
       go true true false q = S
       go true false c q = S
@@ -57,9 +85,11 @@ module _ (O : Office) (S : Sound O) (s : Content) (N : SaneContent s) where
   pub joint-keeps : (plots row : List ℕ) → Sound (jointOn O s plots row .store)
   unfolding jointOn jointCode check
   joint-keeps plots row =
-      go (sessionOk (O .offices) (O .plots) s) (both (leb (length plots) 16) (plotsOk (O .plots) plots)) (leb (3 * length plots) (length row)) (subsetOf (s .read) (O .held)) refl (allNoneOver (reveal O (s .read)) s plots)
+      go (sessionOk (O .offices) (O .plots) s) (both (leb (length plots) 16) (plotsOk (O .plots) plots)) (leb (3 * length plots) (length row))
+      (subsetOf (s .read) (O .held)) refl (allNoneOver (reveal O (s .read)) s plots)
     where
-      go : (a b d c : Bool) → subsetOf (s .read) (O .held) ≡ c → (f : Bool) → Sound (given (check a 3 (check b 4 (check d 8 (check c 12 (check f 13 0))))) O s row (readAll O s plots row) .store)
+      go : (a b d c : Bool) → subsetOf (s .read) (O .held) ≡ c → (f : Bool)
+          → Sound (given (check a 3 (check b 4 (check d 8 (check c 12 (check f 13 0))))) O s row (readAll O s plots row) .store)
       go true true true true q true = revealed-sound q
       go true true true true q false = S
       go true true true false q f = S
@@ -77,8 +107,14 @@ pub known : (O : Office) (e : Entry) → entryCode O e ≡ 0 → Known O e
 unfolding entryCode check
 known O e h = go (implies (eqb (e .office) (O .own)) (isIn (O .held) (idOf e))) refl h
   where
-    go : (t : Bool) → implies (eqb (e .office) (O .own)) (isIn (O .held) (idOf e)) ≡ t → check t 10 (check (implies (isIn (O .held) (idOf e)) (sameContent e (O .entry (idOf e)))) 11 0) ≡ 0 → Known O e
-    go true t q = record { home = λ x. in-is (O .held) (idOf e) (implies-elim (eqb (e .office) (O .own)) (isIn (O .held) (idOf e)) t (eq-eqb (e .office) (O .own) x)) }
+    go : (t : Bool) → implies (eqb (e .office) (O .own)) (isIn (O .held) (idOf e)) ≡ t
+        → check t 10 (check (implies (isIn (O .held) (idOf e)) (sameContent e (O .entry (idOf e)))) 11 0) ≡ 0 → Known O e
+    go true t q =
+        record {
+          home =
+              λ x.
+              in-is (O .held) (idOf e) (implies-elim (eqb (e .office) (O .own)) (isIn (O .held) (idOf e)) t (eq-eqb (e .office) (O .own) x));
+        }
     go false t q = absurd (omega arith)
 
 pub all-known : (O : Office) (es : List Entry) → ownCode O es ≡ 0 → (e : Entry) → List·Memᴰ e es → Known O e
@@ -90,7 +126,8 @@ all-known O (x ∷ es) h e m = go (entryCode O x) refl h (λ q i. all-known O es
     go zero c q ih = ⊎-elim (λ (y : e ≡ x). rw y (known O x c)) (λ i. ih q i) (List·Memᴰ·cases-cons m)
     go (suc k) c q ih = absurd (omega arith)
 
-pub away : (O : Office) (e : Entry) (n p : ℕ) → EntryFacts n p e → Known O e → has (O .held) (idOf e) ≡ 0 → (s : ℕ) → s < 31 → 32 * O .own + (s + 1) ≡ idOf e → ⊥
+pub away : (O : Office) (e : Entry) (n p : ℕ) → EntryFacts n p e → Known O e → has (O .held) (idOf e) ≡ 0 → (s : ℕ) → s < 31
+    → 32 * O .own + (s + 1) ≡ idOf e → ⊥
 away O e n p F K z s l q =
     let c : idOf e / 32 ≡ O .own = omega arith in
     let h = K .home (sym (id-office n p e F) ∙ c) in
@@ -106,11 +143,13 @@ module _ (O : Office) (S : Sound O) (f : Frame) (valid : frameOk (O .offices) (O
   small : idOf (f .entry) < 256
   small = omega (arith, id-range (O .offices) (O .plots) (f .entry) F, S .few)
 
-  kept : Known O (f .entry) → subsetOf (f .entry .deps) (O .held) ≡ true → Sound (holdNew O (f .entry)) × (has (holdNew O (f .entry) .held) (idOf (f .entry)) ≡ 1)
+  kept : Known O (f .entry) → subsetOf (f .entry .deps) (O .held) ≡ true
+      → Sound (holdNew O (f .entry)) × (has (holdNew O (f .entry) .held) (idOf (f .entry)) ≡ 1)
   unfolding holdNew hold
   kept K d = go (isIn (O .held) (idOf (f .entry))) refl
     where
-      go : (t : Bool) → isIn (O .held) (idOf (f .entry)) ≡ t → Sound (cond t O (hold O (f .entry))) × (has (cond t O (hold O (f .entry)) .held) (idOf (f .entry)) ≡ 1)
+      go : (t : Bool) → isIn (O .held) (idOf (f .entry)) ≡ t
+          → Sound (cond t O (hold O (f .entry))) × (has (cond t O (hold O (f .entry)) .held) (idOf (f .entry)) ≡ 1)
       go true t = (S, in-is (O .held) (idOf (f .entry)) t)
       go false t =
           let z = out-is (O .held) (idOf (f .entry)) t in (
@@ -136,14 +175,19 @@ module _ (O : Office) (S : Sound O) (f : Frame) (valid : frameOk (O .offices) (O
       go : (t : Bool) → Sound (cond t (reveal (holdNew O (f .entry)) (inserted zeros (idOf (f .entry)))) (holdNew O (f .entry)))
       go true =
           reveal-sound (holdNew O (f .entry)) (k .0) (inserted zeros (idOf (f .entry))) (ids-inserted zeros (idOf (f .entry)) ids-zeros)
-          (λ x h. ⊎-elim (λ (q : x ≡ idOf (f .entry)). rw q (k .1)) (λ z. absurd (omega (arith, has-zeros x))) (in-inserted zeros (idOf (f .entry)) x small ids-zeros h))
+          (λ x h.
+          ⊎-elim (λ (q : x ≡ idOf (f .entry)). rw q (k .1)) (λ z. absurd (omega (arith, has-zeros x)))
+          (in-inserted zeros (idOf (f .entry)) x small ids-zeros h))
       go false = k .0
 
   pub receive-keeps : (row : List ℕ) → Sound (receiveOn O f row .store)
   unfolding receiveOn receiveCode check orElse
-  receive-keeps row = go (entryCode O (f .entry)) refl (subsetOf (f .entry .deps) (O .held)) refl (either (eqb (f .hops) 0) (leb (length (frameWords (onward f))) (length row)))
+  receive-keeps row =
+      go (entryCode O (f .entry)) refl (subsetOf (f .entry .deps) (O .held)) refl
+      (either (eqb (f .hops) 0) (leb (length (frameWords (onward f))) (length row)))
     where
-      go : (c : ℕ) → entryCode O (f .entry) ≡ c → (d : Bool) → subsetOf (f .entry .deps) (O .held) ≡ d → (r : Bool) → Sound (given (orElse c (check d 12 (check r 8 0))) O (freshContent 0) row (took O f row) .store)
+      go : (c : ℕ) → entryCode O (f .entry) ≡ c → (d : Bool) → subsetOf (f .entry .deps) (O .held) ≡ d → (r : Bool)
+          → Sound (given (orElse c (check d 12 (check r 8 0))) O (freshContent 0) row (took O f row) .store)
       go zero c true d true = got (known O (f .entry) c) d
       go zero c true d false = S
       go zero c false d r = S

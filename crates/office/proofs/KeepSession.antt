@@ -17,8 +17,10 @@ use Rattle.frame.proofs.Ids.{id-range, ids-of, ids-range, join-ok}
 use Rattle.frame.proofs.Sessions.{SaneEntry, facts-session, own-more, session-facts}
 use Rattle.store.specs.Offices.{Found, None, Some}
 use Rattle.office.specs.Calls.{noted}
+use Rattle.office.proofs.Cases.{Cases}
 
-pub noted-ok : (n p : ℕ) (f : Found) (s : Content) → n ≤ 8 → IdSet (s .read) → ((e : Entry) → List·Memᴰ e (s .own) → SaneEntry e) → ((h : Entry) → f ≡ Some h → entryOk n p h ≡ true) →
+pub noted-ok : (n p : ℕ) (f : Found) (s : Content) → n ≤ 8 → IdSet (s .read) → ((e : Entry) → List·Memᴰ e (s .own) → SaneEntry e)
+    → ((h : Entry) → f ≡ Some h → entryOk n p h ≡ true) →
     sessionOk n p s ≡ true → sessionOk n p (noted f s) ≡ true
 unfolding noted
 noted-ok n p None s n8 w sane ok h = h
@@ -33,6 +35,10 @@ noted-ok n p (Some e) s n8 w sane ok h =
       offices = F .offices;
       few = F .few;
       clock = join-ok n (s .clock) (e .clock) (F .clock) (G .clock);
-      ids = ids-of n (inserted (s .read) (idOf e)) w′ (λ d m. ⊎-elim (λ (q : d ≡ idOf e). rw q x) (λ i. ids-range n (s .read) w (F .ids) d i) (in-inserted (s .read) (idOf e) d x8 w m));
-      own = own-more n p (s .read) (inserted (s .read) (idOf e)) w w′ (λ d m. inserted-old (s .read) (idOf e) x8 w d m) zeros ids-zeros (s .own) sane (F .own);
+      ids =
+          ids-of n (inserted (s .read) (idOf e)) w′
+          (λ d m. ⊎-elim (λ (q : d ≡ idOf e). rw q x) (λ i. ids-range n (s .read) w (F .ids) d i) (in-inserted (s .read) (idOf e) d x8 w m));
+      own =
+          own-more n p (s .read) (inserted (s .read) (idOf e)) w w′ (λ d m. inserted-old (s .read) (idOf e) x8 w d m) zeros ids-zeros
+          (s .own) sane (F .own);
     })

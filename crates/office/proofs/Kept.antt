@@ -1,22 +1,21 @@
--- "Each store left by a call is sound"; and the session too. On words, for every sound store of 32-bit words and every session that a program has. Assumes nothing.
+-- "each store left by a call is sound": on words, for every sound store of 32-bit words and every session that a program has.
+-- Assumes nothing.
 use Prim.Native.Nat.{ℕ, _<_, _^_, _≤_, suc, zero}
 use mathlib.Core.Bool.{Bool, cond, false, true}
 use mathlib.Core.List.{List, [], _∷_}
 use mathlib.Core.Path.{_∙_, _≡_, ap, refl}
-use lib.Dec.{eqb, leb, ltb}
+use lib.Dec.{eqb, leb}
 use lib.ListN.{getD, length}
 use borrow.Author.Tests.{leb-true}
 use Rattle.causal.specs.Lists.{zeros}
 use Rattle.causal.specs.Sets.{inserted, isIn}
-use Rattle.causal.specs.Tests.{both}
 use Rattle.causal.proofs.Tests.{both-true}
 use Rattle.frame.specs.Entries.{idOf}
-use Rattle.frame.specs.Frames.{accepts, frameOf, ringOk}
+use Rattle.frame.specs.Frames.{accepts, frameOf}
 use Rattle.frame.specs.Sessions.{Content, freshContent}
 use Rattle.frame.specs.declared.entry.Entry.{Entry}
 use Rattle.frame.specs.declared.entry.Frame.{Frame}
 use Rattle.frame.proofs.Back.{accepted-ok}
-use Rattle.frame.proofs.Entries.{ring-facts}
 use Rattle.frame.proofs.Sane.{frame-sane}
 use Rattle.frame.proofs.Sessions.{SaneContent}
 use Rattle.store.specs.Offices.{Office, hold, need, officeOf, reveal, settingsOk, soundStore}
@@ -38,7 +37,8 @@ got-n : (O : Office) (f : Frame) → receivedBy O f .offices ≡ O .offices
 unfolding receivedBy holdNew hold reveal
 got-n O f = go (eqb (f .hops) 0) (isIn (O .held) (idOf (f .entry)))
   where
-    go : (t u : Bool) → cond t (reveal (cond u O (hold O (f .entry))) (inserted zeros (idOf (f .entry)))) (cond u O (hold O (f .entry))) .offices ≡ O .offices
+    go : (t u : Bool)
+        → cond t (reveal (cond u O (hold O (f .entry))) (inserted zeros (idOf (f .entry)))) (cond u O (hold O (f .entry))) .offices ≡ O .offices
     go true true = refl
     go true false = refl
     go false true = refl
@@ -54,7 +54,8 @@ joint-n O s plots row = given-by (λ X. X .offices ≡ O .offices) (jointCode O 
 
 write-n : (O : Office) (s : Content) (plot value : ℕ) (row : List ℕ) → writeOn O s plot value row .store .offices ≡ O .offices
 unfolding writeOn
-write-n O s plot value row = given-by (λ X. X .offices ≡ O .offices) (writeCode O s plot value (length row)) O s row _ refl (hold-all-n (sentOf O s plot value) O)
+write-n O s plot value row =
+    given-by (λ X. X .offices ≡ O .offices) (writeCode O s plot value (length row)) O s row _ refl (hold-all-n (sentOf O s plot value) O)
 
 receive-n : (O : Office) (f : Frame) (row : List ℕ) → receiveOn O f row .store .offices ≡ O .offices
 unfolding receiveOn
@@ -69,16 +70,13 @@ module _ (ws : List ℕ) (fit : Words32 ws) (sound : soundStore ws ≡ true) whe
 
   long : need (officeOf ws .offices) ≤ length ws
   unfolding soundStore officeOf
-  long = let a = both-true (settingsOk (getD ws 0 0) (getD ws 1 0) (getD ws 2 0)) _ sound in leb-true (need (getD ws 0 0)) (length ws) (both-true (leb (need (getD ws 0 0)) (length ws)) _ (a .1) .0)
-
-  two : 2 ≤ officeOf ws .offices
-  unfolding soundStore officeOf settingsOk
-  two =
-      let a = both-true (both (ringOk (getD ws 0 0) (getD ws 2 0)) (ltb (getD ws 1 0) (getD ws 0 0))) _ sound in
-      ring-facts (getD ws 0 0) (getD ws 2 0) (both-true (ringOk (getD ws 0 0) (getD ws 2 0)) _ (a .0) .0) .low
+  long =
+      let a = both-true (settingsOk (getD ws 0 0) (getD ws 1 0) (getD ws 2 0)) _ sound in
+      leb-true (need (getD ws 0 0)) (length ws) (both-true (leb (need (getD ws 0 0)) (length ws)) _ (a .1) .0)
 
   -- what an accepted call leaves
-  left : (R : Result Office Frame) (s : Content) (row : List ℕ) → Sound (R .store) → R .store .offices ≡ officeOf ws .offices → soundStore (worded (soundStore ws) ws s row R .store) ≡ true
+  left : (R : Result Office Frame) (s : Content) (row : List ℕ) → Sound (R .store) → R .store .offices ≡ officeOf ws .offices
+      → soundStore (worded (soundStore ws) ws s row R .store) ≡ true
   left R s row T n = ap (λ (b : Bool). soundStore (worded b ws s row R .store)) sound ∙ go (R .code)
     where
       go : (c : ℕ) → soundStore (stored c ws (R .store)) ≡ true
@@ -94,16 +92,23 @@ module _ (ws : List ℕ) (fit : Words32 ws) (sound : soundStore ws ≡ true) whe
 
   pub joint-left : (s : Content) → SaneContent s → (plots row : List ℕ) → soundStore (readJoint ws s plots row .store) ≡ true
   unfolding readJoint
-  joint-left s N plots row = left (jointOn (officeOf ws) s plots row) s row (joint-keeps (officeOf ws) S s N plots row) (joint-n (officeOf ws) s plots row)
+  joint-left s N plots row =
+      left (jointOn (officeOf ws) s plots row) s row (joint-keeps (officeOf ws) S s N plots row) (joint-n (officeOf ws) s plots row)
 
   pub write-left : (s : Content) → SaneContent s → (plot value : ℕ) (row : List ℕ) → soundStore (write ws s plot value row .store) ≡ true
   unfolding write
-  write-left s N plot value row = left (writeOn (officeOf ws) s plot value row) s row (write-keeps (officeOf ws) S two s N plot value row) (write-n (officeOf ws) s plot value row)
+  write-left s N plot value row =
+      left (writeOn (officeOf ws) s plot value row) s row (write-keeps (officeOf ws) S s N plot value row)
+      (write-n (officeOf ws) s plot value row)
 
   pub receive-left : (frame row : List ℕ) → soundStore (receive ws frame row .store) ≡ true
   unfolding receive
   receive-left frame row = go (accepts (officeOf ws .offices) (officeOf ws .plots) frame) refl
     where
-      go : (t : Bool) → accepts (officeOf ws .offices) (officeOf ws .plots) frame ≡ t → soundStore (worded (soundStore ws) ws (freshContent 0) row (parsed t (officeOf ws) row (receiveOn (officeOf ws) (frameOf frame) row)) .store) ≡ true
-      go true t = left (receiveOn (officeOf ws) (frameOf frame) row) (freshContent 0) row (receive-keeps (officeOf ws) S (frameOf frame) (accepted-ok (officeOf ws .offices) (officeOf ws .plots) frame t) (frame-sane frame) row) (receive-n (officeOf ws) (frameOf frame) row)
+      go : (t : Bool) → accepts (officeOf ws .offices) (officeOf ws .plots) frame ≡ t
+          → soundStore (worded (soundStore ws) ws (freshContent 0) row (parsed t (officeOf ws) row (receiveOn (officeOf ws) (frameOf frame) row)) .store) ≡ true
+      go true t =
+          left (receiveOn (officeOf ws) (frameOf frame) row) (freshContent 0) row
+          (receive-keeps (officeOf ws) S (frameOf frame) (accepted-ok (officeOf ws .offices) (officeOf ws .plots) frame t) (frame-sane frame) row)
+          (receive-n (officeOf ws) (frameOf frame) row)
       go false t = left (refusal {B = Frame} 9 (officeOf ws) (freshContent 0) row) (freshContent 0) row S refl

@@ -1,5 +1,5 @@
 -- The session left by a call is sound for the store, if it was. Assumes nothing.
-use Prim.Native.Nat.{ℕ, _*_, _+_, _<_, _≤_, suc, zero}
+use Prim.Native.Nat.{ℕ, _*_, _+_, _<_, suc, zero}
 use mathlib.Core.Bool.{Bool, false, true}
 use mathlib.Core.List.{List, List·Memᴰ, [], _++_, _∷_}
 use mathlib.Core.Logic.{⊎-elim}
@@ -56,11 +56,13 @@ module _ (O : Office) (S : Sound O) (s : Content) (N : SaneContent s) (h : sessi
   after : subsetOf (s .read) (O .held) ≡ true → Sound (reveal O (s .read))
   after t = reveal-sound O S (s .read) (N .read) (subset-within (s .read) (O .held) (N .read) t)
 
-  shift : (s′ : Content) → sessionOk (reveal O (s .read) .offices) (reveal O (s .read) .plots) s′ ≡ true → sessionOk (O .offices) (O .plots) s′ ≡ true
+  shift : (s′ : Content) → sessionOk (reveal O (s .read) .offices) (reveal O (s .read) .plots) s′ ≡ true
+      → sessionOk (O .offices) (O .plots) s′ ≡ true
   unfolding reveal
   shift s′ q = q
 
-  back : (s′ : Content) → sessionOk (O .offices) (O .plots) s′ ≡ true → sessionOk (reveal O (s .read) .offices) (reveal O (s .read) .plots) s′ ≡ true
+  back : (s′ : Content) → sessionOk (O .offices) (O .plots) s′ ≡ true
+      → sessionOk (reveal O (s .read) .offices) (reveal O (s .read) .plots) s′ ≡ true
   unfolding reveal
   back s′ q = q
 
@@ -68,7 +70,8 @@ module _ (O : Office) (S : Sound O) (s : Content) (N : SaneContent s) (h : sessi
   unfolding readOn readCode check
   read-session plot = go (sessionOk (O .offices) (O .plots) s) (ltb plot (O .plots)) (subsetOf (s .read) (O .held)) refl
     where
-      go : (a b c : Bool) → subsetOf (s .read) (O .held) ≡ c → sessionOk (O .offices) (O .plots) (given (check a 3 (check b 4 (check c 12 0))) O s [] (readOne O s plot) .session) ≡ true
+      go : (a b c : Bool) → subsetOf (s .read) (O .held) ≡ c
+          → sessionOk (O .offices) (O .plots) (given (check a 3 (check b 4 (check c 12 0))) O s [] (readOne O s plot) .session) ≡ true
       go true true true q = shift (noted (current (reveal O (s .read)) plot) s) (noted-q (reveal O (s .read)) (after q) plot s N (back s h))
       go true true false q = h
       go true false c q = h
@@ -77,9 +80,11 @@ module _ (O : Office) (S : Sound O) (s : Content) (N : SaneContent s) (h : sessi
   pub joint-session : (plots row : List ℕ) → sessionOk (O .offices) (O .plots) (jointOn O s plots row .session) ≡ true
   unfolding jointOn jointCode check
   joint-session plots row =
-      go (sessionOk (O .offices) (O .plots) s) (both (leb (length plots) 16) (plotsOk (O .plots) plots)) (leb (3 * length plots) (length row)) (subsetOf (s .read) (O .held)) refl (allNoneOver (reveal O (s .read)) s plots)
+      go (sessionOk (O .offices) (O .plots) s) (both (leb (length plots) 16) (plotsOk (O .plots) plots)) (leb (3 * length plots) (length row))
+      (subsetOf (s .read) (O .held)) refl (allNoneOver (reveal O (s .read)) s plots)
     where
-      go : (a b d c : Bool) → subsetOf (s .read) (O .held) ≡ c → (f : Bool) → sessionOk (O .offices) (O .plots) (given (check a 3 (check b 4 (check d 8 (check c 12 (check f 13 0))))) O s row (readAll O s plots row) .session) ≡ true
+      go : (a b d c : Bool) → subsetOf (s .read) (O .held) ≡ c → (f : Bool)
+          → sessionOk (O .offices) (O .plots) (given (check a 3 (check b 4 (check d 8 (check c 12 (check f 13 0))))) O s row (readAll O s plots row) .session) ≡ true
       go true true true true q true = shift (notedAll (reveal O (s .read)) plots s) (all-q (reveal O (s .read)) (after q) plots s N (back s h))
       go true true true true q false = h
       go true true true false q f = h
@@ -89,38 +94,51 @@ module _ (O : Office) (S : Sound O) (s : Content) (N : SaneContent s) (h : sessi
 
   -- ---- a write
 
-  module _ (two : 2 ≤ O .offices) (plot value : ℕ) where
-    module _ (plot-ok : ltb plot (O .plots) ≡ true) (value-ok : ltb value 268435456 ≡ true) (room-ok : ltb (length (s .own)) 16 ≡ true) (few-ok : ltb (made O) 32 ≡ true)
+  module _ (plot value : ℕ) where
+    module _ (plot-ok : ltb plot (O .plots) ≡ true) (value-ok : ltb value 268435456 ≡ true) (room-ok : ltb (length (s .own)) 16 ≡ true)
+        (few-ok : ltb (made O) 32 ≡ true)
         (read-ok : subsetOf (s .read) (O .held) ≡ true) (own-zero : ownCode O (s .own) ≡ 0) where
       F : SessionFacts (O .offices) (O .plots) s
       F = session-facts (O .offices) (O .plots) s h
 
       ok : entryOk (O .offices) (O .plots) (newEntry O s plot value) ≡ true
-      ok = e-ok O S two s N plot value h plot-ok value-ok few-ok read-ok own-zero
+      ok = e-ok O S s N plot value h plot-ok value-ok few-ok read-ok own-zero
 
       small : (x : Entry) → List·Memᴰ x (s .own) → idOf x < 256
-      small x m = omega (arith, id-range (O .offices) (O .plots) x (entry-facts (O .offices) (O .plots) x (own-ok (O .offices) (O .plots) s F x m)), S .few)
+      small x m =
+          omega
+          (arith, id-range (O .offices) (O .plots) x (entry-facts (O .offices) (O .plots) x (own-ok (O .offices) (O .plots) s F x m)), S .few)
 
       not-seen : has (idsOf (s .own)) (idOf (newEntry O s plot value)) ≡ 0
       not-seen =
           ⊎-elim
           (λ (x : has (idsOf (s .own)) (idOf (newEntry O s plot value)) ≡ 1).
           absurd
-          (not-own O S two s N plot value h plot-ok value-ok few-ok read-ok own-zero
-          (ids-from (s .own) small (32 * O .own + made O) (ap (has (idsOf (s .own))) (sym (e-id O S two s N plot value h plot-ok value-ok few-ok read-ok own-zero)) ∙ x))))
+          (not-own O S s N plot value h plot-ok value-ok few-ok read-ok own-zero
+          (ids-from (s .own) small (32 * O .own + made O) (ap (has (idsOf (s .own))) (sym (e-id O S s N plot value h plot-ok value-ok few-ok read-ok own-zero)) ∙ x))))
           (λ x. x) (in-or-out (idsOf (s .own)) (idOf (newEntry O s plot value)))
 
       within : subsetOf (newEntry O s plot value .deps) (unite (s .read) (idsOf (s .own))) ≡ true
       within =
-          subset-by (newEntry O s plot value .deps) (unite (s .read) (idsOf (s .own))) (e-set O S two s N plot value h plot-ok value-ok few-ok read-ok own-zero)
+          subset-by (newEntry O s plot value .deps) (unite (s .read) (idsOf (s .own)))
+          (e-set O S s N plot value h plot-ok value-ok few-ok read-ok own-zero)
           (ids-unite (s .read) (idsOf (s .own)) (N .read) (ids-set (s .own) small))
-          (λ d m. ⊎-elim (λ i. unite-left (s .read) (idsOf (s .own)) (N .read) d i) (λ i. unite-right (s .read) (idsOf (s .own)) (ids-set (s .own) small) d (ids-new (s .own) small d i)) (e-from O S two s N plot value h plot-ok value-ok few-ok read-ok own-zero d m))
+          (λ d m.
+          ⊎-elim (λ i. unite-left (s .read) (idsOf (s .own)) (N .read) d i)
+          (λ i. unite-right (s .read) (idsOf (s .own)) (ids-set (s .own) small) d (ids-new (s .own) small d i))
+          (e-from O S s N plot value h plot-ok value-ok few-ok read-ok own-zero d m))
 
       wrote-session : sessionOk (O .offices) (O .plots) (wroteSession O s plot value) ≡ true
       unfolding wroteSession idsOf
       wrote-session =
           let G = entry-facts (O .offices) (O .plots) (newEntry O s plot value) ok in
-          facts-session (O .offices) (O .plots) (record { offices = s .offices; clock = join (s .clock) (newEntry O s plot value .clock); read = s .read; own = s .own ++ (newEntry O s plot value ∷ []) })
+          facts-session (O .offices) (O .plots)
+          (record {
+            offices = s .offices;
+            clock = join (s .clock) (newEntry O s plot value .clock);
+            read = s .read;
+            own = s .own ++ (newEntry O s plot value ∷ []);
+          })
           (record {
             offices = F .offices;
             few = omega (arith, length-append (s .own) (newEntry O s plot value ∷ []), ltb-true (length (s .own)) 16 room-ok);
@@ -132,10 +150,14 @@ module _ (O : Office) (S : Sound O) (s : Content) (N : SaneContent s) (h : sessi
     pub write-session : (row : List ℕ) → sessionOk (O .offices) (O .plots) (writeOn O s plot value row .session) ≡ true
     unfolding writeOn writeCode check orElse
     write-session row =
-        go (sessionOk (O .offices) (O .plots) s) (ltb plot (O .plots)) refl (ltb value 268435456) refl (ltb (length (s .own)) 16) refl (ltb (made O) 32) refl (subsetOf (s .read) (O .held)) refl (ownCode O (s .own)) refl (leb (length (rowsOf (writeSends O s plot value))) (length row))
+        go (sessionOk (O .offices) (O .plots) s) (ltb plot (O .plots)) refl (ltb value 268435456) refl (ltb (length (s .own)) 16) refl
+        (ltb (made O) 32) refl (subsetOf (s .read) (O .held)) refl (ownCode O (s .own)) refl
+        (leb (length (rowsOf (writeSends O s plot value))) (length row))
       where
-        go : (a b : Bool) → ltb plot (O .plots) ≡ b → (c : Bool) → ltb value 268435456 ≡ c → (d : Bool) → ltb (length (s .own)) 16 ≡ d → (f : Bool) → ltb (made O) 32 ≡ f → (i : Bool) → subsetOf (s .read) (O .held) ≡ i → (x : ℕ) → ownCode O (s .own) ≡ x → (y : Bool) →
-            sessionOk (O .offices) (O .plots) (given (check a 3 (check b 4 (check c 5 (check d 7 (check f 6 (check i 12 (orElse x (check y 8 0)))))))) O s row (R O S two s N plot value row) .session) ≡ true
+        go : (a b : Bool) → ltb plot (O .plots) ≡ b → (c : Bool) → ltb value 268435456 ≡ c → (d : Bool) → ltb (length (s .own)) 16 ≡ d
+            → (f : Bool) → ltb (made O) 32 ≡ f → (i : Bool) → subsetOf (s .read) (O .held) ≡ i → (x : ℕ) → ownCode O (s .own) ≡ x → (y : Bool) →
+            sessionOk (O .offices) (O .plots)
+            (given (check a 3 (check b 4 (check c 5 (check d 7 (check f 6 (check i 12 (orElse x (check y 8 0)))))))) O s row (R O S s N plot value row) .session) ≡ true
         go true true qb true qc true qd true qf true qi zero qx true = wrote-session qb qc qd qf qi qx
         go true true qb true qc true qd true qf true qi zero qx false = h
         go true true qb true qc true qd true qf true qi (suc x) qx y = h

@@ -1,7 +1,10 @@
 pub mod Cases
 pub mod New
+pub mod Refused
+pub mod Accepted
 pub mod Grows
 pub mod KeepCalls
+pub mod Along
 pub mod KeepWrite
 pub mod KeepSession
 pub mod KeptSession

@@ -14,6 +14,7 @@ use Rattle.frame.specs.declared.entry.Entry.{Entry}
 use Rattle.store.specs.Offices.{Found, None, Office, Some, current}
 use Rattle.store.proofs.Best.{Over}
 use Rattle.office.specs.Calls.{allNoneOver, noneOver}
+use Rattle.office.proofs.Cases.{Cases}
 
 module _ (plot : ℕ) where
   -- the test of a joint reading
@@ -22,21 +23,25 @@ module _ (plot : ℕ) where
   none-over [] b t q m h = absurd (List·Memᴰ·not-nil m)
   none-over (e ∷ es) None t q m h =
       let w = both-true (not (eqb (e .plot) plot)) (noneOver plot None es) t in
-      ⊎-elim (λ (x : q ≡ e). clash (eqb (e .plot) plot) (eq-eqb (e .plot) plot (ap (λ (y : Entry). y .plot) (sym x) ∙ h)) (w .0)) (λ x. none-over es None (w .1) q x h) (List·Memᴰ·cases-cons m)
+      ⊎-elim (λ (x : q ≡ e). clash (eqb (e .plot) plot) (eq-eqb (e .plot) plot (ap (λ (y : Entry). y .plot) (sym x) ∙ h)) (w .0))
+      (λ x. none-over es None (w .1) q x h) (List·Memᴰ·cases-cons m)
     where
       clash : (s : Bool) → s ≡ true → not s ≡ true → ⊥
       clash true p r = false-true r
       clash false p r = false-true p
   none-over (e ∷ es) (Some b) t q m h =
       let w = both-true (not (both (eqb (e .plot) plot) (outranks e b))) (noneOver plot (Some b) es) t in
-      ⊎-elim (λ (x : q ≡ e). rw x (clash (eqb (e .plot) plot) (outranks e b) (eq-eqb (e .plot) plot (ap (λ (y : Entry). y .plot) (sym x) ∙ h)) (w .0))) (λ x. none-over es (Some b) (w .1) q x h) (List·Memᴰ·cases-cons m)
+      ⊎-elim
+      (λ (x : q ≡ e). rw x (clash (eqb (e .plot) plot) (outranks e b) (eq-eqb (e .plot) plot (ap (λ (y : Entry). y .plot) (sym x) ∙ h)) (w .0)))
+      (λ x. none-over es (Some b) (w .1) q x h) (List·Memᴰ·cases-cons m)
     where
       clash : (s r : Bool) → s ≡ true → not (both s r) ≡ true → r ≡ false
       clash true true p z = false-true z
       clash true false p z = refl
       clash false r p z = false-true p
 
-  pub all-none-over : (O : Office) (s : Content) (qs : List ℕ) → allNoneOver O s qs ≡ true → List·Memᴰ plot qs → noneOver plot (current O plot) (s .own) ≡ true
+  pub all-none-over : (O : Office) (s : Content) (qs : List ℕ) → allNoneOver O s qs ≡ true → List·Memᴰ plot qs
+      → noneOver plot (current O plot) (s .own) ≡ true
   unfolding allNoneOver
   all-none-over O s [] t m = absurd (List·Memᴰ·not-nil m)
   all-none-over O s (q ∷ qs) t m =

@@ -79,21 +79,26 @@ module _ (O : Office) (plot : ℕ) where
       ⊎-elim (λ (x : k < m). consider-keeps (cand m) (O .entry m) (O .entry k) (bestTo O plot m) (best-over m k x h))
       (λ (x : k ≡ m). rw x (consider-new (cand m) (O .entry m) (bestTo O plot m) (rw x at h))) (split k m l)
 
-  best-from : (m : ℕ) (h : Entry) → bestTo O plot m ≡ Some h → (k : ℕ) × (k < m) × (has (O .visible) k ≡ 1) × (h ≡ O .entry k) × (O .entry k .plot ≡ plot)
+  best-from : (m : ℕ) (h : Entry) → bestTo O plot m ≡ Some h
+      → (k : ℕ) × (k < m) × (has (O .visible) k ≡ 1) × (h ≡ O .entry k) × (O .entry k .plot ≡ plot)
   unfolding bestTo
   best-from zero h q = absurd (some-not h q)
   best-from (suc m) h q =
       ⊎-elim (λ (x : bestTo O plot m ≡ Some h). let r = best-from m h x in (r .0, omega (arith, r .1), r .2, r .3, r .4))
-      (λ (x : (cand m ≡ true) × (h ≡ O .entry m)). let w = both-true (isIn (O .visible) m) (eqb (O .entry m .plot) plot) (x .0) in (m, omega arith, in-is (O .visible) m (w .0), x .1, eqb-true (O .entry m .plot) plot (w .1)))
+      (λ (x : (cand m ≡ true) × (h ≡ O .entry m)).
+      let w = both-true (isIn (O .visible) m) (eqb (O .entry m .plot) plot) (x .0) in
+      (m, omega arith, in-is (O .visible) m (w .0), x .1, eqb-true (O .entry m .plot) plot (w .1)))
       (consider-from (cand m) (O .entry m) h (bestTo O plot m) q)
 
   -- what is visible on the plot does not outrank what is current there
   pub current-over : (k : ℕ) → k < 32 * O .offices → has (O .visible) k ≡ 1 → O .entry k .plot ≡ plot → Over (current O plot) (O .entry k)
   unfolding current
   current-over k l v e =
-      best-over (32 * O .offices) k l (both-intro (isIn (O .visible) k) (eqb (O .entry k .plot) plot) (is-in (O .visible) k v) (eq-eqb (O .entry k .plot) plot e))
+      best-over (32 * O .offices) k l
+      (both-intro (isIn (O .visible) k) (eqb (O .entry k .plot) plot) (is-in (O .visible) k v) (eq-eqb (O .entry k .plot) plot e))
 
-  pub current-from : (h : Entry) → current O plot ≡ Some h → (k : ℕ) × (k < 32 * O .offices) × (has (O .visible) k ≡ 1) × (h ≡ O .entry k) × (O .entry k .plot ≡ plot)
+  pub current-from : (h : Entry) → current O plot ≡ Some h
+      → (k : ℕ) × (k < 32 * O .offices) × (has (O .visible) k ≡ 1) × (h ≡ O .entry k) × (O .entry k .plot ≡ plot)
   unfolding current
   current-from h q = best-from (32 * O .offices) h q
 

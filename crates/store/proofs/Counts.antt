@@ -49,7 +49,10 @@ module _ (f : ℕ → ℕ) (two : (i : ℕ) → f i < 2) where
       go : Counted m → (f m ≡ 1) ⊎ (f m ≡ 1 → ⊥) → Counted (suc m)
       go c (inl h) =
           let u = full m refl c h in
-          record { below = λ s l x. omega arith; all = λ s l. ⊎-elim (λ (y : s < m). c .all s (omega arith)) (λ (y : s ≡ m). rw y h) (split s m (omega arith)) }
+          record {
+            below = λ s l x. omega arith;
+            all = λ s l. ⊎-elim (λ (y : s < m). c .all s (omega arith)) (λ (y : s ≡ m). rw y h) (split s m (omega arith));
+          }
       go c (inr h) =
           let z : f m ≡ 0 = omega (arith, two m) in
           record {

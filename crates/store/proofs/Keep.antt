@@ -50,7 +50,8 @@ part-ids ws fit a l = record { eight = part-length ws a 8 l; fits = fits }
   where
     fits : (i : ℕ) → getD (part ws a 8) i 0 < 2 ^ 32
     fits i = ⊎-elim (λ (h : i < 8). rw (part-at ws a 8 i h) (fit (a + i)))
-        (λ (h : 8 ≤ i). rw (lib.ListN.List·getD-eq-default (part ws a 8) 0 {n = i} (omega (arith, part-length ws a 8 l))) (lib.Dec.lit< tt)) (lt-or-le i 8)
+        (λ (h : 8 ≤ i). rw (lib.ListN.List·getD-eq-default (part ws a 8) 0 {n = i} (omega (arith, part-length ws a 8 l))) (lib.Dec.lit< tt))
+        (lt-or-le i 8)
 
 pub store-facts : (ws : List ℕ) → ((i : ℕ) → getD ws i 0 < 2 ^ 32) → soundStore ws ≡ true → Sound (officeOf ws)
 unfolding soundStore settingsOk soundOffice heldOk gapless officeOf entryAt
@@ -66,7 +67,9 @@ store-facts ws fit h =
     O : Office
     O = officeOf ws
 
-    facts : settingsOk (getD ws 0 0) (getD ws 1 0) (getD ws 2 0) ≡ true → getD ws 0 0 ≤ 8 → need (getD ws 0 0) ≤ length ws → getD ws 1 0 < getD ws 0 0 → subsetOf (officeOf ws .visible) (officeOf ws .held) ≡ true → allBelow 256 (heldOk (officeOf ws)) ≡ true → allBelow 31 (gapless (officeOf ws)) ≡ true → Sound (officeOf ws)
+    facts : settingsOk (getD ws 0 0) (getD ws 1 0) (getD ws 2 0) ≡ true → getD ws 0 0 ≤ 8 → need (getD ws 0 0) ≤ length ws
+        → getD ws 1 0 < getD ws 0 0 → subsetOf (officeOf ws .visible) (officeOf ws .held) ≡ true → allBelow 256 (heldOk (officeOf ws)) ≡ true
+        → allBelow 31 (gapless (officeOf ws)) ≡ true → Sound (officeOf ws)
     facts set few long own vh hs gs =
         record {
           settings = set;
@@ -83,8 +86,14 @@ store-facts ws fit h =
           deps-set = wd;
           held-closed = λ k m. subset-within (officeOf ws .entry k .deps) (part ws 3 8) (wd k m) (each k m .2);
           visible-held = subset-within (part ws 11 8) (part ws 3 8) vw vh;
-          visible-closed = λ k m. let mh = subset-within (part ws 11 8) (part ws 3 8) vw vh k m in subset-within (officeOf ws .entry k .deps) (part ws 11 8) (wd k mh) (each k mh .3 (is-in (part ws 11 8) k m));
-          gap = λ s l m. in-is (part ws 3 8) (32 * getD ws 1 0 + s) (implies-elim _ _ (all-at (gapless (officeOf ws)) 31 gs s l) (is-in (part ws 3 8) (32 * getD ws 1 0 + (s + 1)) m));
+          visible-closed =
+              λ k m.
+              let mh = subset-within (part ws 11 8) (part ws 3 8) vw vh k m in
+              subset-within (officeOf ws .entry k .deps) (part ws 11 8) (wd k mh) (each k mh .3 (is-in (part ws 11 8) k m));
+          gap =
+              λ s l m.
+              in-is (part ws 3 8) (32 * getD ws 1 0 + s)
+              (implies-elim _ _ (all-at (gapless (officeOf ws)) 31 gs s l) (is-in (part ws 3 8) (32 * getD ws 1 0 + (s + 1)) m));
         }
       where
         hw : IdSet (part ws 3 8)
@@ -96,7 +105,8 @@ store-facts ws fit h =
         at : (k : ℕ) → has (part ws 3 8) k ≡ 1 → officeOf ws .entry k ≡ entryAt ws k
         at k m = rw (is-in (part ws 3 8) k m)
 
-        each : (k : ℕ) → has (part ws 3 8) k ≡ 1 → (ltb k (32 * getD ws 0 0) ≡ true) × (entryOk (getD ws 0 0) (getD ws 2 0) (officeOf ws .entry k) ≡ true) × (subsetOf (officeOf ws .entry k .deps) (part ws 3 8) ≡ true) × (isIn (part ws 11 8) k ≡ true → subsetOf (officeOf ws .entry k .deps) (part ws 11 8) ≡ true)
+        each : (k : ℕ) → has (part ws 3 8) k ≡ 1
+            → (ltb k (32 * getD ws 0 0) ≡ true) × (entryOk (getD ws 0 0) (getD ws 2 0) (officeOf ws .entry k) ≡ true) × (subsetOf (officeOf ws .entry k .deps) (part ws 3 8) ≡ true) × (isIn (part ws 11 8) k ≡ true → subsetOf (officeOf ws .entry k .deps) (part ws 11 8) ≡ true)
         each k m =
             let k8 : k < 256 = has-in (part ws 3 8) k (omega (arith, hw .eight)) m in
             let x = implies-elim (isIn (part ws 3 8) k) _ (all-at (heldOk (officeOf ws)) 256 hs k k8) (is-in (part ws 3 8) k m) in
@@ -109,7 +119,9 @@ store-facts ws fit h =
         inside k m = omega (arith, ltb-true k (32 * getD ws 0 0) (each k m .0))
 
         wd : (k : ℕ) → has (part ws 3 8) k ≡ 1 → IdSet (officeOf ws .entry k .deps)
-        wd k m = rw (ap (λ (e : Entry). e .deps) (at k m)) (part-ids ws fit (slotAt k + 10) (omega (arith, ltb-true k (32 * getD ws 0 0) (each k m .0))))
+        wd k m =
+            rw (ap (λ (e : Entry). e .deps) (at k m))
+            (part-ids ws fit (slotAt k + 10) (omega (arith, ltb-true k (32 * getD ws 0 0) (each k m .0))))
 
 pub sound-canon : (O : Office) → Sound O → Canon (O .offices) O
 sound-canon O S =
@@ -181,16 +193,22 @@ module _ (O : Office) (S : Sound O) (e : Entry) (T : Takes O e) where
   old k h = inserted-old (O .held) (idOf e) x8 (S .held-set) k h
 
   -- a property of what the held id k stands for
-  by : (k : ℕ) → has (inserted (O .held) (idOf e)) k ≡ 1 → (Q : Entry → Type 0) → (k ≡ idOf e → Q e) → (has (O .held) k ≡ 1 → Q (O .entry k)) → Q (cond (eqb k (idOf e)) e (O .entry k))
+  by : (k : ℕ) → has (inserted (O .held) (idOf e)) k ≡ 1 → (Q : Entry → Type 0) → (k ≡ idOf e → Q e) → (has (O .held) k ≡ 1 → Q (O .entry k))
+      → Q (cond (eqb k (idOf e)) e (O .entry k))
   by k h Q new kept = ⊎-elim (λ (q : k ≡ idOf e). rw (eq-eqb k (idOf e) q) (new q))
-      (λ (q : k ≡ idOf e → ⊥). rw (ne-eqb k (idOf e) q) (kept (⊎-elim (λ (r : k ≡ idOf e). absurd (q r)) (λ r. r) (in-inserted (O .held) (idOf e) k x8 (S .held-set) h)))) (eq-or-ne k (idOf e))
+      (λ (q : k ≡ idOf e → ⊥).
+      rw (ne-eqb k (idOf e) q) (kept (⊎-elim (λ (r : k ≡ idOf e). absurd (q r)) (λ r. r) (in-inserted (O .held) (idOf e) k x8 (S .held-set) h))))
+      (eq-or-ne k (idOf e))
 
   none : (k : ℕ) → has (inserted (O .held) (idOf e)) k ≡ 0 → cond (eqb k (idOf e)) e (O .entry k) ≡ blankEntry
   none k z = ⊎-elim (λ (q : k ≡ idOf e). absurd (here q))
-      (λ (q : k ≡ idOf e → ⊥). rw (ne-eqb k (idOf e) q) (S .none k (⊎-elim (λ (r : has (O .held) k ≡ 1). omega (arith, old k r)) (λ r. r) (in-or-out (O .held) k)))) (eq-or-ne k (idOf e))
+      (λ (q : k ≡ idOf e → ⊥).
+      rw (ne-eqb k (idOf e) q) (S .none k (⊎-elim (λ (r : has (O .held) k ≡ 1). omega (arith, old k r)) (λ r. r) (in-or-out (O .held) k))))
+      (eq-or-ne k (idOf e))
     where
       here : k ≡ idOf e → ⊥
-      here q = let y : has (inserted (O .held) (idOf e)) (idOf e) ≡ 0 = rw q at z in omega (arith, inserted-new (O .held) (idOf e) x8 (S .held-set))
+      here q =
+          let y : has (inserted (O .held) (idOf e)) (idOf e) ≡ 0 = rw q at z in omega (arith, inserted-new (O .held) (idOf e) x8 (S .held-set))
 
   clash : (k : ℕ) → has (O .visible) k ≡ 1 → k ≡ idOf e → ⊥
   clash k h q = let y : has (O .held) (idOf e) ≡ 1 = rw q at (S .visible-held k h) in omega (arith, T .new)
@@ -207,14 +225,26 @@ module _ (O : Office) (S : Sound O) (e : Entry) (T : Takes O e) where
         range = λ k h. ⊎-elim (λ (q : k ≡ idOf e). rw q x-in) (λ m. S .range k m) (in-inserted (O .held) (idOf e) k x8 (S .held-set) h);
         ok = λ k h. by k h (λ a. entryOk (O .offices) (O .plots) a ≡ true) (λ q. T .ok) (S .ok k);
         none = none;
-        office = λ k h. by k h (λ a. a .office ≡ k / 32) (λ q. sym (id-office (O .offices) (O .plots) e F) ∙ ap (λ (y : ℕ). y / 32) (sym q)) (S .office k);
-        serial = λ k h. by k h (λ a. a .serial ≡ k % 32 + 1) (λ q. sym (id-serial (O .offices) (O .plots) e F) ∙ ap (λ (y : ℕ). y % 32 + 1) (sym q)) (S .serial k);
+        office =
+            λ k h.
+            by k h (λ a. a .office ≡ k / 32) (λ q. sym (id-office (O .offices) (O .plots) e F) ∙ ap (λ (y : ℕ). y / 32) (sym q)) (S .office k);
+        serial =
+            λ k h.
+            by k h (λ a. a .serial ≡ k % 32 + 1) (λ q. sym (id-serial (O .offices) (O .plots) e F) ∙ ap (λ (y : ℕ). y % 32 + 1) (sym q))
+            (S .serial k);
         clock8 = λ k h. by k h (λ a. length (a .clock) ≡ 8) (λ q. T .clock8) (S .clock8 k);
         deps-set = λ k h. by k h (λ a. IdSet (a .deps)) (λ q. T .deps-set) (S .deps-set k);
-        held-closed = λ k h. by k h (λ a. Within (a .deps) (inserted (O .held) (idOf e))) (λ q d m. old d (T .deps-held d m)) (λ m d j. old d (S .held-closed k m d j));
+        held-closed =
+            λ k h.
+            by k h (λ a. Within (a .deps) (inserted (O .held) (idOf e))) (λ q d m. old d (T .deps-held d m))
+            (λ m d j. old d (S .held-closed k m d j));
         visible-held = λ k h. old k (S .visible-held k h);
         visible-closed = λ k h. rw (ne-eqb k (idOf e) (λ q. clash k h q)) (S .visible-closed k h);
-        gap = λ s l h. old (32 * O .own + s) (⊎-elim (λ (q : 32 * O .own + (s + 1) ≡ idOf e). T .next s l q) (λ m. S .gap s l m) (in-inserted (O .held) (idOf e) (32 * O .own + (s + 1)) x8 (S .held-set) h));
+        gap =
+            λ s l h.
+            old (32 * O .own + s)
+            (⊎-elim (λ (q : 32 * O .own + (s + 1) ≡ idOf e). T .next s l q) (λ m. S .gap s l m)
+            (in-inserted (O .held) (idOf e) (32 * O .own + (s + 1)) x8 (S .held-set) h));
       }
 
 -- ---- to reveal
@@ -263,6 +293,8 @@ module _ (O : Office) (S : Sound O) (seeds : List ℕ) (ws : IdSet seeds) (insid
         deps-set = S .deps-set;
         held-closed = S .held-closed;
         visible-held = λ k h. ⊎-elim (λ a. S .visible-held k a) (λ (r : Reached D seeds k). reached-held r) (exact .only k h);
-        visible-closed = λ k h d m. ⊎-elim (λ a. exact .old d (S .visible-closed k a d m)) (λ (r : Reached D seeds k). exact .all d (dep {j = d} r m)) (exact .only k h);
+        visible-closed =
+            λ k h d m.
+            ⊎-elim (λ a. exact .old d (S .visible-closed k a d m)) (λ (r : Reached D seeds k). exact .all d (dep {j = d} r m)) (exact .only k h);
         gap = S .gap;
       }

@@ -1,19 +1,18 @@
 -- To reveal step by step shows the old visible set and just what is reached from the seeds, in as many steps as ids are new.
 -- A loop that takes these steps has `State` for its invariant: `start`, `step`, `done`. Assumes nothing.
-use mathlib.Core.Path.{_≡_, refl, sym, ap, _∙_}
+use Prim.Native.Nat.{ℕ, _*_, _+_, _-_, _<_, _≤_, suc, zero}
+use mathlib.Core.List.{List}
 use mathlib.Core.Logic.{_⊎_, inl, inr, ⊎-elim}
-use mathlib.Core.List.{List, [], _∷_}
-use Prim.Native.Nat.{ℕ, zero, suc, _+_, _-_, _*_, _≤_, _<_}
-use native.Mathlib.Omega.{arith}
+use mathlib.Core.Path.{_∙_, _≡_, ap, refl, sym}
 use native.Mathlib.Nat.{suc-add}
-use lib.ListN.{length}
+use native.Mathlib.Omega.{arith}
 use Rattle.causal.specs.Lists.{sumBelow}
-use Rattle.causal.specs.Sets.{has, IdSet, Within, unite, minus, inserted, lowestOf}
-use Rattle.causal.specs.declared.set.Lowest.{Lowest}
+use Rattle.causal.specs.Sets.{IdSet, Within, has, inserted, lowestOf, minus, unite}
 use Rattle.causal.specs.declared.set.Lowest.the-variants.{At, Empty}
+use Rattle.causal.specs.declared.set.Lowest.{Lowest}
 use Rattle.causal.proofs.Lists.{sum-le}
-use Rattle.causal.proofs.Sets.{has-lt, has-in, has-minus, has-inserted, ids-unite, ids-minus, ids-inserted, lowest-of-at, lowest-of-none, same-words, in-unite, unite-left, unite-right, in-inserted, inserted-old}
-use Rattle.store.specs.Reveal.{steps, revealed, Reached, seed, dep}
+use Rattle.causal.proofs.Sets.{has-in, has-inserted, has-lt, has-minus, ids-inserted, ids-minus, ids-unite, in-inserted, in-unite, inserted-old, lowest-of-at, lowest-of-none, same-words, unite-left, unite-right}
+use Rattle.store.specs.Reveal.{Reached, dep, revealed, seed, steps}
 use Rattle.store.specs.declared.reveal.Revealed.{Revealed}
 use Rattle.store.proofs.Counts.{sum-more}
 
@@ -179,13 +178,15 @@ module _ (D : ℕ → List ℕ) (Held Vis : List ℕ) (n : ℕ) (seeds : List �
   revealed-is-reached w = exact-from (32 * n) seeds Vis 0 (omega arith) (start w)
 
   -- more fuel changes nothing
-  pub fuel-enough : (more f : ℕ) (p v : List ℕ) (c : ℕ) → 32 * n ≤ f + c → State D Held Vis n seeds p v c → steps (f + more) D p v c ≡ steps f D p v c
+  pub fuel-enough : (more f : ℕ) (p v : List ℕ) (c : ℕ) → 32 * n ≤ f + c → State D Held Vis n seeds p v c
+      → steps (f + more) D p v c ≡ steps f D p v c
   fuel-enough more zero p v c l s = by (lowestOf (minus p v)) refl
     where
       by : (o : Lowest) → lowestOf (minus p v) ≡ o → steps (zero + more) D p v c ≡ steps zero D p v c
       by (At k) e = absurd (omega (arith, step p v c k s e .fresh))
       by Empty e = step-end (zero + more) D p v c e ∙ sym (step-end zero D p v c e)
-  fuel-enough more (suc f) p v c l s = by (λ k t. fuel-enough more f (unite p (D k)) (inserted v k) (c + 1) (omega arith) t) (lowestOf (minus p v)) refl
+  fuel-enough more (suc f) p v c l s =
+      by (λ k t. fuel-enough more f (unite p (D k)) (inserted v k) (c + 1) (omega arith) t) (lowestOf (minus p v)) refl
     where
       by : ((k : ℕ) → State D Held Vis n seeds (unite p (D k)) (inserted v k) (c + 1)
           → steps (f + more) D (unite p (D k)) (inserted v k) (c + 1) ≡ steps f D (unite p (D k)) (inserted v k) (c + 1))
@@ -194,9 +195,12 @@ module _ (D : ℕ → List ℕ) (Held Vis : List ℕ) (n : ℕ) (seeds : List �
       by ih Empty e = step-end (suc f + more) D p v c e ∙ sym (step-end (suc f) D p v c e)
 
 -- there is one such set and one such count, so any order of the steps gives them
-pub exactly-one : (D : ℕ → List ℕ) (Vis : List ℕ) (n : ℕ) (seeds v w : List ℕ) (c d : ℕ) → Exactly D Vis n seeds v c → Exactly D Vis n seeds w d → (v ≡ w) × (c ≡ d)
+pub exactly-one : (D : ℕ → List ℕ) (Vis : List ℕ) (n : ℕ) (seeds v w : List ℕ) (c d : ℕ) → Exactly D Vis n seeds v c → Exactly D Vis n seeds w d
+    → (v ≡ w) × (c ≡ d)
 exactly-one D Vis n seeds v w c d x y =
-    let e : v ≡ w = same-words v w (x .sets) (y .sets) (λ k l. agree (has v k) (has w k) (has-lt v k) (has-lt w k) (goes v w c d x y k) (goes w v d c y x k)) in
+    let e : v ≡ w =
+    same-words v w (x .sets) (y .sets) (λ k l. agree (has v k) (has w k) (has-lt v k) (has-lt w k) (goes v w c d x y k) (goes w v d c y x k))
+    in
     let s : sumBelow (32 * n) (has v) ≡ sumBelow (32 * n) (has w) = ap (λ (u : List ℕ). sumBelow (32 * n) (has u)) e in
     (e, omega (arith, x .new, y .new))
   where

@@ -36,14 +36,20 @@ module _ (f : ℕ → List ℕ) where
   slots-length (suc m) h = length-append (slotsTo f m) (f m) ∙ omega (arith, slots-length m (λ j l. h j (omega arith)), h m (omega arith))
 
   -- slot k, in the slots and what follows
-  slots-at : (m : ℕ) → ((j : ℕ) → j < m → length (f j) ≡ 18) → (k : ℕ) → k < m → (Z : List ℕ) → (rest : List ℕ) × (drop (18 * k) (slotsTo f m ++ Z) ≡ f k ++ rest)
+  slots-at : (m : ℕ) → ((j : ℕ) → j < m → length (f j) ≡ 18) → (k : ℕ) → k < m → (Z : List ℕ)
+      → (rest : List ℕ) × (drop (18 * k) (slotsTo f m ++ Z) ≡ f k ++ rest)
   unfolding slotsTo
   slots-at zero h k l Z = absurd (omega arith)
   slots-at (suc m) h k l Z = ⊎-elim
       (λ (x : k < m).
       let r = slots-at m (λ j y. h j (omega arith)) k x (f m ++ Z) in
       (r .0, ap (drop (18 * k)) (append-assoc (slotsTo f m) (f m) Z) ∙ r .1))
-      (λ (x : k ≡ m). (Z, ap (drop (18 * k)) (append-assoc (slotsTo f m) (f m) Z) ∙ drop-at (slotsTo f m) (f m ++ Z) (18 * k) (here x) ∙ ap (λ (y : ℕ). f y ++ Z) (sym x)))
+      (λ (x : k ≡ m). (
+        Z,
+        ap (drop (18 * k)) (append-assoc (slotsTo f m) (f m) Z)
+            ∙ drop-at (slotsTo f m) (f m ++ Z) (18 * k) (here x)
+            ∙ ap (λ (y : ℕ). f y ++ Z) (sym x),
+      ))
       (split k m l)
     where
       here : k ≡ m → length (slotsTo f m) ≡ 18 * k
@@ -57,7 +63,9 @@ module _ (n : ℕ) (O : Office) (C : Canon n O) (ws : List ℕ) (long : need n �
       go : (t : Bool) → isIn (O .held) k ≡ t → length (cond t (entryWords (O .entry k)) (part ws (slotAt k) 18)) ≡ 18
       go true t =
           let h = in-is (O .held) k t in
-          let a : length (O .entry k .clock ++ O .entry k .deps) ≡ 16 = length-append (O .entry k .clock) (O .entry k .deps) ∙ omega (arith, C .clock8 k h, C .deps8 k h) in
+          let a : length (O .entry k .clock ++ O .entry k .deps) ≡ 16 =
+          length-append (O .entry k .clock) (O .entry k .deps) ∙ omega (arith, C .clock8 k h, C .deps8 k h)
+          in
           omega arith
       go false t = part-length ws (slotAt k) 18 (omega (arith, C .offices))
 
@@ -107,7 +115,8 @@ module _ (n : ℕ) (O : Office) (C : Canon n O) (ws : List ℕ) (long : need n �
     from = at-slot .1
 
     plot-is : getD all (slotAt k) 0 ≡ e .plot
-    plot-is = ap (λ (i : ℕ). getD all i 0) (sym (add-zero (slotAt k))) ∙ sym (getD-drop (slotAt k) all 0 0) ∙ ap (λ (l : List ℕ). getD l 0 0) from
+    plot-is =
+        ap (λ (i : ℕ). getD all i 0) (sym (add-zero (slotAt k))) ∙ sym (getD-drop (slotAt k) all 0 0) ∙ ap (λ (l : List ℕ). getD l 0 0) from
 
     value-is : getD all (slotAt k + 1) 0 ≡ e .value
     value-is = sym (getD-drop (slotAt k) all 1 0) ∙ ap (λ (l : List ℕ). getD l 1 0) from
@@ -130,7 +139,16 @@ module _ (n : ℕ) (O : Office) (C : Canon n O) (ws : List ℕ) (long : need n �
 
     entry-back : entryAt all k ≡ O .entry k
     unfolding entryAt
-    entry-back = λ i. record { office = sym (C .office k h) i; serial = sym (C .serial k h) i; plot = plot-is i; value = value-is i; clock = clock-is i; deps = deps-is i }
+    entry-back =
+        λ i.
+        record {
+          office = sym (C .office k h) i;
+          serial = sym (C .serial k h) i;
+          plot = plot-is i;
+          value = value-is i;
+          clock = clock-is i;
+          deps = deps-is i;
+        }
 
   held-back : part all 3 8 ≡ O .held
   unfolding part
@@ -138,7 +156,9 @@ module _ (n : ℕ) (O : Office) (C : Canon n O) (ws : List ℕ) (long : need n �
 
   visible-back : part all 11 8 ≡ O .visible
   unfolding part
-  visible-back = ap (take 8) (sym (drop-drop 8 3 all) ∙ drop-at (O .held) (O .visible ++ (slots ++ Z)) 8 (C .held8)) ∙ take-at (O .visible) (slots ++ Z) 8 (C .visible8)
+  visible-back =
+      ap (take 8) (sym (drop-drop 8 3 all) ∙ drop-at (O .held) (O .visible ++ (slots ++ Z)) 8 (C .held8))
+      ∙ take-at (O .visible) (slots ++ Z) 8 (C .visible8)
 
   each : (k : ℕ) → cond (isIn (part all 3 8) k) (entryAt all k) blankEntry ≡ O .entry k
   each k = ap (λ (l : List ℕ). cond (isIn l k) (entryAt all k) blankEntry) held-back ∙ go (isIn (O .held) k) refl
@@ -149,7 +169,8 @@ module _ (n : ℕ) (O : Office) (C : Canon n O) (ws : List ℕ) (long : need n �
 
   pub store-back : officeOf (storeWords ws O) ≡ O
   unfolding officeOf storeWords
-  store-back = λ i. record { offices = O .offices; own = O .own; plots = O .plots; held = held-back i; visible = visible-back i; entry = λ k. each k i }
+  store-back =
+      λ i. record { offices = O .offices; own = O .own; plots = O .plots; held = held-back i; visible = visible-back i; entry = λ k. each k i }
 
   -- "Words of a row beyond those named stay": past the need, and in the slot of an id that is not held
   pub store-rest : drop (need (O .offices)) (storeWords ws O) ≡ drop (need (O .offices)) ws

@@ -1,0 +1,16 @@
+pub mod Cases
+pub mod Fit
+pub mod ByCases
+pub mod Change
+pub mod Base
+pub mod ReceiveKeeps
+pub mod ReadKeeps
+pub mod Clocks
+pub mod Log
+pub mod WriteKeeps
+pub mod Steps
+pub mod Sounds
+pub mod SameRun
+pub mod Theorem
+pub mod Corrects
+pub mod Played

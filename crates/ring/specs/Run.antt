@@ -1,0 +1,316 @@
+-- Runs of calls. `step` uses an office only through the calls that it is given: with the calls on words it is the run of paper 01,
+-- "Runs"; with the same calls on contents (no words in stores, lines and tokens) it is the protocol by its rules alone. Assumes nothing.
+use Prim.Native.Nat.{ℕ, suc, zero}
+use mathlib.Core.Bool.{cond}
+use mathlib.Core.List.{List, [], _++_, _∷_}
+use lib.Dec.{eqb, ltb}
+use lib.ListN.{length, set}
+use Rattle.causal.specs.Codes.{check}
+use Rattle.frame.specs.Entries.{blankEntry, idOf}
+use Rattle.frame.specs.Frames.{accepts, frameOf, ringOk}
+use Rattle.frame.specs.Sessions.{Content, freshContent, sessionOk}
+use Rattle.frame.specs.TokenCalls.{readTokenCode, writeTokenCode, writeTokenRow}
+use Rattle.frame.specs.Tokens.{contentFrom, tokenWords}
+use Rattle.frame.specs.declared.entry.Entry.{Entry}
+use Rattle.frame.specs.declared.entry.Frame.{Frame}
+use Rattle.store.specs.Offices.{Found, None, Office, Some, emptyOffice}
+use Rattle.office.specs.Calls.{Result, freshCode, jointOn, openOffice, parsed, readJoint, readOn, readPlot, receive, receiveOn, write, writeOn}
+
+-- ---- what there is about
+
+-- a session with its past, as ids
+pub record Tracked : Type 0 where
+  pub session : Content
+  pub past : List ℕ
+
+-- a token (C: its content) with its past
+pub record TrackedToken (C : Type 0) : Type 0 where
+  pub token : C
+  pub past : List ℕ
+
+-- an entry made, with its writer's past
+pub record Made : Type 0 where
+  pub entry : Entry
+  pub past : List ℕ
+
+-- a call that was made: its reply; the lent row afterwards; and of an accepted reading what was handed back on each plot, and the
+-- session's past, which "counts what that reading hands back"
+pub record Event : Type 0 where
+  pub code : ℕ
+  pub count : ℕ
+  pub row : List ℕ
+  pub reads : List (ℕ × Found)
+  pub past : List ℕ
+
+pub record State (A B C : Type 0) : Type 0 where
+  pub stores : ℕ → A
+  pub lines : ℕ → List B
+  pub sessions : List Tracked
+  pub tokens : List (TrackedToken C)
+  pub log : List Made
+  pub events : List Event
+
+-- "any list of writes, single and joint readings, hearings, fresh errands, slip writings and slip readings, with any numbers and room"
+pub data Call : Type 0 where
+  writing : (o i plot value : ℕ) (row : List ℕ) → Call
+  reading : (o i plot : ℕ) → Call
+  joint : (o i : ℕ) (plots row : List ℕ) → Call
+  receiving : (o : ℕ) (row : List ℕ) → Call
+  receiving-words : (o : ℕ) (words row : List ℕ) → Call
+  fresh : (m : ℕ) → Call
+  token-writing : (i : ℕ) (row : List ℕ) → Call
+  token-reading : (t m p : ℕ) → Call
+  copy-session : (i : ℕ) → Call
+  copy-token : (t : ℕ) → Call
+
+-- the calls of an office, whose stores are A, frames B, tokens C
+pub record Calls (A B C : Type 0) : Type 0 where
+  pub on-write : A → Content → ℕ → ℕ → List ℕ → Result A B
+  pub on-read : A → Content → ℕ → Result A B
+  pub on-joint : A → Content → List ℕ → List ℕ → Result A B
+  pub on-receive : A → B → List ℕ → Result A B
+  -- the receive of words that nobody sent
+  pub on-words : A → List ℕ → List ℕ → Result A B
+  pub token-of : Content → C
+  pub token-read : C → Content
+  pub token-code : ℕ → ℕ → C → ℕ
+
+-- ---- helpers
+
+module _ {A : Type 0} where
+  -- the element at i, or none
+  unfoldable pub at : List A → ℕ → List A
+  at [] i = []
+  at (x ∷ l) zero = x ∷ []
+  at (x ∷ l) (suc i) = at l i
+
+  unfoldable pub upd : (ℕ → A) → ℕ → A → ℕ → A
+  upd f i a o = cond (eqb o i) a (f o)
+
+-- "its predecessor (one number lower; for office 0, the last)": whom an office sends to
+unfoldable pub nextOf : ℕ → ℕ → ℕ
+nextOf n o = cond (ltb (suc o) n) (suc o) 0
+
+unfoldable pub writerPast : List Made → ℕ → List ℕ
+writerPast [] k = []
+writerPast (m ∷ ms) k = cond (eqb (idOf (m .entry)) k) (m .past) (writerPast ms k)
+
+-- "An accepted reading adds each entry handed back, with its writer's past"
+unfoldable pub gained : List Made → List Found → List ℕ → List ℕ
+gained log [] past = past
+gained log (None ∷ fs) past = gained log fs past
+gained log (Some e ∷ fs) past = gained log fs (idOf e ∷ (writerPast log (idOf e) ++ past))
+
+unfoldable pub together : List ℕ → List Found → List (ℕ × Found)
+together [] fs = []
+together (q ∷ qs) [] = []
+together (q ∷ qs) (f ∷ fs) = (q, f) ∷ together qs fs
+
+unfoldable pub lastOf : List Entry → Entry
+lastOf [] = blankEntry
+lastOf (e ∷ []) = e
+lastOf (e ∷ (f ∷ es)) = lastOf (f ∷ es)
+
+abbrev pub eventOf : {A B : Type 0} → Result A B → Event
+eventOf r = record { code = r .code; count = r .count; row = r .row; reads = []; past = [] }
+
+abbrev pub answered : ℕ → ℕ → List ℕ → Event
+answered c k row = record { code = c; count = k; row = row; reads = []; past = [] }
+
+module _ {A B C : Type 0} (F : Calls A B C) (n : ℕ) where
+  abbrev pub noted-event : State A B C → Event → State A B C
+  noted-event g v =
+      record { stores = g .stores; lines = g .lines; sessions = g .sessions; tokens = g .tokens; log = g .log; events = g .events ++ (v ∷ []) }
+
+  -- after a refused call "A call gets store and errand as the last call on them left them"
+  abbrev pub turnedBy : State A B C → ℕ → Result A B → State A B C
+  turnedBy g o R =
+      record {
+        stores = upd (g .stores) o (R .store);
+        lines = g .lines;
+        sessions = g .sessions;
+        tokens = g .tokens;
+        log = g .log;
+        events = g .events ++ (eventOf R ∷ []);
+      }
+
+  abbrev pub refusedBy : State A B C → ℕ → ℕ → Tracked → Result A B → State A B C
+  refusedBy g o i r R =
+      record {
+        stores = upd (g .stores) o (R .store);
+        lines = g .lines;
+        sessions = set (g .sessions) i (record { session = R .session; past = r .past });
+        tokens = g .tokens;
+        log = g .log;
+        events = g .events ++ (eventOf R ∷ []);
+      }
+
+  -- an accepted write: "adds the new entry, whose writer's past is the errand's just before"
+  abbrev pub wrote : State A B C → ℕ → ℕ → Tracked → Result A B → State A B C
+  wrote g o i r R =
+      record {
+        stores = upd (g .stores) o (R .store);
+        lines = upd (g .lines) (nextOf n o) (g .lines (nextOf n o) ++ R .sent);
+        sessions = set (g .sessions) i (record { session = R .session; past = idOf (lastOf (R .session .own)) ∷ r .past });
+        tokens = g .tokens;
+        log = g .log ++ (record { entry = lastOf (R .session .own); past = r .past } ∷ []);
+        events = g .events ++ (eventOf R ∷ []);
+      }
+
+  abbrev pub writeBy : State A B C → ℕ → ℕ → Tracked → Result A B → ℕ → State A B C
+  writeBy g o i r R zero = wrote g o i r R
+  writeBy g o i r R (suc c) = refusedBy g o i r R
+
+  -- an accepted reading of plots
+  abbrev pub readIn : State A B C → ℕ → ℕ → Tracked → List ℕ → Result A B → State A B C
+  readIn g o i r plots R =
+      record {
+        stores = upd (g .stores) o (R .store);
+        lines = g .lines;
+        sessions = set (g .sessions) i (record { session = R .session; past = gained (g .log) (R .found) (r .past) });
+        tokens = g .tokens;
+        log = g .log;
+        events =
+            g .events ++
+            (record { code = R .code; count = R .count; row = R .row; reads = together plots (R .found); past = gained (g .log) (R .found) (r .past) } ∷ []);
+      }
+
+  abbrev pub readBy : State A B C → ℕ → ℕ → Tracked → List ℕ → Result A B → ℕ → State A B C
+  readBy g o i r plots R zero = readIn g o i r plots R
+  readBy g o i r plots R (suc c) = refusedBy g o i r R
+
+  abbrev pub received : State A B C → ℕ → List B → Result A B → State A B C
+  received g o rest R =
+      record {
+        stores = upd (g .stores) o (R .store);
+        lines = upd (upd (g .lines) o rest) (nextOf n o) (g .lines (nextOf n o) ++ R .sent);
+        sessions = g .sessions;
+        tokens = g .tokens;
+        log = g .log;
+        events = g .events ++ (eventOf R ∷ []);
+      }
+
+  -- "A frame whose hearing is refused has not been heard"
+  abbrev pub receiveBy : State A B C → ℕ → List B → Result A B → ℕ → State A B C
+  receiveBy g o rest R zero = received g o rest R
+  receiveBy g o rest R (suc c) = turnedBy g o R
+
+  abbrev pub writeAt : State A B C → ℕ → ℕ → ℕ → ℕ → List ℕ → List Tracked → State A B C
+  writeAt g o i plot value row [] = g
+  writeAt g o i plot value row (r ∷ rs) =
+      writeBy g o i r (F .on-write (g .stores o) (r .session) plot value row) (F .on-write (g .stores o) (r .session) plot value row .code)
+
+  abbrev pub readAt : State A B C → ℕ → ℕ → ℕ → List Tracked → State A B C
+  readAt g o i plot [] = g
+  readAt g o i plot (r ∷ rs) =
+      readBy g o i r (plot ∷ []) (F .on-read (g .stores o) (r .session) plot) (F .on-read (g .stores o) (r .session) plot .code)
+
+  abbrev pub jointAt : State A B C → ℕ → ℕ → List ℕ → List ℕ → List Tracked → State A B C
+  jointAt g o i plots row [] = g
+  jointAt g o i plots row (r ∷ rs) =
+      readBy g o i r plots (F .on-joint (g .stores o) (r .session) plots row) (F .on-joint (g .stores o) (r .session) plots row .code)
+
+  -- "a hearing gets, unaltered, the oldest one that its office hasn't heard from its predecessor .. with none waiting, no frame is heard"
+  abbrev pub receiveAt : State A B C → ℕ → List ℕ → List B → State A B C
+  receiveAt g o row [] = g
+  receiveAt g o row (f ∷ rest) = receiveBy g o rest (F .on-receive (g .stores o) f row) (F .on-receive (g .stores o) f row .code)
+
+  abbrev pub withSession : State A B C → Tracked → State A B C
+  withSession g r =
+      record { stores = g .stores; lines = g .lines; sessions = g .sessions ++ (r ∷ []); tokens = g .tokens; log = g .log; events = g .events }
+
+  abbrev pub withToken : State A B C → TrackedToken C → State A B C
+  withToken g r =
+      record { stores = g .stores; lines = g .lines; sessions = g .sessions; tokens = g .tokens ++ (r ∷ []); log = g .log; events = g .events }
+
+  -- "a fresh errand ..; its past is empty"
+  abbrev pub freshBy : State A B C → ℕ → ℕ → State A B C
+  freshBy g m zero = withSession (noted-event g (answered 0 0 [])) (record { session = freshContent m; past = [] })
+  freshBy g m (suc c) = noted-event g (answered (suc c) 0 [])
+
+  -- "Copies, slips and errands read from them keep the past of their origin"
+  abbrev pub tokenBy : State A B C → Tracked → List ℕ → ℕ → State A B C
+  tokenBy g r row zero =
+      withToken (noted-event g (answered 0 (length (tokenWords (r .session))) (writeTokenRow (r .session) row)))
+      (record { token = F .token-of (r .session); past = r .past })
+  tokenBy g r row (suc c) = noted-event g (answered (suc c) 0 (writeTokenRow (r .session) row))
+
+  abbrev pub tokenAt : State A B C → List ℕ → List Tracked → State A B C
+  tokenAt g row [] = g
+  tokenAt g row (r ∷ rs) = tokenBy g r row (writeTokenCode (r .session) (length row))
+
+  abbrev pub fromToken : State A B C → TrackedToken C → ℕ → State A B C
+  fromToken g r zero = withSession (noted-event g (answered 0 0 [])) (record { session = F .token-read (r .token); past = r .past })
+  fromToken g r (suc c) = noted-event g (answered (suc c) 0 [])
+
+  abbrev pub fromTokenAt : State A B C → ℕ → ℕ → List (TrackedToken C) → State A B C
+  fromTokenAt g m p [] = g
+  fromTokenAt g m p (r ∷ rs) = fromToken g r (F .token-code m p (r .token))
+
+  abbrev pub copySession : State A B C → List Tracked → State A B C
+  copySession g [] = g
+  copySession g (r ∷ rs) = withSession g r
+
+  abbrev pub copyToken : State A B C → List (TrackedToken C) → State A B C
+  copyToken g [] = g
+  copyToken g (r ∷ rs) = withToken g r
+
+  -- "or else words that it refuses with 9": other words are no call of a run
+  abbrev pub wordsBy : State A B C → ℕ → Result A B → State A B C
+  wordsBy g o R = cond (eqb (R .code) 9) (turnedBy g o R) g
+
+  unfoldable pub step : State A B C → Call → State A B C
+  step g (writing o i plot value row) = cond (ltb o n) (writeAt g o i plot value row (at (g .sessions) i)) g
+  step g (reading o i plot) = cond (ltb o n) (readAt g o i plot (at (g .sessions) i)) g
+  step g (joint o i plots row) = cond (ltb o n) (jointAt g o i plots row (at (g .sessions) i)) g
+  step g (receiving o row) = cond (ltb o n) (receiveAt g o row (g .lines o)) g
+  step g (receiving-words o words row) = cond (ltb o n) (wordsBy g o (F .on-words (g .stores o) words row)) g
+  step g (fresh m) = freshBy g m (freshCode m)
+  step g (token-writing i row) = tokenAt g row (at (g .sessions) i)
+  step g (token-reading t m p) = fromTokenAt g m p (at (g .tokens) t)
+  step g (copy-session i) = copySession g (at (g .sessions) i)
+  step g (copy-token t) = copyToken g (at (g .tokens) t)
+
+  -- the calls in order
+  unfoldable pub run : State A B C → List Call → State A B C
+  run g [] = g
+  run g (c ∷ cs) = run (step g c) cs
+
+-- "It starts with every office of one ring freshly opened and no errand, slip or frame about"
+abbrev pub starting : {A B C : Type 0} → (ℕ → A) → State A B C
+starting stores = record { stores = stores; lines = λ o. []; sessions = []; tokens = []; log = []; events = [] }
+
+-- ---- on words, and on contents
+
+unfoldable pub onWords : Calls (List ℕ) (List ℕ) (List ℕ)
+onWords =
+    record {
+      on-write = write;
+      on-read = readPlot;
+      on-joint = readJoint;
+      on-receive = receive;
+      on-words = receive;
+      token-of = tokenWords;
+      token-read = contentFrom;
+      token-code = readTokenCode;
+    }
+
+unfoldable pub onContents : Calls Office Frame Content
+onContents =
+    record {
+      on-write = writeOn;
+      on-read = readOn;
+      on-joint = jointOn;
+      on-receive = receiveOn;
+      on-words = λ O words row. parsed (accepts (O .offices) (O .plots) words) O row (receiveOn O (frameOf words) row);
+      token-of = λ s. s;
+      token-read = λ s. s;
+      token-code = λ n p s. check (ringOk n p) 1 (check (sessionOk n p s) 9 0);
+    }
+
+-- rows o is any row long enough for office o
+unfoldable pub wordsRun : ℕ → ℕ → (ℕ → List ℕ) → List Call → State (List ℕ) (List ℕ) (List ℕ)
+wordsRun n p rows cs = run onWords n (starting (λ o. openOffice n o p (rows o) .1)) cs
+
+unfoldable pub contentsRun : ℕ → ℕ → List Call → State Office Frame Content
+contentsRun n p cs = run onContents n (starting (λ o. emptyOffice n o p)) cs
