@@ -103,9 +103,9 @@ module _ (n p : ℕ) (two : 2 ≤ n) (eight : n ≤ 8) (one : 1 ≤ p) (p64 : p 
           content = ap (λ (O : Office). O .entry (idOf (m .entry))) (S .stores q lq) ∙ w .offices q .entry-is (idOf (m .entry)) h ∙ A .entry m i;
         }
 
-    past-visible : (o : ℕ) → (m : Made) → List·Memᴰ m (c .log) → has (c .stores o .visible) (idOf (m .entry)) ≡ 1 → (x : ℕ)
+    past-shown : (o : ℕ) → (m : Made) → List·Memᴰ m (c .log) → has (c .stores o .visible) (idOf (m .entry)) ≡ 1 → (x : ℕ)
         → List·Memᴰ x (m .past) → has (c .stores o .visible) x ≡ 1
-    past-visible o m i h x j =
+    past-shown o m i h x j =
         writer-visible (shape n two (entryIn (c .log))) (wpast (writerPast (c .log))) (world c) (w .inv) (w .law) o (idOf (m .entry)) x
         (made-m m i) h (rw (A .past m i) j)
 
@@ -175,9 +175,12 @@ module _ (n p : ℕ) (two : 2 ≤ n) (eight : n ≤ 8) (one : 1 ≤ p) (p64 : p 
           past-held = λ o q lt lq m i h d j x.
               holds-entry q lq d (in-c d j)
               (w .inv .visible-held o (idOf (d .entry)) q lq
-              (past-visible o m (in-c m i) (visible-c o (idOf (m .entry)) lt h) (idOf (d .entry)) x));
+              (past-shown o m (in-c m i) (visible-c o (idOf (m .entry)) lt h) (idOf (d .entry)) x));
+          past-visible = λ o lt m i h d j x.
+              ap (λ (O : Office). has (O .visible) (idOf (d .entry))) (S .stores o lt)
+              ∙ past-shown o m (in-c m i) (visible-c o (idOf (m .entry)) lt h) (idOf (d .entry)) x;
           past-current = λ o lt m i h d j x.
-              let t = is-current o lt d (in-c d j) (past-visible o m (in-c m i) (visible-c o (idOf (m .entry)) lt h) (idOf (d .entry)) x) in
+              let t = is-current o lt d (in-c d j) (past-shown o m (in-c m i) (visible-c o (idOf (m .entry)) lt h) (idOf (d .entry)) x) in
               (t .0, ap (λ (O : Office). current O (d .entry .plot)) (S .stores o lt) ∙ t .1, t .2);
           reads = λ v i q f m d j x e.
               let ed : entryIn (c .log) (idOf (d .entry)) ≡ d .entry = A .entry d (in-c d j) in

@@ -57,6 +57,9 @@ pub record Holds (n : ℕ) (rows : ℕ → List ℕ) (g : State (List ℕ) (List
       → HoldsEntry (g .stores q) (m .entry)
   pub past-held : (o q : ℕ) → o < n → q < n → (m : Made) → List·Memᴰ m (g .log) → Shows (g .stores o) (m .entry) →
       (d : Made) → List·Memᴰ d (g .log) → List·Memᴰ (idOf (d .entry)) (m .past) → HoldsEntry (g .stores q) (d .entry)
+  -- .. and that past is visible with it
+  pub past-visible : (o : ℕ) → o < n → (m : Made) → List·Memᴰ m (g .log) → Shows (g .stores o) (m .entry) → (d : Made) → List·Memᴰ d (g .log)
+      → List·Memᴰ (idOf (d .entry)) (m .past) → Shows (g .stores o) (d .entry)
   -- for each entry of that past, the entry current on its plot at the office that shows is it or outranks it
   pub past-current : (o : ℕ) → o < n → (m : Made) → List·Memᴰ m (g .log) → Shows (g .stores o) (m .entry) →
       (d : Made) → List·Memᴰ d (g .log) → List·Memᴰ (idOf (d .entry)) (m .past) →
