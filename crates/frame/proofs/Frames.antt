@@ -157,7 +157,7 @@ module _ (f : Frame) where
 -- ---- a row that passes the checks is the writing of its fields
 
 -- clock words are the words of the clock that they give
-clock-again : (ws : List ℕ) (i n : ℕ) → n ≤ 8 → i + n ≤ length ws → clockKinds ws i n ≡ true → part ws i n ≡ clockWords n (clockFrom ws i n)
+pub clock-again : (ws : List ℕ) (i n : ℕ) → n ≤ 8 → i + n ≤ length ws → clockKinds ws i n ≡ true → part ws i n ≡ clockWords n (clockFrom ws i n)
 unfolding clockKinds
 clock-again ws i n h l e =
     ext-getD 0 (part ws i n) (clockWords n (clockFrom ws i n)) (part-length ws i n l ∙ sym (length-clock n (clockFrom ws i n)))

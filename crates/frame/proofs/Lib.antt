@@ -11,3 +11,7 @@ pub mod Back
 pub mod Tokens
 pub mod Payloads
 pub mod Changed
+pub mod OwnTurns
+pub mod TokenTurns
+pub mod TokenChecks
+pub mod TokenReads

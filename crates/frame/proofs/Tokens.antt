@@ -111,14 +111,14 @@ module _ (s : Content) (ring : ringOk (s .offices) 64 ≡ true) (ok : sessionOk 
   pub is-r : tokenReads row ≡ length (idWords (s .read))
   is-r = head-r (s .offices) (length (s .own)) (length (idWords (s .read))) (G .high) (F .few) (reads-le (s .read))
 
-  clock-at-row : (j : ℕ) → j < s .offices → getD row (1 + j) 0 ≡ clockWord (s .clock) j
+  pub clock-at-row : (j : ℕ) → j < s .offices → getD row (1 + j) 0 ≡ clockWord (s .clock) j
   clock-at-row j h =
       let q : 1 + j ≡ suc j = omega arith in
       ap (λ (i : ℕ). getD row i 0) q
       ∙ List·getD-append U (D ++ (Ow ++ (c ∷ []))) 0 j (omega (arith, length-clock (s .offices) (s .clock)))
       ∙ clock-at (s .offices) (s .clock) j h
 
-  after-clock : drop (1 + s .offices) row ≡ D ++ (Ow ++ (c ∷ []))
+  pub after-clock : drop (1 + s .offices) row ≡ D ++ (Ow ++ (c ∷ []))
   after-clock =
       let q : 1 + s .offices ≡ suc (s .offices) = omega arith in
       ap (λ (i : ℕ). drop i row) q ∙ drop-at U (D ++ (Ow ++ (c ∷ []))) (s .offices) (length-clock (s .offices) (s .clock))

@@ -6,4 +6,5 @@ pub mod Reading
 pub mod Calls
 pub mod Sessions
 pub mod Tokens
+pub mod TokenReading
 pub mod TokenCalls

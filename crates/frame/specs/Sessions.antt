@@ -1,15 +1,15 @@
 -- Sessions (01: errands): content, and when one is sound. Paper 01, "Entries and rank", "Sound stores and errands". Assumes nothing.
-use Prim.Native.Nat.{ℕ}
+use Prim.Native.Nat.{ℕ, _-_}
 use mathlib.Core.Bool.{Bool, true, not}
-use mathlib.Core.List.{List, [], _∷_, foldl}
+use mathlib.Core.List.{List, [], _∷_, _++_, foldl}
 use lib.Dec.{leb, eqb}
-use lib.ListN.{length, getD}
+use lib.ListN.{length, getD, replicate}
 use Rattle.causal.specs.Tests.{both}
 use Rattle.causal.specs.Lists.{tab, zeros}
 use Rattle.causal.specs.Sets.{isIn, unite, inserted, subsetOf}
 use Rattle.frame.specs.declared.entry.Entry.{Entry}
 use Rattle.frame.specs.declared.session.Session.{Session}
-use Rattle.frame.specs.Entries.{idOf, clockOk, idsOk, entryOk}
+use Rattle.frame.specs.Entries.{idOf, clockOk, idsOk, entryOk, blankEntry}
 
 -- "An errand has a clock, a set of read names, and its own entries in writing order"
 pub record Content : Type 0 where
@@ -27,6 +27,14 @@ unfoldable pub contentOf : Session → Content
 contentOf s =
     record { offices = s .offices; clock = s .clock; read = s .read; own = tab (s .count) (λ i. getD (s .own) i nobody) }
 
+-- a row of sixteen: the entries, and blanks behind them
+unfoldable pub filled : List Entry → List Entry
+filled es = es ++ replicate (16 - length es) blankEntry
+
+-- the session that says a content of at most 16 own writes, with blanks behind them: `contentOf (sessionOf c) ≡ c`
+unfoldable pub sessionOf : Content → Session
+sessionOf c = record { offices = c .offices; clock = c .clock; read = c .read; count = length (c .own); own = filled (c .own) }
+
 -- the ids of entries, as a set
 unfoldable pub idsOf : List Entry → List ℕ
 idsOf es = foldl (λ (s : List ℕ) (e : Entry). inserted s (idOf e)) zeros es
@@ -39,6 +47,10 @@ ownOk n p read seen (e ∷ es) =
     both (entryOk n p e)
     (both (not (isIn seen (idOf e)))
     (both (subsetOf (e .deps) (unite read seen)) (ownOk n p read (inserted seen (idOf e)) es)))
+
+-- the same of one own write, the last: seen is the set of the earlier ones
+unfoldable pub ownTurn : ℕ → ℕ → List ℕ → List ℕ → Entry → Bool
+ownTurn n p read seen e = both (entryOk n p e) (both (not (isIn seen (idOf e))) (subsetOf (e .deps) (unite read seen)))
 
 -- "An errand is sound for a store if the ring size agrees, it carries at most 16, names, clocks and plots are in range for that ring and
 -- those plots, .."

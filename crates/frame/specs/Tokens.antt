@@ -16,6 +16,10 @@ unfoldable pub rowsOf : List Frame → List ℕ
 rowsOf [] = []
 rowsOf (f ∷ fs) = frameWords f ++ rowsOf fs
 
+-- own entries, "each own entry as a frame with 0 still to hear"
+abbrev pub ownRows : ℕ → List Entry → List ℕ
+ownRows n es = rowsOf (map (framed n 0) es)
+
 -- "kind 8 head (bits 27–24 offices, 23–16 own entries, 15–9 zero, 8–0 read names)"
 abbrev pub tokenHead : ℕ → ℕ → ℕ → ℕ
 tokenHead n owns reads = 2147483648 + (n * 16777216 + (owns * 65536 + reads))

@@ -6,7 +6,7 @@ ghost use lib.Dec.{eqb};
 ghost use lib.ListN.{getD};
 ghost use Rattle.causal.specs.Tests.{both};
 ghost use Rattle.causal.specs.Sets.{isIn};
-ghost use Rattle.frame.specs.Entries.{clockPlaceOk, clockOk, idsPlaceOk, idsOk, boundsOk, entryOk, outranks as outranksOf, blankEntry};
+ghost use Rattle.frame.specs.Entries.{idOf, clockPlaceOk, clockOk, idsPlaceOk, idsOk, boundsOk, entryOk, outranks as outranksOf, blankEntry};
 ghost use Rattle.frame.specs.Frames.{ringOk, frameOk};
 
 #[repr(C)]
@@ -152,6 +152,17 @@ pub fn frame_ok(n: u32, p: u32, f: Frame) -> bool
     }
     let e = f.entry;
     entry_ok(n, p, e)
+}
+
+// The id of an entry: 32 to an office.
+pub fn id_of(e: Entry) -> usize
+    ensures { λ r. ⌜ r ≡ idOf e ⌝ }
+{
+    let first = 32 * e.office as usize;
+    if e.serial < 1 {
+        return first;
+    }
+    first + (e.serial - 1) as usize
 }
 
 // Does e outrank f?

@@ -1,7 +1,8 @@
-// Entries and frames as rows of words.
+// Entries, sessions, frames and tokens; frames and tokens as rows of words.
 pub mod entry;
 pub mod reader;
 pub mod refusal;
 pub mod session;
+pub mod token;
 pub mod word;
 pub mod writer;

@@ -1,4 +1,9 @@
 // Sessions (01: errands).
+ghost use mathlib.Core.Path.{_≡_};
+ghost use Prim.Native.Nat.{_≤_};
+ghost use lib.ListN.{getD};
+ghost use Rattle.causal.specs.Lists.{tab, zeros};
+ghost use Rattle.frame.specs.Sessions.{nobody, contentOf, sessionOf, idsOf, ownTurn, ownOk, sessionOk, freshContent};
 use crate::entry::Entry;
 
 #[repr(C)]
@@ -8,4 +13,108 @@ pub struct Session {
     pub read: [u32; 8],
     pub count: usize,
     pub own: [Entry; 16], // the first `count` are its own writes, in order; the rest means nothing
+}
+
+// What stands where there is no session: all zeros.
+pub fn blank_session() -> Session
+    ensures { λ r. ⌜ r ≡ sessionOf (freshContent 0) ⌝ }
+{
+    let clock = [0u32; 8];
+    let read = [0u32; 8];
+    let entry = crate::entry::blank_entry();
+    let own = [entry; 16];
+    Session {
+        offices: 0,
+        clock,
+        read,
+        count: 0,
+        own,
+    }
+}
+
+// One own write: the entry rules, an id that is not among the earlier ones, and no dependency but on what was read or written before.
+fn own_ok(n: u32, p: u32, read: [u32; 8], seen: [u32; 8], e: Entry) -> bool
+    requires { ⌜ n ≤ 8 ⌝ }
+    ensures { λ r. ⌜ r ≡ ownTurn n p read seen e ⌝ }
+{
+    if !crate::entry::entry_ok(n, p, e) {
+        return false;
+    }
+    let id = crate::entry::id_of(e);
+    if causal::set::contains(seen, id) {
+        return false;
+    }
+    let deps = e.deps;
+    let known = causal::set::union(read, seen);
+    causal::set::subset(deps, known)
+}
+
+// The own writes, with the set of the ids seen so far.
+fn owns_ok(n: u32, p: u32, read: [u32; 8], own: [Entry; 16], count: usize) -> bool
+    requires { ⌜ (n ≤ 8) × (count ≤ 16) ⌝ }
+    ensures { λ r. ⌜ r ≡ ownOk n p read zeros (tab count (λ i. getD own i nobody)) ⌝ }
+{
+    let mut seen = [0u32; 8];
+    for i in 0..count {
+        let e = own[i];
+        if !own_ok(n, p, read, seen, e) {
+            return false;
+        }
+        let id = crate::entry::id_of(e);
+        let more = causal::set::insert(seen, id);
+        seen = more;
+    }
+    true
+}
+
+// 01: is a session sound for a ring of so many offices, with so many plots?
+pub fn session_ok(s: Session, offices: u32, plots: u32) -> bool
+    requires { ⌜ offices ≤ 8 ⌝ }
+    ensures { λ r. ⌜ r ≡ sessionOk offices plots (contentOf s) ⌝ }
+{
+    if s.offices != offices {
+        return false;
+    }
+    let count = s.count;
+    if count > 16 {
+        return false;
+    }
+    let clock = s.clock;
+    if !crate::entry::clock_ok(offices as usize, clock) {
+        return false;
+    }
+    let read = s.read;
+    if !crate::entry::ids_ok(offices as usize, read) {
+        return false;
+    }
+    if count == 0 {
+        return true;
+    }
+    let own = s.own;
+    owns_ok(offices, plots, read, own, count)
+}
+
+// The ids of the first `count` of own.
+fn ids_of(own: [Entry; 16], count: usize) -> [u32; 8]
+    requires { ⌜ count ≤ 16 ⌝ }
+    ensures { λ r. ⌜ r ≡ idsOf (tab count (λ i. getD own i nobody)) ⌝ }
+{
+    let mut ids = [0u32; 8];
+    for i in 0..count {
+        let e = own[i];
+        let id = crate::entry::id_of(e);
+        let more = causal::set::insert(ids, id);
+        ids = more;
+    }
+    ids
+}
+
+// The ids of a session's own writes.
+pub fn own_ids(s: Session) -> [u32; 8]
+    requires { ⌜ s .count ≤ 16 ⌝ }
+    ensures { λ r. ⌜ r ≡ idsOf (contentOf s .own) ⌝ }
+{
+    let count = s.count;
+    let own = s.own;
+    ids_of(own, count)
 }

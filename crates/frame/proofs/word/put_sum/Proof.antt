@@ -1,9 +1,7 @@
-use lib.ListN.{set}
-use lib.Seq.{length-take-le}
 use native.Mathlib.Omega.{arith}
-use Prim.Native.Nat.{ℕ, _+_, _-_, _*_, _/_, _%_, _≤_, _<_}
-use mathlib.Core.Path.{_≡_, refl, sym, ap, _∙_}
-use lib.ListN.{length, getD, take, drop, set}
+use Prim.Native.Nat.{ℕ, _+_}
+use mathlib.Core.Path.{ap}
+use lib.ListN.{set, length-take}
 use borrow.Author.Needs.{needs}
 use Rattle.frame.proofs.word.put_sum.Statement.{statement}
 use Rattle.frame.proofs.word.put_sum.Tie as tie
@@ -12,7 +10,7 @@ slice-reshare-prefix-check-sum : tie.Need-slice-reshare-prefix-check-sum
 slice-reshare-prefix-check-sum c = search needs
 
 slice-aggregate-check-sum : tie.Need-slice-aggregate-check-sum
-slice-aggregate-check-sum c = sym (length-take-le (c .before .before .args .end) (c .before .before .args .out .now) (omega (arith, c .before .before .pre)))
+slice-aggregate-check-sum c = simp length-take (omega (arith, c .before .before .pre))
 
 check-sum-requires : tie.Need-check-sum-requires
 check-sum-requires c κs = search needs

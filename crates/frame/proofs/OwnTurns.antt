@@ -1,0 +1,96 @@
+-- What each turn of the loops over own writes does; the session that says a content. Assumes nothing.
+use Prim.Native.Nat.{ℕ, zero, suc, _+_, _-_, _<_, _≤_}
+use mathlib.Core.Path.{_≡_, refl, sym, ap, _∙_}
+use mathlib.Core.Bool.{Bool, true, false, not}
+use mathlib.Core.List.{List, [], _∷_, _++_, foldl-append}
+use lib.Dec.{leb, eqb}
+use lib.ListN.{length, getD, replicate, List·getD-append}
+use lib.Seq.{ext-getD}
+use Rattle.causal.specs.Tests.{both, allBelow}
+use Rattle.causal.specs.Lists.{tab, zeros}
+use Rattle.causal.specs.Sets.{isIn, unite, inserted, subsetOf}
+use Rattle.causal.proofs.Lists.{tab-length, tab-at, tab-more}
+use Rattle.frame.specs.declared.entry.Entry.{Entry}
+use Rattle.frame.specs.declared.session.Session.{Session}
+use Rattle.frame.specs.Entries.{idOf, clockOk, idsOk, entryOk, blankEntry}
+use Rattle.frame.specs.Sessions.{Content, nobody, contentOf, filled, sessionOf, idsOf, ownTurn, ownOk, sessionOk}
+use Rattle.frame.proofs.Sessions.{idsWith}
+
+-- ---- chains
+
+both-end : (a : Bool) → both a true ≡ a
+unfolding both
+both-end true = refl
+both-end false = refl
+
+both-assoc : (a b c : Bool) → both (both a b) c ≡ both a (both b c)
+unfolding both
+both-assoc true b c = refl
+both-assoc false b c = refl
+
+-- ---- own writes, one after the other
+
+pub own-snoc : (n p : ℕ) (read seen : List ℕ) (es : List Entry) (e : Entry)
+    → ownOk n p read seen (es ++ (e ∷ [])) ≡ both (ownOk n p read seen es) (ownTurn n p read (idsWith seen es) e)
+unfolding ownOk ownTurn both
+own-snoc n p read seen [] e =
+    ap (λ (b : Bool). both (entryOk n p e) (both (not (isIn seen (idOf e))) b)) (both-end (subsetOf (e .deps) (unite read seen)))
+own-snoc n p read seen (x ∷ es) e =
+    let A : Bool = entryOk n p x in
+    let B : Bool = not (isIn seen (idOf x)) in
+    let C : Bool = subsetOf (x .deps) (unite read seen) in
+    let R : Bool = ownOk n p read (inserted seen (idOf x)) es in
+    let T : Bool = ownTurn n p read (idsWith (inserted seen (idOf x)) es) e in
+    ap (λ (b : Bool). both A (both B (both C b))) (own-snoc n p read (inserted seen (idOf x)) es e)
+    ∙ sym (both-assoc A (both B (both C R)) T ∙ ap (both A) (both-assoc B (both C R) T ∙ ap (both B) (both-assoc C R T)))
+
+-- the ids of one own write more
+pub ids-next : (f : ℕ → Entry) (i : ℕ) → idsOf (tab (i + 1) f) ≡ inserted (idsOf (tab i f)) (idOf (f i))
+unfolding idsOf
+ids-next f i = ap idsOf (tab-more i f) ∙ foldl-append (λ (s : List ℕ) (e : Entry). inserted s (idOf e)) zeros (tab i f) (f i ∷ [])
+
+pub ids-turn : (f : ℕ → Entry) (i k : ℕ) (s r : List ℕ) → s ≡ idsOf (tab i f) → k ≡ idOf (f i) → r ≡ inserted s k → r ≡ idsOf (tab (i + 1) f)
+ids-turn f i k s r p q e =
+    e ∙ ap (λ (l : List ℕ). inserted l k) p ∙ ap (inserted (idsOf (tab i f))) q ∙ sym (ids-next f i)
+
+-- own write i, behind those before it
+abbrev pub OwnAt : ℕ → ℕ → List ℕ → (ℕ → Entry) → ℕ → Bool
+OwnAt n p read f i = ownTurn n p read (idsOf (tab i f)) (f i)
+
+pub owns-below : (n p : ℕ) (read : List ℕ) (f : ℕ → Entry) (m : ℕ) → allBelow m (OwnAt n p read f) ≡ ownOk n p read zeros (tab m f)
+unfolding allBelow tab ownOk idsOf
+owns-below n p read f zero = refl
+owns-below n p read f (suc m) =
+    ap (λ (b : Bool). both b (OwnAt n p read f m)) (owns-below n p read f m) ∙ sym (own-snoc n p read zeros (tab m f) (f m))
+
+pub own-turn : (n p : ℕ) (read seen : List ℕ) (f : ℕ → Entry) (i : ℕ) (r : Bool) → seen ≡ idsOf (tab i f) → r ≡ ownTurn n p read seen (f i) → r ≡ OwnAt n p read f i
+own-turn n p read seen f i r q e = e ∙ ap (λ (s : List ℕ). ownTurn n p read s (f i)) q
+
+-- ---- a session as its content
+
+abbrev pub ownsOf : List Entry → ℕ → Entry
+ownsOf own i = getD own i nobody
+
+pub session-is : (n p : ℕ) (s : Session)
+    → both (eqb (s .offices) n) (both (leb (s .count) 16) (both (clockOk n (s .clock)) (both (idsOk n (s .read)) (ownOk n p (s .read) zeros (tab (s .count) (ownsOf (s .own)))))))
+    ≡ sessionOk n p (contentOf s)
+unfolding sessionOk contentOf
+session-is n p s =
+    ap (λ (m : ℕ). both (eqb (s .offices) n) (both (leb m 16) (both (clockOk n (s .clock)) (both (idsOk n (s .read)) (ownOk n p (s .read) zeros (tab (s .count) (ownsOf (s .own))))))))
+    (sym (tab-length (s .count) (ownsOf (s .own))))
+
+pub none-ok : (n p : ℕ) (read : List ℕ) (f : ℕ → Entry) (m : ℕ) → m ≡ 0 → true ≡ ownOk n p read zeros (tab m f)
+unfolding ownOk tab
+none-ok n p read f m e = rw e refl
+
+-- the content of the session that says it
+pub content-back : (c : Content) → length (c .own) ≤ 16 → contentOf (sessionOf c) ≡ c
+unfolding contentOf sessionOf filled
+content-back c h =
+    let own : tab (length (c .own)) (ownsOf (filled (c .own))) ≡ c .own =
+    ext-getD nobody (tab (length (c .own)) (ownsOf (filled (c .own)))) (c .own) (tab-length (length (c .own)) (ownsOf (filled (c .own))))
+    (λ i l.
+    let m : i < length (c .own) = rw (tab-length (length (c .own)) (ownsOf (filled (c .own)))) at l in
+    tab-at (length (c .own)) (ownsOf (filled (c .own))) i nobody m ∙ List·getD-append (c .own) (replicate (16 - length (c .own)) blankEntry) nobody i m)
+    in
+    λ i. record { offices = c .offices; clock = c .clock; read = c .read; own = own i }

@@ -1,0 +1,316 @@
+// Tokens (01: slips): a session as a row of words.
+ghost use mathlib.Core.Path.{_≡_};
+ghost use mathlib.Core.Bool.{true, false};
+ghost use Prim.Native.Nat.{ℕ, _+_, _<_, _≤_};
+ghost use lib.ListN.{length, getD, take};
+ghost use lib.Seq.{sets};
+ghost use Rattle.causal.specs.Lists.{tab};
+ghost use Rattle.frame.specs.Refusals.{numberOf, codeOf, replyOf};
+ghost use Rattle.frame.specs.Frames.{ringOk, framed, frameWords, frameOk, frameOf};
+ghost use Rattle.frame.specs.Calls.{laid};
+ghost use Rattle.frame.specs.Sessions.{nobody, contentOf, filled, sessionOf, sessionOk, freshContent};
+ghost use Rattle.frame.specs.Tokens.{ownRows, tokenHead, tokenWords, frameLength, ownFrom, contentFrom};
+ghost use Rattle.frame.specs.TokenReading.{tokenShape, ownFrameOk, ownFramesOk, fieldsOk};
+ghost use Rattle.frame.specs.TokenCalls.{readTokenCode, readToken, writeToken, writeTokenRow};
+use crate::entry::Entry;
+use crate::entry::Frame;
+use crate::refusal::Refusal;
+use crate::refusal::Status;
+use crate::refusal::Written;
+use crate::session::Session;
+
+// ---- writing
+
+// An own write on no way: none still to hear.
+fn own_frame(n: u32, e: Entry) -> Frame
+    ensures { λ r. ⌜ r ≡ framed n 0 e ⌝ }
+{
+    Frame {
+        offices: n,
+        hops: 0,
+        entry: e,
+    }
+}
+
+// How many words the own writes take.
+fn own_words(n: u32, own: [Entry; 16], count: usize) -> usize
+    requires { ⌜ (n ≤ 8) × (count ≤ 16) ⌝ }
+    ensures { λ r. ⌜ r ≡ length (ownRows n (tab count (λ i. getD own i nobody))) ⌝ }
+{
+    let mut words: usize = 0;
+    for i in 0..count {
+        let e = own[i];
+        let frame = own_frame(n, e);
+        words = words + crate::writer::words_of(frame);
+    }
+    words
+}
+
+// How many words a token takes.
+fn words_of(s: Session) -> usize
+    requires { ⌜ (s .offices ≤ 8) × (s .count ≤ 16) ⌝ }
+    ensures { λ r. ⌜ r ≡ length (tokenWords (contentOf s)) ⌝ }
+{
+    let read = s.read;
+    let own = s.own;
+    let count = s.count;
+    let n = s.offices;
+    let words = own_words(n, own, count);
+    n as usize + causal::set::size(read) + words + 2
+}
+
+fn head_word(n: u32, owns: u32, reads: u32) -> u32
+    requires { ⌜ (n ≤ 8) × (owns ≤ 16) × (reads ≤ 256) ⌝ }
+    ensures { λ r. ⌜ r ≡ tokenHead n owns reads ⌝ }
+{
+    0x8000_0000 + (n * 0x0100_0000 + (owns * 0x1_0000 + reads))
+}
+
+// One own write as a frame, from at on: the rest of out is lent to the writer of frames. Gives the place behind it.
+fn put_own(n: u32, e: Entry, out: &mut [u32], at: usize) -> usize
+    requires { ⌜ (frameOk n 64 (framed n 0 e) ≡ true) × (at + length (frameWords (framed n 0 e)) ≤ length (now out)) ⌝ }
+    ensures { λ r. ⌜ (r ≡ at + length (frameWords (framed n 0 e))) × (now (out .exit) ≡ sets (now (out .entry)) at (frameWords (framed n 0 e))) ⌝ }
+{
+    let frame = own_frame(n, e);
+    let written = crate::writer::write_frame(frame, &mut out[at..]);
+    match written {
+        Written::Words(words) => at + words,
+        Written::NotWritten(_) => at,
+    }
+}
+
+// The own writes, each right behind the one before; gives the place behind them.
+fn put_owns(n: u32, own: [Entry; 16], count: usize, out: &mut [u32], at: usize) -> usize
+    requires { ⌜ (count ≤ 16) × ((i : ℕ) → i < count → frameOk n 64 (framed n 0 (getD own i nobody)) ≡ true) × (at + length (ownRows n (tab count (λ i. getD own i nobody))) ≤ length (now out)) ⌝ }
+    ensures { λ r. ⌜ (r ≡ at + length (ownRows n (tab count (λ i. getD own i nobody)))) × (now (out .exit) ≡ sets (now (out .entry)) at (ownRows n (tab count (λ i. getD own i nobody)))) ⌝ }
+{
+    let mut to = at;
+    for i in 0..count {
+        let e = own[i];
+        to = put_own(n, e, &mut *out, to);
+    }
+    to
+}
+
+// The words of a token, where there is room for them.
+fn fill(s: Session, out: &mut [u32])
+    requires { ⌜ (ringOk (s .offices) 64 ≡ true) × (sessionOk (s .offices) 64 (contentOf s) ≡ true) × (length (tokenWords (contentOf s)) ≤ length (now out)) ⌝ }
+    ensures { λ r. ⌜ now (out .exit) ≡ laid (tokenWords (contentOf s)) (now (out .entry)) ⌝ }
+{
+    let clock = s.clock;
+    let read = s.read;
+    let own = s.own;
+    let count = s.count;
+    let n = s.offices;
+    let reads = causal::set::size(read);
+    let head = head_word(n, count as u32, reads as u32);
+    out[0] = head;
+    crate::word::put_clock(clock, n as usize, out, 1);
+    let at = crate::word::put_ids(read, out, 1 + n as usize);
+    let end = put_owns(n, own, count, out, at);
+    crate::word::put_sum(out, end);
+}
+
+// 01: write a slip.
+pub fn write_token(s: Session, out: &mut [u32]) -> Written
+    ensures { λ r. ⌜ (replyOf r ≡ writeToken (contentOf s) (length (now (out .entry)))) × (now (out .exit) ≡ writeTokenRow (contentOf s) (now (out .entry))) ⌝ }
+{
+    let n = s.offices;
+    if !crate::entry::ring_ok(n, 64) {
+        return Written::NotWritten(Refusal::Content);
+    }
+    if !crate::session::session_ok(s, n, 64) {
+        return Written::NotWritten(Refusal::Content);
+    }
+    let words = words_of(s);
+    if words > out.len() {
+        return Written::NotWritten(Refusal::Room);
+    }
+    fill(s, out);
+    Written::Words(words)
+}
+
+// ---- reading
+
+pub struct TokenRead {
+    pub status: Status,
+    pub session: Session, // all zeros on a refusal
+}
+
+struct OwnRead {
+    ok: bool,
+    words: usize,
+    entry: Entry,
+}
+
+struct OwnsRead {
+    ok: bool,
+    own: [Entry; 16],
+}
+
+struct SessionRead {
+    ok: bool,
+    session: Session,
+}
+
+fn refused(refusal: Refusal) -> TokenRead
+    ensures { λ r. ⌜ (codeOf (r .status) ≡ numberOf refusal) × (r .session ≡ sessionOf (freshContent 0)) ⌝ }
+{
+    let session = crate::session::blank_session();
+    TokenRead {
+        status: Status::Refused(refusal),
+        session,
+    }
+}
+
+// The head is one, for n offices, and what it counts may stand in the row.
+fn shape_ok(ws: &[u32], n: u32) -> bool
+    requires { ⌜ n ≤ 8 ⌝ }
+    ensures { λ r. ⌜ r ≡ tokenShape n (now (ws .entry)) ⌝ }
+{
+    if ws.len() < 1 {
+        return false;
+    }
+    let head = ws[0];
+    if !crate::word::kind_is(8, head) {
+        return false;
+    }
+    let fields = head % crate::word::LOW;
+    if fields / 0x0100_0000 != n {
+        return false;
+    }
+    if fields / 512 % 128 != 0 {
+        return false;
+    }
+    if fields / 0x1_0000 % 256 > 16 {
+        return false;
+    }
+    (n + fields % 512 + 2) as usize <= ws.len()
+}
+
+fn no_own() -> OwnRead
+    ensures { λ r. ⌜ r .ok ≡ false ⌝ }
+{
+    let entry = crate::entry::blank_entry();
+    OwnRead {
+        ok: false,
+        words: 0,
+        entry,
+    }
+}
+
+// The own write whose frame the row begins with.
+fn own_from(ws: &[u32], n: u32, p: u32) -> OwnRead
+    requires { ⌜ ringOk n p ≡ true ⌝ }
+    ensures { λ r. ⌜ (r .ok ≡ ownFrameOk n p (now (ws .entry))) × (r .ok ≡ true → (r .words ≡ frameLength n (now (ws .entry))) × (r .entry ≡ frameOf (take (frameLength n (now (ws .entry))) (now (ws .entry))) .entry)) ⌝ }
+{
+    if ws.len() < 1 {
+        return no_own();
+    }
+    let words = (n + ws[0] % crate::word::LOW % 256 + 4) as usize;
+    if words > ws.len() {
+        return no_own();
+    }
+    let read = crate::reader::read_frame(&ws[..words], n, p);
+    let status = read.status;
+    if crate::refusal::code_of(status) != 0 {
+        return no_own();
+    }
+    let frame = read.frame;
+    let entry = frame.entry;
+    OwnRead {
+        ok: frame.hops == 0,
+        words,
+        entry,
+    }
+}
+
+// The own writes whose frames stand one behind the other, up to the last word.
+fn owns_from(ws: &[u32], n: u32, p: u32, count: usize) -> OwnsRead
+    requires { ⌜ (ringOk n p ≡ true) × (count ≤ 16) ⌝ }
+    ensures { λ r. ⌜ (r .ok ≡ ownFramesOk count n p (now (ws .entry))) × (r .ok ≡ true → r .own ≡ filled (ownFrom count n (now (ws .entry)))) ⌝ }
+{
+    let blank = crate::entry::blank_entry();
+    let mut own = [blank; 16];
+    let mut at: usize = 0;
+    for i in 0..count {
+        let read = own_from(&ws[at..], n, p);
+        if !read.ok {
+            return OwnsRead { ok: false, own };
+        }
+        let e = read.entry;
+        own[i] = e;
+        at = at + read.words;
+    }
+    OwnsRead {
+        ok: ws.len() - at == 1,
+        own,
+    }
+}
+
+fn no_session() -> SessionRead
+    ensures { λ r. ⌜ r .ok ≡ false ⌝ }
+{
+    let session = crate::session::blank_session();
+    SessionRead { ok: false, session }
+}
+
+// The session whose fields a row has; whether it is sound, and the check word right, is left to ask.
+fn session_from(ws: &[u32], n: u32, p: u32) -> SessionRead
+    requires { ⌜ ringOk n p ≡ true ⌝ }
+    ensures { λ r. ⌜ (r .ok ≡ fieldsOk n p (now (ws .entry))) × (r .ok ≡ true → r .session ≡ sessionOf (contentFrom (now (ws .entry)))) ⌝ }
+{
+    if !shape_ok(ws, n) {
+        return no_session();
+    }
+    if !crate::word::clock_kinds(ws, 1, n as usize) {
+        return no_session();
+    }
+    let head = ws[0] % crate::word::LOW;
+    let from = 1 + n as usize;
+    let to = from + (head % 512) as usize;
+    let reads = crate::word::ids_from(&ws[from..to], n);
+    if !reads.ok {
+        return no_session();
+    }
+    let count = (head / 0x1_0000 % 256) as usize;
+    let owns = owns_from(&ws[to..], n, p, count);
+    let clock = crate::word::clock_from(ws, 1, n as usize);
+    let read = reads.ids;
+    let own = owns.own;
+    let session = Session {
+        offices: n,
+        clock,
+        read,
+        count,
+        own,
+    };
+    SessionRead {
+        ok: owns.ok,
+        session,
+    }
+}
+
+// 01: read a slip.
+pub fn read_token(ws: &[u32], offices: u32, plots: u32) -> TokenRead
+    ensures { λ r. ⌜ (codeOf (r .status) ≡ readTokenCode offices plots (now (ws .entry))) × (r .session ≡ sessionOf (readToken offices plots (now (ws .entry)))) ⌝ }
+{
+    if !crate::entry::ring_ok(offices, plots) {
+        return refused(Refusal::Settings);
+    }
+    let read = session_from(ws, offices, plots);
+    if !read.ok {
+        return refused(Refusal::Format);
+    }
+    let session = read.session;
+    if !crate::session::session_ok(session, offices, plots) {
+        return refused(Refusal::Format);
+    }
+    if !crate::word::sum_ok(ws) {
+        return refused(Refusal::Format);
+    }
+    TokenRead {
+        status: Status::Accepted,
+        session,
+    }
+}
