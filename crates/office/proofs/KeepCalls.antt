@@ -10,7 +10,7 @@ use lib.ListN.{length}
 use borrow.Author.Tests.{eq-eqb}
 use Rattle.causal.specs.Codes.{check, orElse}
 use Rattle.causal.specs.Lists.{zeros}
-use Rattle.causal.specs.Sets.{has, inserted, isIn, subsetOf}
+use Rattle.causal.specs.Sets.{IdSet, Within, has, inserted, isIn, subsetOf}
 use Rattle.causal.specs.Tests.{both, either, implies}
 use Rattle.causal.proofs.Sets.{has-zeros, ids-inserted, ids-zeros, in-inserted, in-is, out-is, subset-within}
 use Rattle.causal.proofs.Tests.{implies-elim}
@@ -25,7 +25,7 @@ use Rattle.frame.proofs.Entries.{EntryFacts, entry-facts, frame-facts}
 use Rattle.frame.proofs.Ids.{id-office, id-range, inserted-new}
 use Rattle.frame.proofs.Sessions.{SaneContent, SaneEntry}
 use Rattle.store.specs.Offices.{Office, current, hold, reveal}
-use Rattle.store.proofs.Keep.{Sound, hold-sound, reveal-sound}
+use Rattle.store.proofs.Keep.{Sound, Takes, hold-sound, reveal-sound}
 use Rattle.office.specs.Calls.{Result, allNoneOver, answerWords, entryCode, given, handed, holdNew, jointCode, jointOn, noted, notedAll, onward, ownCode, plotsOk, readCode, readOn, receiveCode, receiveOn, receiveSends, receivedBy}
 use Rattle.office.proofs.Cases.{Cases}
 
@@ -143,7 +143,19 @@ module _ (O : Office) (S : Sound O) (f : Frame) (valid : frameOk (O .offices) (O
   small : idOf (f .entry) < 256
   small = omega (arith, id-range (O .offices) (O .plots) (f .entry) F, S .few)
 
-  kept : Known O (f .entry) → subsetOf (f .entry .deps) (O .held) ≡ true
+  pub takes-new : Known O (f .entry) → subsetOf (f .entry .deps) (O .held) ≡ true → isIn (O .held) (idOf (f .entry)) ≡ false → Takes O (f .entry)
+  takes-new K d t =
+      let z = out-is (O .held) (idOf (f .entry)) t in
+      record {
+        ok = ok;
+        clock8 = sane .clock8;
+        deps-set = sane .deps-set;
+        new = z;
+        deps-held = subset-within (f .entry .deps) (O .held) (sane .deps-set) d;
+        next = λ s l q. absurd (away O (f .entry) (O .offices) (O .plots) F K z s l q);
+      }
+
+  pub kept : Known O (f .entry) → subsetOf (f .entry .deps) (O .held) ≡ true
       → Sound (holdNew O (f .entry)) × (has (holdNew O (f .entry) .held) (idOf (f .entry)) ≡ 1)
   unfolding holdNew hold
   kept K d = go (isIn (O .held) (idOf (f .entry))) refl
@@ -151,34 +163,25 @@ module _ (O : Office) (S : Sound O) (f : Frame) (valid : frameOk (O .offices) (O
       go : (t : Bool) → isIn (O .held) (idOf (f .entry)) ≡ t
           → Sound (cond t O (hold O (f .entry))) × (has (cond t O (hold O (f .entry)) .held) (idOf (f .entry)) ≡ 1)
       go true t = (S, in-is (O .held) (idOf (f .entry)) t)
-      go false t =
-          let z = out-is (O .held) (idOf (f .entry)) t in (
-            hold-sound O S (f .entry)
-                (record {
-                  ok = ok;
-                  clock8 = sane .clock8;
-                  deps-set = sane .deps-set;
-                  new = z;
-                  deps-held = subset-within (f .entry .deps) (O .held) (sane .deps-set) d;
-                  next = λ s l q. absurd (away O (f .entry) (O .offices) (O .plots) F K z s l q);
-                }),
-            inserted-new (O .held) (idOf (f .entry)) small (S .held-set),
-          )
+      go false t = (hold-sound O S (f .entry) (takes-new K d t), inserted-new (O .held) (idOf (f .entry)) small (S .held-set))
+
+  -- the entry that is brought out, as a set of one id
+  pub seed-set : IdSet (inserted zeros (idOf (f .entry)))
+  seed-set = ids-inserted zeros (idOf (f .entry)) ids-zeros
+
+  pub seed-held : Known O (f .entry) → subsetOf (f .entry .deps) (O .held) ≡ true
+      → Within (inserted zeros (idOf (f .entry))) (holdNew O (f .entry) .held)
+  seed-held K d x h =
+      ⊎-elim (λ (q : x ≡ idOf (f .entry)). rw q (kept K d .1)) (λ z. absurd (omega (arith, has-zeros x)))
+      (in-inserted zeros (idOf (f .entry)) x small ids-zeros h)
 
   got : Known O (f .entry) → subsetOf (f .entry .deps) (O .held) ≡ true → Sound (receivedBy O f)
   unfolding receivedBy
   got K d = go (eqb (f .hops) 0)
     where
-      k : Sound (holdNew O (f .entry)) × (has (holdNew O (f .entry) .held) (idOf (f .entry)) ≡ 1)
-      k = kept K d
-
       go : (t : Bool) → Sound (cond t (reveal (holdNew O (f .entry)) (inserted zeros (idOf (f .entry)))) (holdNew O (f .entry)))
-      go true =
-          reveal-sound (holdNew O (f .entry)) (k .0) (inserted zeros (idOf (f .entry))) (ids-inserted zeros (idOf (f .entry)) ids-zeros)
-          (λ x h.
-          ⊎-elim (λ (q : x ≡ idOf (f .entry)). rw q (k .1)) (λ z. absurd (omega (arith, has-zeros x)))
-          (in-inserted zeros (idOf (f .entry)) x small ids-zeros h))
-      go false = k .0
+      go true = reveal-sound (holdNew O (f .entry)) (kept K d .0) (inserted zeros (idOf (f .entry))) seed-set (seed-held K d)
+      go false = kept K d .0
 
   pub receive-keeps : (row : List ℕ) → Sound (receiveOn O f row .store)
   unfolding receiveOn receiveCode check orElse

@@ -96,13 +96,13 @@ module _ (O : Office) (S : Sound O) (s : Content) (N : SaneContent s) (plot valu
     pub e-id : idOf (newEntry O s plot value) ≡ 32 * O .own + made O
     e-id = id-is counting s plot value
 
-    A : Along O (holdAll O (missing O (s .own))) (idsOf (s .own))
+    pub A : Along O (holdAll O (missing O (s .own))) (idsOf (s .own))
     unfolding idsOf
     A =
         along-own O S (s .read) (N .read) read-held (s .own) O zeros (start-along O S (s .read) (N .read) read-held) (F .own)
         (λ x m. (N .own x m, all-known O (s .own) own-zero x m))
 
-    takes : Takes (holdAll O (missing O (s .own))) (newEntry O s plot value)
+    pub takes : Takes (holdAll O (missing O (s .own))) (newEntry O s plot value)
     takes =
         record {
           ok =

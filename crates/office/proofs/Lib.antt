@@ -10,3 +10,13 @@ pub mod KeepSession
 pub mod KeptSession
 pub mod Kept
 pub mod NoneOver
+pub mod Numbers
+pub mod Readings
+pub mod JointReads
+pub mod OwnCodes
+pub mod Sends
+pub mod Shape
+pub mod Holds
+pub mod Writes
+pub mod Receives
+pub mod Answers

@@ -9,7 +9,7 @@ use Rattle.causal.specs.Clocks.{join}
 use Rattle.frame.specs.declared.entry.Entry.{Entry}
 use Rattle.frame.specs.declared.session.Session.{Session}
 use Rattle.frame.specs.Entries.{idOf, blankEntry}
-use Rattle.frame.specs.Sessions.{contentOf}
+use Rattle.frame.specs.Sessions.{Content, contentOf, freshContent}
 use Rattle.store.specs.Offices.{Office, officeOf, reveal, current, Found, None, Some}
 use Rattle.office.specs.Calls.{newEntry, readPlot, readJoint, write}
 
@@ -57,3 +57,8 @@ readJointSession ws s plots row =
 unfoldable pub writeSession : List ℕ → Session → ℕ → ℕ → List ℕ → Session
 writeSession ws s plot value row =
     sessionIf (write ws (contentOf s) plot value row .code) s (extendedBy s (newEntry (officeOf ws) (contentOf s) plot value))
+
+-- a fresh session of so many offices; on a refusal a fixed blank
+unfoldable pub freshBy : ℕ → ℕ → Content
+freshBy zero n = freshContent n
+freshBy (suc c) n = freshContent 0

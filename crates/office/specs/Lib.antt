@@ -1,2 +1,4 @@
 pub mod Calls
 pub mod Answers
+pub mod Decide
+pub mod Steps

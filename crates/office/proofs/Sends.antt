@@ -1,0 +1,186 @@
+-- The frames of a write in the out row: one behind the other, each in the rest of the row lent to the frame writer. Assumes nothing.
+use Prim.Native.Nat.{ℕ, zero, suc, _+_, _-_, _*_, _<_, _≤_}
+use mathlib.Core.Path.{_≡_, refl, sym, ap, _∙_, subst}
+use mathlib.Core.Bool.{Bool, true, false, cond}
+use mathlib.Core.List.{List, [], _∷_, _++_, map, append-assoc, append-nil}
+use native.Mathlib.Nat.{zero-add, add-zero, le-refl}
+use native.Mathlib.Numerals.{add-one}
+use native.Mathlib.Omega.{arith}
+use lib.ListN.{length, getD, take, drop, length-append, length-drop, drop-of-length-le}
+use lib.Seq.{sets, sets-eq, drop-drop, take-all}
+use Rattle.causal.specs.Lists.{tab}
+use Rattle.causal.specs.Sets.{isIn}
+use Rattle.causal.proofs.Lists.{sets-append, tab-more}
+use Rattle.frame.specs.declared.entry.Entry.{Entry}
+use Rattle.frame.specs.declared.entry.Frame.{Frame}
+use Rattle.frame.specs.declared.refusal.Refusal.{Refusal}
+use Rattle.frame.specs.declared.refusal.Refusal.the-variants.{Settings, Store, Content, Plot, Value, OfficeFull, SessionFull, Room, Format, Unmade, Different, Missing, OwnWrite}
+use Rattle.frame.specs.declared.refusal.Written.the-variants.{Words, NotWritten}
+use Rattle.frame.specs.Refusals.{Reply, numberOf, replyOf, replied}
+use Rattle.frame.specs.Entries.{idOf}
+use Rattle.frame.specs.Words.{idWords}
+use Rattle.frame.specs.Frames.{framed, frameOk, frameWords}
+use Rattle.frame.specs.Tokens.{rowsOf}
+use Rattle.frame.specs.Calls.{laid, laidIf, writeFrameCode, writeFrame, writeFrameRow}
+use Rattle.frame.proofs.Frames.{length-frame}
+use Rattle.frame.proofs.Tokens.{reads-le}
+use Rattle.frame.proofs.Turns.{write-code-0}
+use Rattle.store.specs.Offices.{Office}
+use Rattle.office.specs.Calls.{missing}
+use Rattle.office.specs.Steps.{ownAt, ownTo, started, frameIf, framesIn, allFrames}
+
+-- ---- the writer's answer where the frame is one and there is room
+
+pub number-some : (x : Refusal) → numberOf x ≡ 0 → ⊥
+unfolding numberOf
+number-some Settings e = omega arith
+number-some Store e = omega arith
+number-some Content e = omega arith
+number-some Plot e = omega arith
+number-some Value e = omega arith
+number-some OfficeFull e = omega arith
+number-some SessionFull e = omega arith
+number-some Room e = omega arith
+number-some Format e = omega arith
+number-some Unmade e = omega arith
+number-some Different e = omega arith
+number-some Missing e = omega arith
+number-some OwnWrite e = omega arith
+
+module _ (f : Frame) (row : List ℕ) (v : frameOk (f .offices) 64 f ≡ true) (h : length (frameWords f) ≤ length row) where
+  pub reply-is : writeFrame f (length row) ≡ record { code = 0; words = length (frameWords f) }
+  unfolding writeFrame replied
+  reply-is = rw (write-code-0 f row v h) refl
+
+  pub row-is : writeFrameRow f row ≡ laid (frameWords f) row
+  unfolding writeFrameRow laidIf
+  row-is = rw (write-code-0 f row v h) refl
+
+-- ---- a part that was lent from its start on, with words written at its front
+
+lent-sets : (o ws : List ℕ) (at : ℕ) → at + length ws ≤ length o → take at o ++ (ws ++ drop (length ws) (drop at o)) ≡ sets o at ws
+lent-sets o ws at h =
+    rw (drop-drop (length ws) at o) (sym (append-assoc (take at o) ws (drop (at + length ws) o)) ∙ sym (sets-eq ws o at h))
+
+module _ (f : Frame) (o : List ℕ) (at : ℕ) (v : frameOk (f .offices) 64 f ≡ true) (h : at + length (frameWords f) ≤ length o) where
+  rest : take (length o - at) (drop at o) ≡ drop at o
+  rest = take-all (length o - at) (drop at o) (simp length-drop (omega arith))
+
+  fits : length (frameWords f) ≤ length (take (length o - at) (drop at o))
+  fits = rw rest (simp length-drop (omega arith))
+
+  pub told : (m : ℕ) → replyOf (Words m) ≡ writeFrame f (length (take (length o - at) (drop at o))) → m ≡ length (frameWords f)
+  unfolding replyOf
+  told m e = ap (λ (r : Reply). r .words) (e ∙ reply-is f (take (length o - at) (drop at o)) v fits)
+
+  pub not-refused : (x : Refusal) → replyOf (NotWritten x) ≡ writeFrame f (length (take (length o - at) (drop at o))) → ⊥
+  unfolding replyOf
+  not-refused x e = number-some x (ap (λ (r : Reply). r .code) (e ∙ reply-is f (take (length o - at) (drop at o)) v fits))
+
+  pub put-lent : (new : List ℕ) → new ≡ writeFrameRow f (take (length o - at) (drop at o))
+      → take at o ++ (new ++ drop (length o - at) (drop at o)) ≡ sets o at (frameWords f)
+  unfolding laid
+  put-lent new e =
+      let w : new ≡ frameWords f ++ drop (length (frameWords f)) (take (length o - at) (drop at o)) =
+      e ∙ row-is f (take (length o - at) (drop at o)) v fits
+      in
+      let n : drop (length o - at) (drop at o) ≡ [] = drop-of-length-le (drop at o) {i = length o - at} (simp length-drop (omega arith)) in
+      rw (w, n, append-nil, rest) (lent-sets o (frameWords f) at h)
+
+-- ---- one own write
+
+module _ (held : List ℕ) (n : ℕ) (e : Entry) (r : Bool) (k : ℕ) (p : k ≡ idOf e) (q : r ≡ isIn held k) where
+  -- what is held sends nothing, and what is not sends its frame
+  pub skipped : r ≡ true → [] ≡ frameIf (isIn held (idOf e)) n e
+  skipped t = ap (λ (b : Bool). frameIf b n e) (sym t ∙ q ∙ ap (isIn held) p)
+
+  pub sent : r ≡ false → frameWords (started n e) ≡ frameIf (isIn held (idOf e)) n e
+  sent t = ap (λ (b : Bool). frameIf b n e) (sym t ∙ q ∙ ap (isIn held) p)
+
+  pub skip-turn : (at : ℕ) (o : List ℕ) → r ≡ true
+      → (at ≡ at + length (frameIf (isIn held (idOf e)) n e)) × (o ≡ sets o at (frameIf (isIn held (idOf e)) n e))
+  skip-turn at o t =
+      let z = skipped t in (sym (add-zero at) ∙ ap (λ (l : List ℕ). at + length l) z, ap (λ (l : List ℕ). sets o at l) z)
+
+  pub send-fits : (f : Frame) (at m : ℕ) → r ≡ false → f ≡ started n e → frameOk n 64 (started n e) ≡ true
+      → at + length (frameIf (isIn held (idOf e)) n e) ≤ m → (frameOk (f .offices) 64 f ≡ true) × (at + length (frameWords f) ≤ m)
+  send-fits f at m t g v h =
+      let z = sent t in (
+        subst (λ (x : Frame). frameOk (x .offices) 64 x ≡ true) (sym g) v,
+        subst (λ (x : Frame). at + length (frameWords x) ≤ m) (sym g) (subst (λ (l : List ℕ). at + length l ≤ m) (sym z) h),
+      )
+
+  pub send-turn : (f : Frame) (at x : ℕ) (o y : List ℕ) → r ≡ false → f ≡ started n e → x ≡ at + length (frameWords f) → y ≡ sets o at (frameWords f)
+      → (x ≡ at + length (frameIf (isIn held (idOf e)) n e)) × (y ≡ sets o at (frameIf (isIn held (idOf e)) n e))
+  send-turn f at x o y t g a b =
+      let z = ap frameWords g ∙ sent t in (a ∙ ap (λ (l : List ℕ). at + length l) z, b ∙ ap (λ (l : List ℕ). sets o at l) z)
+
+-- ---- all of them
+
+frames-snoc : (held : List ℕ) (n : ℕ) (es : List Entry) (e : Entry)
+    → framesIn held n (es ++ (e ∷ [])) ≡ framesIn held n es ++ frameIf (isIn held (idOf e)) n e
+unfolding framesIn
+frames-snoc held n [] e = append-nil (frameIf (isIn held (idOf e)) n e)
+frames-snoc held n (x ∷ es) e =
+    ap (λ (l : List ℕ). frameIf (isIn held (idOf x)) n x ++ l) (frames-snoc held n es e)
+    ∙ sym (append-assoc (frameIf (isIn held (idOf x)) n x) (framesIn held n es) (frameIf (isIn held (idOf e)) n e))
+
+module _ (held : List ℕ) (n : ℕ) (own : List Entry) where
+  pub frames-more : (i : ℕ) → framesIn held n (ownTo own (i + 1)) ≡ framesIn held n (ownTo own i) ++ frameIf (isIn held (idOf (ownAt own i))) n (ownAt own i)
+  frames-more i = ap (framesIn held n) (tab-more i (ownAt own)) ∙ frames-snoc held n (ownTo own i) (ownAt own i)
+
+  pub length-more : (i : ℕ) → length (framesIn held n (ownTo own (i + 1)))
+      ≡ length (framesIn held n (ownTo own i)) + length (frameIf (isIn held (idOf (ownAt own i))) n (ownAt own i))
+  length-more i =
+      ap length (frames-more i) ∙ length-append (framesIn held n (ownTo own i)) (frameIf (isIn held (idOf (ownAt own i))) n (ownAt own i))
+
+  frames-far : (i d : ℕ) → length (framesIn held n (ownTo own i)) ≤ length (framesIn held n (ownTo own (d + i)))
+  frames-far i zero = rw zero-add (le-refl _)
+  frames-far i (suc d) = let e : suc d + i ≡ (d + i) + 1 = omega arith in rw e (omega (arith, frames-far i d, length-more (d + i)))
+
+  pub frames-mono : (i j : ℕ) → i ≤ j → length (framesIn held n (ownTo own i)) ≤ length (framesIn held n (ownTo own j))
+  frames-mono i j h = let e : (j - i) + i ≡ j = omega arith in rw e at (frames-far i (j - i))
+
+  pub frames-start : framesIn held n (ownTo own 0) ≡ []
+  unfolding framesIn tab
+  frames-start = refl
+
+pub frame-le : (b : Bool) (n : ℕ) (e : Entry) → n ≤ 8 → length (frameIf b n e) ≤ 268
+frame-le true n e h = omega arith
+frame-le false n e h = omega (arith, length-frame (started n e), reads-le (e .deps))
+
+pub frames-le : (held : List ℕ) (n : ℕ) (own : List Entry) (i : ℕ) → n ≤ 8 → length (framesIn held n (ownTo own i)) ≤ 268 * i
+frames-le held n own zero h = omega (arith, ap length (frames-start held n own))
+frames-le held n own (suc i) h =
+    let e : suc i ≡ i + 1 = omega arith in
+    rw e
+    (omega (arith, frames-le held n own i h, frame-le (isIn held (idOf (ownAt own i))) n (ownAt own i) h, length-more held n own i))
+
+pub turn-sets : (o₀ o z a b ab : List ℕ) (at : ℕ) → at ≡ length a → o ≡ sets o₀ 0 a → z ≡ sets o at b → ab ≡ a ++ b → z ≡ sets o₀ 0 ab
+turn-sets o₀ o z a b ab at p q r s =
+    r
+    ∙ ap (λ (l : List ℕ). sets l at b) q
+    ∙ ap (λ (i : ℕ). sets (sets o₀ 0 a) i b) (p ∙ sym (zero-add (length a)))
+    ∙ sym (sets-append o₀ 0 a b)
+    ∙ ap (λ (l : List ℕ). sets o₀ 0 l) (sym s)
+
+-- ---- they are the frames that Calls says
+
+frames-missing : (O : Office) (n : ℕ) (es : List Entry) (e : Entry)
+    → framesIn (O .held) n es ++ frameWords (started n e) ≡ rowsOf (map (framed n (n - 2)) (missing O es ++ (e ∷ [])))
+unfolding framesIn rowsOf missing
+frames-missing O n [] e = sym (append-nil (frameWords (started n e)))
+frames-missing O n (x ∷ es) e = go (isIn (O .held) (idOf x)) (frames-missing O n es e)
+  where
+    go : (t : Bool) → framesIn (O .held) n es ++ frameWords (started n e) ≡ rowsOf (map (framed n (n - 2)) (missing O es ++ (e ∷ [])))
+        → (frameIf t n x ++ framesIn (O .held) n es) ++ frameWords (started n e)
+        ≡ rowsOf (map (framed n (n - 2)) (cond t (missing O es) (x ∷ missing O es) ++ (e ∷ [])))
+    go true ih = ih
+    go false ih =
+        append-assoc (frameWords (started n x)) (framesIn (O .held) n es) (frameWords (started n e))
+        ∙ ap (λ (l : List ℕ). frameWords (started n x) ++ l) ih
+
+pub all-frames : (O : Office) (n : ℕ) (es : List Entry) (e : Entry)
+    → allFrames (O .held) n es e ≡ rowsOf (map (framed n (n - 2)) (missing O es ++ (e ∷ [])))
+unfolding allFrames
+all-frames O n es e = frames-missing O n es e

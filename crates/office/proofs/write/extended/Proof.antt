@@ -1,0 +1,33 @@
+use Prim.Native.Nat.{ℕ, zero, suc, _+_, _-_, _*_, _^_, _<_, _≤_}
+use native.Mathlib.Omega.{arith}
+use Prim.Native.Nat.{ℕ, zero, suc, _+_, _-_, _*_, _<_, _≤_}
+use mathlib.Core.Path.{_≡_, refl, sym, ap, ap₂, _∙_, subst}
+use mathlib.Core.Bool.{Bool, true, false}
+use mathlib.Core.List.{List, [], _∷_, _++_}
+use lib.ListN.{length, getD, set, take, drop}
+use lib.Seq.{sets, length-sets}
+use borrow.Author.Tests.{not-true, not-false, eq-eqb, ne-eqb}
+use Rattle.office.specs.Answers.{extendedBy}
+use borrow.Author.Needs.{needs}
+use Rattle.office.proofs.write.extended.Statement.{statement}
+use Rattle.office.proofs.write.extended.Tie as tie
+
+join-requires : tie.Need-join-requires
+join-requires c κs = search needs
+
+mul-e : tie.Need-mul-e
+mul-e c = search needs
+
+element-set-from-e : tie.Need-element-set-from-e
+element-set-from-e c = search needs
+
+add-t : tie.Need-add-t
+add-t c = search needs
+
+returns : tie.Need-returns
+unfolding extendedBy
+returns c = let s = c .before .before .before .args .s in
+    λ i. record { offices = s .offices; clock = (c .join .ensures) i; read = s .read; count = s .count + 1; own = set (s .own) (s .count) (c .before .before .before .args .e) }
+
+pub extended-spec : {M : Type 1} → statement M
+extended-spec = tie.close (tie.spec join-requires mul-e element-set-from-e add-t returns)

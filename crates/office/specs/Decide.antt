@@ -1,0 +1,122 @@
+-- The readings as code goes through them: refusal numbers from the store's words, what is current as a number, own writes one after the
+-- other. proofs/Readings.antt: they say what Calls says. Assumes nothing.
+use Prim.Native.Nat.{ℕ, zero, suc, _+_, _*_, _<_, _≤_}
+use mathlib.Core.Path.{_≡_}
+use mathlib.Core.Bool.{Bool, true, false, cond, not}
+use mathlib.Core.List.{List, [], _++_}
+use lib.Dec.{leb, ltb, eqb}
+use lib.ListN.{length, getD}
+use Rattle.causal.specs.Tests.{both, allBelow}
+use Rattle.causal.specs.Codes.{check, orElse}
+use Rattle.causal.specs.Lists.{part}
+use Rattle.causal.specs.Sets.{inserted, subsetOf}
+use Rattle.causal.specs.Clocks.{join}
+use Rattle.frame.specs.declared.entry.Entry.{Entry}
+use Rattle.frame.specs.declared.session.Session.{Session}
+use Rattle.frame.specs.Entries.{idOf, outranks, blankEntry}
+use Rattle.frame.specs.Sessions.{Content, nobody, sessionOk}
+use Rattle.store.specs.Offices.{slotAt, entryAt, officeOf, soundStore, reveal, current, Found, None, Some}
+use Rattle.store.specs.Current.{currentAt}
+use Rattle.store.specs.declared.current.Place.{Place}
+use Rattle.store.specs.declared.current.Place.the-variants.{At, Nowhere}
+use Rattle.office.specs.Calls.{plotsOk, allNoneOver, threeWords}
+use Rattle.office.specs.declared.note.Seen.{Seen}
+use Rattle.office.specs.declared.read.Best.{Best}
+
+-- ---- refusals
+
+unfoldable pub startCode : List ℕ → Content → ℕ
+startCode ws s = check (soundStore ws) 2 (check (sessionOk (getD ws 0 0) (getD ws 2 0) s) 3 0)
+
+unfoldable pub readRefusal : List ℕ → Content → ℕ → ℕ
+readRefusal ws s plot = orElse (startCode ws s) (check (ltb plot (getD ws 2 0)) 4 (check (subsetOf (s .read) (part ws 3 8)) 12 0))
+
+-- all but 13
+unfoldable pub jointStart : List ℕ → Content → List ℕ → ℕ → ℕ
+jointStart ws s plots room =
+    orElse (startCode ws s)
+    (check (both (leb (length plots) 16) (plotsOk (getD ws 2 0) plots)) 4
+    (check (leb (3 * length plots) room) 8 (check (subsetOf (s .read) (part ws 3 8)) 12 0)))
+
+unfoldable pub jointRefusal : List ℕ → Content → List ℕ → ℕ → ℕ
+jointRefusal ws s plots room = orElse (jointStart ws s plots room) (check (allNoneOver (reveal (officeOf ws) (s .read)) s plots) 13 0)
+
+-- ---- what is current, as a number: its id, or 256 for none
+
+unfoldable pub placeNumber : Place → ℕ
+placeNumber (At k) = k
+placeNumber Nowhere = 256
+
+unfoldable pub foundIn : List ℕ → ℕ → Found
+foundIn ws k = cond (ltb k 256) (Some (entryAt ws k)) None
+
+-- its slot lies in a store of m words
+abbrev pub Reaches : ℕ → ℕ → Type 0
+Reaches m k = k < 256 → slotAt k + 18 ≤ m
+
+-- ---- the session
+
+unfoldable pub notedSeen : Found → Seen → Seen
+notedSeen None x = x
+notedSeen (Some e) x = record { clock = join (x .clock) (e .clock); read = inserted (x .read) (idOf e) }
+
+unfoldable pub withSeen : Session → Seen → Session
+withSeen s x = record { offices = s .offices; clock = x .clock; read = x .read; count = s .count; own = s .own }
+
+-- ---- the best of what was found and the own writes
+
+abbrev pub bestOf : Entry → Best
+bestOf e = record { found = true; entry = e }
+
+unfoldable pub bestFrom : Found → Best
+bestFrom None = record { found = false; entry = blankEntry }
+bestFrom (Some e) = bestOf e
+
+unfoldable pub bestAbove : Entry → Best → Best
+bestAbove e b = cond (b .found) (cond (outranks e (b .entry)) (bestOf e) b) (bestOf e)
+
+unfoldable pub bestTo : List Entry → ℕ → Best → ℕ → Best
+bestTo own plot b zero = b
+bestTo own plot b (suc i) = cond (eqb (getD own i nobody .plot) plot) (bestAbove (getD own i nobody) (bestTo own plot b i)) (bestTo own plot b i)
+
+-- ---- several plots
+
+-- the slots of the first n of some numbers lie in a store of m words
+abbrev pub AllReach : ℕ → ℕ → List ℕ → Type 0
+AllReach m n ks = (j : ℕ) → j < n → Reaches m (getD ks j 0)
+
+-- what is current on each of the first n plots
+abbrev pub PlacesTo : List ℕ → List ℕ → List ℕ → ℕ → List ℕ → Type 0
+PlacesTo ws visible plots n ks = (j : ℕ) → j < n → getD ks j 0 ≡ placeNumber (currentAt ws visible (getD plots j 0))
+
+unfoldable pub foundAmong : List ℕ → List ℕ → ℕ → Found
+foundAmong ws ks j = foundIn ws (getD ks j 0)
+
+-- an own write is over what is current
+unfoldable pub ownOver : Found → Entry → Bool
+ownOver None e = true
+ownOver (Some b) e = outranks e b
+
+-- none of the first n own writes that are on the plot
+unfoldable pub noneOverTo : List Entry → ℕ → Found → ℕ → Bool
+noneOverTo own plot f n = allBelow n (λ i. not (both (eqb (getD own i nobody .plot) plot) (ownOver f (getD own i nobody))))
+
+unfoldable pub overAll : List ℕ → List Entry → ℕ → List ℕ → List ℕ → Bool
+overAll ws own count plots ks = allBelow (length plots) (λ j. noneOverTo own (getD plots j 0) (foundAmong ws ks j) count)
+
+unfoldable pub wordsTo : (ℕ → Found) → ℕ → List ℕ
+wordsTo g zero = []
+wordsTo g (suc n) = wordsTo g n ++ threeWords (g n)
+
+abbrev pub seenOf : Session → Seen
+seenOf s = record { clock = s .clock; read = s .read }
+
+unfoldable pub seenTo : (ℕ → Found) → ℕ → Seen → Seen
+seenTo g zero x = x
+seenTo g (suc n) x = notedSeen (g n) (seenTo g n x)
+
+-- what a joint reading that is not refused has found out: the visible set to be, and what is current on each plot
+pub record Decides (ws read plots visible ks : List ℕ) : Type 0 where
+  pub shown : visible ≡ reveal (officeOf ws) read .visible
+  pub found : (j : ℕ) → j < length plots → foundAmong ws ks j ≡ current (reveal (officeOf ws) read) (getD plots j 0)
+  pub reach : AllReach (length ws) (length plots) ks

@@ -1,0 +1,227 @@
+// To read several plots at once.
+use crate::note::Seen;
+use frame::entry::Entry;
+use frame::refusal::Status;
+use frame::session::Session;
+ghost use mathlib.Core.Path.{_≡_};
+ghost use mathlib.Core.Bool.{true};
+ghost use mathlib.Core.List.{_∷_, []};
+ghost use Prim.Native.Nat.{_+_, _*_, _<_, _≤_};
+ghost use lib.Dec.{leb};
+ghost use lib.ListN.{length, getD};
+ghost use lib.Seq.{sets};
+ghost use Rattle.causal.specs.Tests.{both, allBelow};
+ghost use Rattle.causal.specs.Lists.{part};
+ghost use Rattle.causal.specs.Sets.{subsetOf};
+ghost use Rattle.frame.specs.Refusals.{codeOf};
+ghost use Rattle.frame.specs.Sessions.{contentOf};
+ghost use Rattle.store.specs.Offices.{officeOf, reveal, soundStore};
+ghost use Rattle.store.specs.Current.{currentAt};
+ghost use Rattle.office.specs.Calls.{plotsOk, threeWords, readJoint};
+ghost use Rattle.office.specs.Answers.{readJointSession};
+ghost use Rattle.office.specs.Decide.{jointStart, jointRefusal, foundIn, Reaches, AllReach, PlacesTo, ownOver, noneOverTo, overAll, foundAmong, wordsTo, seenOf, seenTo, withSeen, Decides};
+
+pub struct JointRead {
+    pub status: Status,
+    pub session: Session,
+}
+
+// Up to 16 plots, each in range.
+fn plots_ok(plots: &[u32], p: u32) -> bool
+    ensures { λ r. ⌜ r ≡ both (leb (length (now (plots .entry))) 16) (plotsOk p (now (plots .entry))) ⌝ }
+{
+    if plots.len() > 16 {
+        return false;
+    }
+    for i in 0..plots.len() {
+        if plots[i] >= p {
+            return false;
+        }
+    }
+    true
+}
+
+// 4: too many plots, or one out of range. 8: answer too short. 12: a read id not held.
+fn joint_start(store: &[u32], s: Session, plots: &[u32], room: usize) -> u32
+    ensures { λ r. ⌜ r ≡ jointStart (now (store .entry)) (contentOf s) (now (plots .entry)) room ⌝ }
+{
+    let start = crate::code::start_code(store, s);
+    if start != 0 {
+        return start;
+    }
+    if !plots_ok(plots, store[2]) {
+        return 4;
+    }
+    if room < 3 * plots.len() {
+        return 8;
+    }
+    let read = s.read;
+    if !crate::code::held_all(store, read) {
+        return 12;
+    }
+    0
+}
+
+// What is current on each plot, as a number.
+fn places_of(store: &[u32], visible: [u32; 8], plots: &[u32]) -> [usize; 16]
+    requires { ⌜ (soundStore (now store) ≡ true) × (subsetOf visible (part (now store) 3 8) ≡ true) × (length (now plots) ≤ 16) ⌝ }
+    ensures { λ r. ⌜ PlacesTo (now (store .entry)) visible (now (plots .entry)) (length (now (plots .entry))) r ⌝ }
+{
+    let mut places = [256usize; 16];
+    for i in 0..plots.len() {
+        let k = crate::note::place_number(store::current::current(store, visible, plots[i]));
+        places[i] = k;
+    }
+    places
+}
+
+// Does the own write e outrank entry k, or is there none?
+fn own_over(store: &[u32], e: Entry, k: usize) -> bool
+    requires { ⌜ Reaches (length (now store)) k ⌝ }
+    ensures { λ r. ⌜ r ≡ ownOver (foundIn (now (store .entry)) k) e ⌝ }
+{
+    if k >= 256 {
+        return true;
+    }
+    let c = e.clock;
+    let d = store::layout::clock_at(store, k);
+    causal::rank::outranks(c, e.office, d, (k / 32) as u32)
+}
+
+// Is no own write on the plot over entry k?
+fn none_over(store: &[u32], own: [Entry; 16], count: usize, plot: u32, k: usize) -> bool
+    requires { ⌜ (count ≤ 16) × Reaches (length (now store)) k ⌝ }
+    ensures { λ r. ⌜ r ≡ noneOverTo own plot (foundIn (now (store .entry)) k) count ⌝ }
+{
+    for i in 0..count {
+        if own[i].plot == plot {
+            if own_over(store, own[i], k) {
+                return false;
+            }
+        }
+    }
+    true
+}
+
+// The same for each plot and the entry that is current there.
+fn none_over_any(
+    store: &[u32],
+    own: [Entry; 16],
+    count: usize,
+    plots: &[u32],
+    places: [usize; 16],
+) -> bool
+    requires { ⌜ (count ≤ 16) × (length (now plots) ≤ 16) × AllReach (length (now store)) (length (now plots)) places ⌝ }
+    ensures { λ r. ⌜ r ≡ overAll (now (store .entry)) own count (now (plots .entry)) places ⌝ }
+{
+    for i in 0..plots.len() {
+        if !none_over(store, own, count, plots[i], places[i]) {
+            return false;
+        }
+    }
+    true
+}
+
+// The refusal number; where it is 0, the visible set to be and what is current on each plot.
+struct Decided {
+    code: u32,
+    visible: [u32; 8],
+    places: [usize; 16],
+}
+
+fn decide(store: &[u32], s: Session, plots: &[u32], room: usize) -> Decided
+    ensures { λ r. ⌜ (r .code ≡ jointRefusal (now (store .entry)) (contentOf s) (now (plots .entry)) room)
+        × (r .code ≡ 0 → Decides (now (store .entry)) (s .read) (now (plots .entry)) (r .visible) (r .places)) ⌝ }
+{
+    let code = joint_start(store, s, plots, room);
+    if code != 0 {
+        let visible = [0u32; 8];
+        let places = [256usize; 16];
+        return Decided {
+            code,
+            visible,
+            places,
+        };
+    }
+    let read = s.read;
+    let revealed = store::reveal::revealed_by(store, read);
+    let visible = revealed.visible;
+    let places = places_of(store, visible, plots);
+    let own = s.own;
+    if !none_over_any(store, own, s.count, plots, places) {
+        return Decided {
+            code: 13,
+            visible,
+            places,
+        };
+    }
+    Decided {
+        code: 0,
+        visible,
+        places,
+    }
+}
+
+// Three words from `at` on: 1, value and name payload of entry k, or zeros.
+fn put_three(store: &[u32], k: usize, answer: &mut [u32], at: usize)
+    requires { ⌜ Reaches (length (now store)) k × (at + 3 ≤ length (now answer)) ⌝ }
+    ensures { λ _. ⌜ now (answer .exit) ≡ sets (now (answer .entry)) at (threeWords (foundIn (now (store .entry)) k)) ⌝ }
+{
+    if k >= 256 {
+        answer[at] = 0;
+        answer[at + 1] = 0;
+        answer[at + 2] = 0;
+        return;
+    }
+    answer[at] = 1;
+    answer[at + 1] = store[19 + 18 * k + 1];
+    answer[at + 2] = (256 * (k / 32) + (k % 32 + 1)) as u32;
+}
+
+fn put_answers(store: &[u32], places: [usize; 16], n: usize, answer: &mut [u32])
+    requires { ⌜ (n ≤ 16) × (3 * n ≤ length (now answer)) × AllReach (length (now store)) n places ⌝ }
+    ensures { λ _. ⌜ now (answer .exit) ≡ sets (now (answer .entry)) 0 (wordsTo (foundAmong (now (store .entry)) places) n) ⌝ }
+{
+    for i in 0..n {
+        let k = places[i];
+        put_three(store, k, &mut *answer, 3 * i);
+    }
+}
+
+// The session once it has noted what is current on each plot.
+fn note_all(store: &[u32], places: [usize; 16], n: usize, s: Session) -> Session
+    requires { ⌜ (n ≤ 16) × AllReach (length (now store)) n places ⌝ }
+    ensures { λ r. ⌜ r ≡ withSeen s (seenTo (foundAmong (now (store .entry)) places) n (seenOf s)) ⌝ }
+{
+    let clock = s.clock;
+    let read = s.read;
+    let mut seen = Seen { clock, read };
+    for i in 0..n {
+        let next = crate::note::note(store, places[i], seen);
+        seen = next;
+    }
+    crate::note::with_seen(s, seen)
+}
+
+pub fn read_joint(store: &mut [u32], s: Session, plots: &[u32], answer: &mut [u32]) -> JointRead
+    ensures { λ r. ⌜ (codeOf (r .status) ≡ readJoint (now (store .entry)) (contentOf s) (now (plots .entry)) (now (answer .entry)) .code)
+        × (r .session ≡ readJointSession (now (store .entry)) s (now (plots .entry)) (now (answer .entry)))
+        × (now (store .exit) ≡ readJoint (now (store .entry)) (contentOf s) (now (plots .entry)) (now (answer .entry)) .store)
+        × (now (answer .exit) ≡ readJoint (now (store .entry)) (contentOf s) (now (plots .entry)) (now (answer .entry)) .row) ⌝ }
+{
+    let decided = decide(store, s, plots, answer.len());
+    let code = decided.code;
+    if code != 0 {
+        let status = crate::code::status_of(code);
+        return JointRead { status, session: s };
+    }
+    let visible = decided.visible;
+    let places = decided.places;
+    put_answers(store, places, plots.len(), &mut *answer);
+    let session = note_all(store, places, plots.len(), s);
+    store::reveal::show(&mut *store, visible);
+    JointRead {
+        status: Status::Accepted,
+        session,
+    }
+}

@@ -1,0 +1,166 @@
+// The call write.
+use frame::entry::Entry;
+use frame::refusal::Refusal;
+use frame::refusal::Written;
+use frame::session::Session;
+ghost use mathlib.Core.Path.{_≡_};
+ghost use mathlib.Core.Bool.{true};
+ghost use mathlib.Core.List.{[], _∷_, _++_};
+ghost use Prim.Native.Nat.{_+_, _<_, _≤_};
+ghost use lib.ListN.{length, getD};
+ghost use Rattle.causal.specs.Lists.{part};
+ghost use Rattle.causal.specs.Codes.{check, orElse};
+ghost use Rattle.frame.specs.Entries.{idOf};
+ghost use Rattle.frame.specs.Refusals.{replyOf};
+ghost use Rattle.frame.specs.Sessions.{contentOf};
+ghost use Rattle.store.specs.Offices.{slotAt, officeOf, soundStore};
+ghost use Rattle.store.specs.Slots.{Laid, holdWords};
+ghost use Rattle.office.specs.Calls.{newEntry, write as writeOf};
+ghost use Rattle.office.specs.Answers.{extendedBy, writeSession};
+ghost use Rattle.office.specs.Steps.{ownTo, firstCodes, secondCodes, earlyCode, holdsIn, Slots};
+
+pub struct Wrote {
+    pub written: Written,
+    pub session: Session,
+}
+
+// ---- refusals but for the room, as numbers: 0 is none
+
+// 2: store unsound; 3: session unsound for it; 4: plot out of range; 5: value too great.
+fn first_codes(store: &[u32], s: Session, plot: u32, value: u32) -> u32
+    ensures { λ r. ⌜ r ≡ check (soundStore (now (store .entry))) 2 (firstCodes (getD (now (store .entry)) 0 0) (getD (now (store .entry)) 2 0) (contentOf s) plot value) ⌝ }
+{
+    if !store::sound::is_sound(store) {
+        return 2;
+    }
+    if !frame::session::session_ok(s, store[0], store[2]) {
+        return 3;
+    }
+    if plot >= store[2] {
+        return 4;
+    }
+    if value >= 0x1000_0000 {
+        return 5;
+    }
+    0
+}
+
+// 7: the session carries 16; 6: the office has made 32; 12: a read id is not held.
+fn second_codes(store: &[u32], held: [u32; 8], count: usize, read: [u32; 8]) -> u32
+    requires { ⌜ Laid (now store) × (held ≡ part (now store) 3 8) ⌝ }
+    ensures { λ r. ⌜ r ≡ secondCodes (officeOf (now (store .entry))) count read ⌝ }
+{
+    if count >= 16 {
+        return 7;
+    }
+    if store::clock::made(store) >= 32 {
+        return 6;
+    }
+    if !causal::set::subset(read, held) {
+        return 12;
+    }
+    0
+}
+
+fn early_code(store: &[u32], s: Session, plot: u32, value: u32) -> u32
+    ensures { λ r. ⌜ r ≡ check (soundStore (now (store .entry))) 2 (earlyCode (officeOf (now (store .entry))) (contentOf s) plot value) ⌝ }
+{
+    let first = first_codes(store, s, plot, value);
+    if first != 0 {
+        return first;
+    }
+    let held = store::layout::set_at(store, 3);
+    let count = s.count;
+    let read = s.read;
+    let second = second_codes(store, held, count, read);
+    if second != 0 {
+        return second;
+    }
+    let own = s.own;
+    crate::entries::own_code(store, held, store[1], own, count)
+}
+
+// ---- what a write makes and leaves
+
+fn new_entry(store: &[u32], s: Session, plot: u32, value: u32) -> Entry
+    requires { ⌜ (soundStore (now store) ≡ true) × (s .count ≤ 16) ⌝ }
+    ensures { λ r. ⌜ r ≡ newEntry (officeOf (now (store .entry))) (contentOf s) plot value ⌝ }
+{
+    let office = store[1];
+    let serial = store::clock::made(store) + 1;
+    let seen = store::clock::office_clock(store);
+    let known = s.clock;
+    let joined = causal::clock::join(seen, known);
+    let mut clock = joined;
+    clock[office as usize] = serial;
+    let read = s.read;
+    let own = frame::session::own_ids(s);
+    let deps = causal::set::union(read, own);
+    Entry {
+        office,
+        serial,
+        plot,
+        value,
+        clock,
+        deps,
+    }
+}
+
+// The own writes that are not held, then the new entry.
+fn hold_all(store: &mut [u32], held: [u32; 8], own: [Entry; 16], count: usize, e: Entry)
+    requires { ⌜ (count ≤ 16) × Slots own count (length (now store)) × (slotAt (idOf e) + 18 ≤ length (now store)) ⌝ }
+    ensures { λ _. ⌜ now (store .exit) ≡ holdWords (holdsIn held (now (store .entry)) (ownTo own count)) e ⌝ }
+{
+    crate::entries::hold_own(&mut *store, held, own, count);
+    store::hold::hold(&mut *store, e);
+}
+
+// The session with the new entry among its own writes.
+fn extended(s: Session, e: Entry) -> Session
+    requires { ⌜ s .count < 16 ⌝ }
+    ensures { λ r. ⌜ r ≡ extendedBy s e ⌝ }
+{
+    let mut t = s;
+    let known = s.clock;
+    let seen = e.clock;
+    let clock = causal::clock::join(known, seen);
+    let k = t.count;
+    t.own[k] = e;
+    t.clock = clock;
+    t.count = k + 1;
+    t
+}
+
+// 01: write.
+pub fn write(store: &mut [u32], s: Session, plot: u32, value: u32, out: &mut [u32]) -> Wrote
+    ensures { λ r. ⌜ (replyOf (r .written) ≡ record { code = writeOf (now (store .entry)) (contentOf s) plot value (now (out .entry)) .code; words = writeOf (now (store .entry)) (contentOf s) plot value (now (out .entry)) .count })
+        × (r .session ≡ writeSession (now (store .entry)) s plot value (now (out .entry)))
+        × (now (store .exit) ≡ writeOf (now (store .entry)) (contentOf s) plot value (now (out .entry)) .store)
+        × (now (out .exit) ≡ writeOf (now (store .entry)) (contentOf s) plot value (now (out .entry)) .row) ⌝ }
+{
+    let code = early_code(store, s, plot, value);
+    if code != 0 {
+        return Wrote {
+            written: Written::NotWritten(frame::refusal::refusal_of(code)),
+            session: s,
+        };
+    }
+    let e = new_entry(store, s, plot, value);
+    let n = store[0];
+    let held = store::layout::set_at(store, 3);
+    let own = s.own;
+    let count = s.count;
+    if crate::send::all_words(held, n, own, count, e) > out.len() {
+        return Wrote {
+            written: Written::NotWritten(Refusal::Room),
+            session: s,
+        };
+    }
+    let words = crate::send::put_all(held, n, own, count, e, out);
+    hold_all(&mut *store, held, own, count, e);
+    let session = extended(s, e);
+    Wrote {
+        written: Written::Words(words),
+        session,
+    }
+}
