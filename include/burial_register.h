@@ -1,7 +1,8 @@
 /* The roaming burial register: the calls that a host program in C can make.
  *
  * Terms: an id is an entry's name (office, serial); hops are the offices
- * still to hear a frame after its receiver.
+ * still to hear a frame after its receiver; a session is an errand,
+ * a token a slip.
  *
  * Memory. The caller owns all of it. A call reads and writes only what it is
  * lent, keeps no pointer, allocates nothing and has no state of its own, so
@@ -14,8 +15,10 @@
  * Words. A row of uint32_t holds words as numbers, in the machine's own order.
  * Only burial_check_frame takes bytes: each word is four bytes, lowest first.
  *
+ * Sessions cross by value and are handed back as the call leaves them.
+ *
  * Refusals. A call that is refused changes nothing: every lent row keeps each
- * of its words. A call that is not refused writes the words that it names and
+ * of its words, and a session is handed back as it came. A call that is not refused writes the words that it names and
  * leaves the rest of the row. Of several reasons, the one that the call lists
  * first is given.
  */
@@ -36,13 +39,25 @@ extern "C" {
 #define BURIAL_MAX_VALUE   0xFFFFFFFu  /* 2^28 - 1 */
 #define BURIAL_MAX_SERIAL  32u         /* serials are numbered from 1 */
 #define BURIAL_FRAME_WORDS 267u        /* the longest frame: 8 offices, 255 dependencies */
+#define BURIAL_TOKEN_WORDS 4538u       /* more than the longest token takes */
+#define BURIAL_CARRIED     16u         /* own entries that a session carries at most */
+#define BURIAL_JOINT       16u         /* plots in one joint reading at most */
 
 /* Refusals. */
-#define BURIAL_OK               0u
-#define BURIAL_BAD_SETTINGS     1u  /* ring size or plots out of range */
-#define BURIAL_BAD_CONTENT      3u  /* content that no frame of its ring size has */
-#define BURIAL_NO_ROOM          8u  /* the out row is too short */
-#define BURIAL_NOT_A_FRAME      9u  /* the words or bytes break a rule of the format */
+#define BURIAL_OK            0u
+#define BURIAL_BAD_SETTINGS  1u   /* ring size, own office or plots out of range */
+#define BURIAL_BAD_STORE     2u   /* the store is not sound */
+#define BURIAL_BAD_CONTENT   3u   /* a session that is not sound for the store, or content that no frame or token has */
+#define BURIAL_BAD_PLOT      4u   /* a plot out of range, or more than 16 plots */
+#define BURIAL_BAD_VALUE     5u   /* a value above BURIAL_MAX_VALUE */
+#define BURIAL_OFFICE_FULL   6u   /* the office has made 32 entries */
+#define BURIAL_SESSION_FULL  7u   /* the session carries 16 entries */
+#define BURIAL_NO_ROOM       8u   /* a row is too short */
+#define BURIAL_NOT_A_FRAME   9u   /* the words or bytes are no frame or token */
+#define BURIAL_UNMADE       10u   /* an entry names this office and was not made here */
+#define BURIAL_DIFFERENT    11u   /* an entry is held with other content */
+#define BURIAL_MISSING      12u   /* a read id or a dependency is not held */
+#define BURIAL_OWN_ENTRY    13u   /* an own entry stands above what a joint reading would present */
 
 /* A set of ids: id (office, serial) is bit serial - 1 of word office. */
 
@@ -93,6 +108,105 @@ struct burial_frame_read burial_read_frame(const uint32_t *words, size_t words_l
  * BURIAL_BAD_CONTENT: no frame of this ring size with 64 plots has this content.
  * BURIAL_NO_ROOM: out_len is less than the frame's words. */
 struct burial_written burial_write_frame(struct burial_frame frame,
+                                         uint32_t *out, size_t out_len);
+
+/* A session: what a client has read and written, carried from office to office.
+ * own[0] to own[count - 1] are its entries in writing order; the rest means
+ * nothing and stays as it is. */
+struct burial_session {
+    uint32_t offices;  /* ring size */
+    uint32_t clock[8];
+    uint32_t read[8];  /* a set of ids */
+    size_t count;      /* at most BURIAL_CARRIED */
+    struct burial_entry own[16];
+};
+
+/* found is 1 with the entry that is handed back, or 0 with an entry of zeros; on refusal both
+ * are zeros. */
+struct burial_read {
+    uint32_t refusal;
+    uint32_t found;
+    struct burial_entry entry;
+    struct burial_session session;
+};
+
+struct burial_joint {
+    uint32_t refusal;
+    struct burial_session session;
+};
+
+/* On refusal words is 0. */
+struct burial_wrote {
+    uint32_t refusal;
+    size_t words;
+    struct burial_session session;
+};
+
+/* On refusal words is 0. */
+struct burial_need {
+    uint32_t refusal;
+    size_t words;
+};
+
+/* A store is a row of words that the caller keeps and lends to each call. Its
+ * words are the library's: no one else writes them.
+ *
+ * How many words the store of an office needs.
+ * BURIAL_BAD_SETTINGS: settings out of range, or own not below offices. */
+struct burial_need burial_store_need(uint32_t offices, uint32_t own, uint32_t plots);
+
+/* Reads one plot. Shows all that the session has read, with its dependencies.
+ * BURIAL_BAD_STORE, BURIAL_BAD_CONTENT (the session), BURIAL_BAD_PLOT, BURIAL_MISSING. */
+struct burial_read burial_read_plot(uint32_t *store, size_t store_len,
+                                    struct burial_session session, uint32_t plot);
+
+/* Reads up to 16 plots at once: for each, three words of answer: 1, value, id; or 0, 0, 0.
+ * BURIAL_BAD_STORE, BURIAL_BAD_CONTENT, BURIAL_BAD_PLOT, BURIAL_NO_ROOM, BURIAL_MISSING,
+ * BURIAL_OWN_ENTRY. */
+struct burial_joint burial_read_joint(uint32_t *store, size_t store_len,
+                                      struct burial_session session,
+                                      const uint32_t *plots, size_t plots_len,
+                                      uint32_t *answer, size_t answer_len);
+
+/* Writes a value to a plot. Out gets the frames to send to the next office, one right after
+ * the other: carried entries that are new here, then the new entry.
+ * BURIAL_BAD_STORE, BURIAL_BAD_CONTENT, BURIAL_BAD_PLOT, BURIAL_BAD_VALUE, BURIAL_SESSION_FULL,
+ * BURIAL_OFFICE_FULL, BURIAL_MISSING; for each own entry in order BURIAL_UNMADE, BURIAL_DIFFERENT;
+ * BURIAL_NO_ROOM. */
+struct burial_wrote burial_write(uint32_t *store, size_t store_len,
+                                 struct burial_session session, uint32_t plot, uint32_t value,
+                                 uint32_t *out, size_t out_len);
+
+/* Hears a frame. Words is 0 at the last office; otherwise out gets the frame to send on.
+ * BURIAL_BAD_STORE, BURIAL_NOT_A_FRAME, BURIAL_UNMADE, BURIAL_DIFFERENT, BURIAL_MISSING,
+ * BURIAL_NO_ROOM (only where the frame goes on). A refused frame has not been heard. */
+struct burial_written burial_receive(uint32_t *store, size_t store_len,
+                                     const uint32_t *frame, size_t frame_len,
+                                     uint32_t *out, size_t out_len);
+
+/* On refusal a session of all zeros. */
+struct burial_token_read {
+    uint32_t refusal;
+    struct burial_session session;
+};
+
+/* Makes the store of an office that holds nothing. Writes the first 19 words only.
+ * BURIAL_BAD_SETTINGS, BURIAL_BAD_STORE (too short). */
+uint32_t burial_open_office(uint32_t offices, uint32_t own, uint32_t plots,
+                            uint32_t *store, size_t store_len);
+
+/* A session with nothing read and nothing written.
+ * BURIAL_BAD_SETTINGS: ring size not 2 to 8. */
+struct burial_token_read burial_fresh_session(uint32_t offices);
+
+/* Reads a session from a token (a slip) that takes the whole row.
+ * BURIAL_BAD_SETTINGS, BURIAL_NOT_A_FRAME. */
+struct burial_token_read burial_read_token(const uint32_t *words, size_t words_len,
+                                           uint32_t offices, uint32_t plots);
+
+/* Writes a session as a token to the start of out.
+ * BURIAL_BAD_CONTENT: not sound for its ring size with 64 plots. BURIAL_NO_ROOM. */
+struct burial_written burial_write_token(struct burial_session session,
                                          uint32_t *out, size_t out_len);
 
 #ifdef __cplusplus

@@ -14,6 +14,27 @@ pub struct WordsAnswer {
     pub words: usize,
 }
 
+#[repr(C)]
+pub struct PlotAnswer {
+    pub refusal: u32,
+    pub found: u32,
+    pub entry: frame::entry::Entry,
+    pub session: frame::session::Session,
+}
+
+#[repr(C)]
+pub struct WroteAnswer {
+    pub refusal: u32,
+    pub words: usize,
+    pub session: frame::session::Session,
+}
+
+#[repr(C)]
+pub struct SessionAnswer {
+    pub refusal: u32,
+    pub session: frame::session::Session,
+}
+
 // What a call that writes words answers.
 pub fn words_answer(written: frame::refusal::Written) -> WordsAnswer
     ensures { λ r. ⌜ (r .refusal ≡ replyOf written .code) × (r .words ≡ replyOf written .words) ⌝ }

@@ -116,14 +116,13 @@ module _ (ws : List ℕ) (f : Frame) (out : List ℕ) where
       -- as the reveal asks
       pub seed-ready : (z : List ℕ) (k : ℕ) → z ≡ storeWords ws (holdNew (officeOf ws) (f .entry)) → k ≡ idOf (f .entry)
           → (soundStore z ≡ true) × (subsetOf (inserted zeros k) (part z 3 8) ≡ true)
-      seed-ready z k e q =
-          (
-            ap soundStore e ∙ sound-store ws (holdNew (officeOf ws) (f .entry)) H-sound H-long,
-            ap₂ (λ (x : ℕ) (y : List ℕ). subsetOf (inserted zeros x) (part y 3 8)) q e
-                ∙ ap (subsetOf (inserted zeros (idOf (f .entry)))) (held-words ws (holdNew (officeOf ws) (f .entry)) H-sound H-long)
-                ∙ subset-by (inserted zeros (idOf (f .entry))) (holdNew (officeOf ws) (f .entry) .held) (seed-set (officeOf ws) S f ok′ sane) (H-sound .held-set)
-                (seed-held (officeOf ws) S f ok′ sane K (parts .1)),
-          )
+      seed-ready z k e q = (
+        ap soundStore e ∙ sound-store ws (holdNew (officeOf ws) (f .entry)) H-sound H-long,
+        ap₂ (λ (x : ℕ) (y : List ℕ). subsetOf (inserted zeros x) (part y 3 8)) q e
+            ∙ ap (subsetOf (inserted zeros (idOf (f .entry)))) (held-words ws (holdNew (officeOf ws) (f .entry)) H-sound H-long)
+            ∙ subset-by (inserted zeros (idOf (f .entry))) (holdNew (officeOf ws) (f .entry) .held) (seed-set (officeOf ws) S f ok′ sane) (H-sound .held-set)
+            (seed-held (officeOf ws) S f ok′ sane K (parts .1)),
+      )
 
       -- none are still to hear
       pub taken-last : (z v : List ℕ) (k : ℕ) → f .hops ≡ 0 → z ≡ storeWords ws (holdNew (officeOf ws) (f .entry)) → k ≡ idOf (f .entry)

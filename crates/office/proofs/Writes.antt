@@ -207,13 +207,12 @@ module _ (ws : List ℕ) (s : Session) (plot value : ℕ) (out : List ℕ) where
 
   stops : (x : ℕ) → (x ≡ 0 → ⊥) → write ws (contentOf s) plot value out ≡ refusal x ws (contentOf s) out → Says (record { code = x; words = 0 }) s ws out
   unfolding writeSession sessionIf
-  stops x n e =
-      (
-        ap (λ (r : Result (List ℕ) (List ℕ)). record { code = r .code; words = r .count }) (sym e),
-        same-session x n ∙ ap (λ (r : Result (List ℕ) (List ℕ)). sessionIf (r .code) s (extendedBy s (newEntry (officeOf ws) (contentOf s) plot value))) (sym e),
-        ap (λ (r : Result (List ℕ) (List ℕ)). r .store) (sym e),
-        ap (λ (r : Result (List ℕ) (List ℕ)). r .row) (sym e),
-      )
+  stops x n e = (
+    ap (λ (r : Result (List ℕ) (List ℕ)). record { code = r .code; words = r .count }) (sym e),
+    same-session x n ∙ ap (λ (r : Result (List ℕ) (List ℕ)). sessionIf (r .code) s (extendedBy s (newEntry (officeOf ws) (contentOf s) plot value))) (sym e),
+    ap (λ (r : Result (List ℕ) (List ℕ)). r .store) (sym e),
+    ap (λ (r : Result (List ℕ) (List ℕ)). r .row) (sym e),
+  )
     where
       same-session : (x : ℕ) → (x ≡ 0 → ⊥) → s ≡ sessionIf x s (extendedBy s (newEntry (officeOf ws) (contentOf s) plot value))
       same-session zero n = absurd (n refl)
@@ -285,8 +284,7 @@ module _ (ws : List ℕ) (s : Session) (plot value : ℕ) (out : List ℕ) where
       write-code (officeOf ws) (contentOf s) plot value (length out)
       ∙ or-none (earlyCode (officeOf ws) (contentOf s) plot value) _ (n .1)
       ∙ rw (le-leb (length (rowsOf (writeSends (officeOf ws) (contentOf s) plot value))) (length out) k) refl
-      in
-      (
+      in (
         ap₂ (λ (x y : ℕ). record { code = x; words = y }) (code-0 (n .0) w) (a ∙ ap length r ∙ count-0 (n .0) w),
         b ∙ ap (extendedBy s) q ∙ session-0 (n .0) w,
         d ∙ store-0 (n .0) w,

@@ -1,0 +1,22 @@
+use mathlib.Core.Path.{_≡_, refl, sym, ap, _∙_}
+use Rattle.frame.specs.Refusals.{Reply}
+use borrow.Author.Needs.{needs}
+use Rattle.host.proofs.tokens.burial_write_token.Statement.{statement}
+use Rattle.host.proofs.tokens.burial_write_token.Tie as tie
+
+write-token-requires : tie.Need-write-token-requires
+write-token-requires c κs = search needs
+
+words-answer-requires : tie.Need-words-answer-requires
+words-answer-requires c κs = search needs
+
+same-length : tie.Need-same-length
+same-length c = search needs
+
+returns : tie.Need-returns
+returns c = let e = c .before .before .before .write-token .ensures in
+    (c .words-answer .ensures .0 ∙ ap (λ (x : Reply). x .code) (e .0), c .words-answer .ensures .1 ∙ ap (λ (x : Reply). x .words) (e .0), e .1)
+
+pub burial-write-token-spec : {M : Type 1} → statement M
+burial-write-token-spec =
+    tie.close (tie.spec write-token-requires words-answer-requires same-length returns)
