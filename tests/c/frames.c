@@ -1,10 +1,6 @@
 /* Tests the calls on frames from C, through the header, with frames A and B of document 01. */
 #include "burial_register.h"
-
-#include <stdbool.h>
-#include <stdio.h>
-#include <stdlib.h>
-#include <string.h>
+#include "report.h"
 
 #define FILL 0xA5A5A5A5u
 
@@ -30,36 +26,6 @@ static const struct burial_frame content_b = {
     .hops = 1,
     .entry = { .office = 1, .serial = 1, .plot = 6, .value = 1, .clock = { 1, 1 }, .deps = { 1 } },
 };
-
-/* One named behaviour at a time: how many inputs, and how many of them went wrong. */
-static unsigned inputs, wrong, behaviours, failed;
-
-static void expect(bool holds)
-{
-    inputs++;
-    wrong += !holds;
-}
-
-static void end(const char *name)
-{
-    behaviours++;
-    failed += wrong > 0;
-    if (wrong == 0)
-        printf("ok c: %s (%u)\n", name, inputs);
-    else
-        printf("FAILED c: %s (%u of %u)\n", name, wrong, inputs);
-    inputs = wrong = 0;
-}
-
-/* A copy of exactly this length, so that a memory checker sees a step beyond it. */
-static void *exact(const void *from, size_t bytes)
-{
-    void *copy = malloc(bytes ? bytes : 1);
-    if (copy == NULL)
-        exit(2);
-    memcpy(copy, from, bytes);
-    return copy;
-}
 
 static void to_bytes(const uint32_t *words, size_t len, uint8_t *bytes)
 {
@@ -310,6 +276,5 @@ int main(void)
     test_written();
     test_bad_content();
     test_largest();
-    printf("c frames: %u behaviours, %u failed\n", behaviours, failed);
-    return failed ? 1 : 0;
+    return finish("frames");
 }

@@ -1,4 +1,6 @@
 //! Tokens in words, built by hand from their parts, so that each part can be broken.
+// Several programs share this file, and not each uses all of it.
+#![allow(dead_code)]
 
 use crate::frame_cases::{mend_check, words_of};
 use crate::model::codec::{Frame, CHECK, CLOCK, ID, PAYLOAD};

@@ -55,6 +55,16 @@ both-true false b h = (h, absurd-b b h)
     absurd-b true h = refl
     absurd-b false h = h
 
+pub both-one : (a : Bool) → both a true ≡ a
+unfolding both
+both-one true = refl
+both-one false = refl
+
+pub both-assoc : (a b c : Bool) → both (both a b) c ≡ both a (both b c)
+unfolding both
+both-assoc true b c = refl
+both-assoc false b c = refl
+
 pub all-none : (p : ℕ → Bool) → allBelow 0 p ≡ true
 unfolding allBelow both
 all-none p = refl
@@ -116,3 +126,9 @@ pub implies-intro : (a b : Bool) → (a ≡ true → b ≡ true) → implies a b
 unfolding implies
 implies-intro true b h = h refl
 implies-intro false b h = refl
+
+-- the first one first
+pub all-front : (p : ℕ → Bool) (n : ℕ) → allBelow (suc n) p ≡ both (p 0) (allBelow n (λ i. p (suc i)))
+unfolding allBelow both
+all-front p zero = sym (both-one (p 0))
+all-front p (suc n) = ap (λ (b : Bool). both b (p (suc n))) (all-front p n) ∙ both-assoc (p 0) (allBelow n (λ i. p (suc i))) (p (suc n))

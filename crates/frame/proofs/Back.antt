@@ -12,7 +12,7 @@ use Rattle.causal.specs.Lists.{eqWords, part}
 use Rattle.causal.specs.Sets.{IdSet}
 use Rattle.causal.specs.Tests.{both}
 use Rattle.causal.proofs.Lists.{eqWords-eq, eqWords-refl}
-use Rattle.causal.proofs.Tests.{both-true, lt-or-le}
+use Rattle.causal.proofs.Tests.{both-true, lt-or-le, both-one}
 use Rattle.frame.specs.Entries.{clockOk}
 use Rattle.frame.specs.Frames.{accepts, bodyWords, countIn, frameOf, frameOk, frameWords, officesIn}
 use Rattle.frame.specs.Words.{clockFrom, clockPlace, clockWord, idWords, idsFrom, payAt, payload, summed}
@@ -119,11 +119,7 @@ pub frame-accepted : (n p q m : ℕ) (f : Frame) → q ≤ 64 → frameOk m q f 
 unfolding accepts both
 frame-accepted n p q m f l ok s =
     ap (λ (x : Frame). both (frameOk n p x) (eqWords (frameWords f) (frameWords x))) (frame-back m q f l ok s)
-    ∙ ap (both (frameOk n p f)) (eqWords-refl (frameWords f)) ∙ both-end (frameOk n p f)
-  where
-    both-end : (b : Bool) → both b true ≡ b
-    both-end true = refl
-    both-end false = refl
+    ∙ ap (both (frameOk n p f)) (eqWords-refl (frameWords f)) ∙ both-one (frameOk n p f)
 
 -- an accepted row is the writing of what is read
 pub accepted-ok : (n p : ℕ) (ws : List ℕ) → accepts n p ws ≡ true → frameOk n p (frameOf ws) ≡ true

@@ -6,6 +6,7 @@ use mathlib.Core.List.{List, [], _∷_, _++_, foldl-append}
 use lib.Dec.{leb, eqb}
 use lib.ListN.{length, getD, replicate, List·getD-append}
 use lib.Seq.{ext-getD}
+use Rattle.causal.proofs.Tests.{both-one, both-assoc}
 use Rattle.causal.specs.Tests.{both, allBelow}
 use Rattle.causal.specs.Lists.{tab, zeros}
 use Rattle.causal.specs.Sets.{isIn, unite, inserted, subsetOf}
@@ -18,23 +19,13 @@ use Rattle.frame.proofs.Sessions.{idsWith}
 
 -- ---- chains
 
-both-end : (a : Bool) → both a true ≡ a
-unfolding both
-both-end true = refl
-both-end false = refl
-
-both-assoc : (a b c : Bool) → both (both a b) c ≡ both a (both b c)
-unfolding both
-both-assoc true b c = refl
-both-assoc false b c = refl
-
 -- ---- own writes, one after the other
 
 pub own-snoc : (n p : ℕ) (read seen : List ℕ) (es : List Entry) (e : Entry)
     → ownOk n p read seen (es ++ (e ∷ [])) ≡ both (ownOk n p read seen es) (ownTurn n p read (idsWith seen es) e)
 unfolding ownOk ownTurn both
 own-snoc n p read seen [] e =
-    ap (λ (b : Bool). both (entryOk n p e) (both (not (isIn seen (idOf e))) b)) (both-end (subsetOf (e .deps) (unite read seen)))
+    ap (λ (b : Bool). both (entryOk n p e) (both (not (isIn seen (idOf e))) b)) (both-one (subsetOf (e .deps) (unite read seen)))
 own-snoc n p read seen (x ∷ es) e =
     let A : Bool = entryOk n p x in
     let B : Bool = not (isIn seen (idOf x)) in

@@ -20,6 +20,7 @@ use Rattle.frame.specs.Reading.{clockKinds, ascends, sumOk}
 use Rattle.frame.specs.Sessions.{Content, ownOk, sessionOk}
 use Rattle.frame.specs.Tokens.{rowsOf, ownRows, tokenHead, tokenWords, frameLength, ownFrom, tokenOffices, tokenOwns, tokenReads, contentFrom, acceptsToken}
 use Rattle.frame.specs.TokenReading.{tokenShape, ownFrameOk, ownFramesOk, fieldsOk, tokenChecked}
+use Rattle.frame.proofs.Changed.{session-wider}
 use Rattle.frame.proofs.Entries.{RingFacts, ring-facts, facts-ring, clock-facts, frame-facts, entry-wider}
 use Rattle.frame.proofs.Words.{kind-is, is-kind, ids-ascend, ascends-are}
 use Rattle.frame.proofs.Frames.{clock-again}
@@ -250,20 +251,6 @@ module _ (n p : ℕ) (ws : List ℕ) (high : n ≤ 8) (C : Checked n p ws) where
   checked-written = again ∙ ap (λ (o : ℕ). summed (Body o)) (sym (C .shape .ring))
 
 -- ---- the writing of a sound session passes the checks
-
-own-wider : (n p q : ℕ) (read seen : List ℕ) (es : List Entry) → p ≤ q → ownOk n p read seen es ≡ true → ownOk n q read seen es ≡ true
-unfolding ownOk
-own-wider n p q read seen [] l h = refl
-own-wider n p q read seen (e ∷ es) l h =
-    let F = own-facts n p read seen e es h in
-    facts-own n q read seen e es
-    (record { ok = entry-wider n p q e l (F .ok); new = F .new; deps = F .deps; rest = own-wider n p q read _ es l (F .rest) })
-
--- plots that cover it
-pub session-wider : (n p q : ℕ) (s : Content) → p ≤ q → sessionOk n p s ≡ true → sessionOk n q s ≡ true
-session-wider n p q s l h =
-    let F = session-facts n p s h in
-    facts-session n q s (record { offices = F .offices; few = F .few; clock = F .clock; ids = F .ids; own = own-wider n p q (s .read) _ (s .own) l (F .own) })
 
 module _ (s : Content) (ring : ringOk (s .offices) 64 ≡ true) (ok : sessionOk (s .offices) 64 s ≡ true) (sane : SaneContent s) (p : ℕ) (okp : sessionOk (s .offices) p s ≡ true) where
   abbrev N : ℕ

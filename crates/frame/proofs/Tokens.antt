@@ -23,6 +23,7 @@ use Rattle.frame.proofs.Entries.{RingFacts, facts-frame, ring-facts}
 use Rattle.frame.proofs.Frames.{length-frame}
 use Rattle.frame.proofs.Sessions.{SaneContent, SaneEntry, SessionFacts, own-ok, session-facts}
 use Rattle.frame.proofs.Words.{clock-at, ids-back, ids-size, length-clock}
+use Rattle.causal.proofs.Tests.{both-one}
 
 -- ---- the own entries, each as a frame
 
@@ -168,8 +169,4 @@ module _ (s : Content) (ring : ringOk (s .offices) 64 ≡ true) (ok : sessionOk 
   token-accepted m p =
       ap (λ (x : Content). both (sessionOk m p x) (eqWords (tokenWords s) (tokenWords x))) token-back
       ∙ ap (both (sessionOk m p s)) (eqWords-refl (tokenWords s))
-      ∙ both-end (sessionOk m p s)
-    where
-      both-end : (b : Bool) → both b true ≡ b
-      both-end true = refl
-      both-end false = refl
+      ∙ both-one (sessionOk m p s)

@@ -18,6 +18,7 @@ use Rattle.frame.specs.Calls.{laid}
 use Rattle.frame.specs.Sessions.{Content, contentOf, nobody, sessionOk}
 use Rattle.frame.specs.Tokens.{rowsOf}
 use Rattle.store.specs.Offices.{Office, officeOf, soundStore, reveal, current, Found, None, Some}
+use Rattle.office.proofs.Writes.{count-is}
 use Rattle.office.specs.Calls.{Result, given, worded, noted, notedAll, newEntry, sentOf, holdAll, writeSends, writeCode, writeOn, wroteSession, readPlot, readJoint, write}
 use Rattle.office.specs.Answers.{sessionIf, notedIn, notedAllIn, extendedBy, readPlotSession, readJointSession, writeSession}
 use Rattle.office.specs.Decide.{readRefusal, jointRefusal}
@@ -101,10 +102,6 @@ wrote O s plot value row =
       sent = writeSends O s plot value;
     }
 
-own-count : (s : Session) → length (contentOf s .own) ≡ s .count
-unfolding contentOf
-own-count s = tab-length (s .count) (λ i. getD (s .own) i nobody)
-
 room-left : (O : Office) (s : Content) (plot value room : ℕ) → writeCode O s plot value room ≡ 0 → length (s .own) < 16
 unfolding writeCode
 room-left O s plot value room h =
@@ -119,7 +116,7 @@ unfolding writeSession write writeOn sessionIf
 write-content ws s n plot value row = go (soundStore ws) (writeCode (officeOf ws) (contentOf s) plot value (length row)) refl
   where
     few : writeCode (officeOf ws) (contentOf s) plot value (length row) ≡ 0 → s .count < length (s .own)
-    few h = omega (arith, room-left (officeOf ws) (contentOf s) plot value (length row) h, own-count s)
+    few h = omega (arith, room-left (officeOf ws) (contentOf s) plot value (length row) h, count-is s)
 
     go : (t : Bool) (c : ℕ) → writeCode (officeOf ws) (contentOf s) plot value (length row) ≡ c
         → contentOf (sessionIf (worded t ws (contentOf s) row (given c (officeOf ws) (contentOf s) row (wrote (officeOf ws) (contentOf s) plot value row)) .code) s (extendedBy s (newEntry (officeOf ws) (contentOf s) plot value)))

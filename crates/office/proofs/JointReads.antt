@@ -18,7 +18,7 @@ use Rattle.causal.specs.Rank.{ranksAbove}
 use Rattle.causal.proofs.Codes.{check-none, or-both, or-stops, or-goes, code-fails, code-passes}
 use Rattle.causal.proofs.Lists.{sets-append, sets-front}
 use Rattle.causal.proofs.Chain.{le-passes}
-use Rattle.causal.proofs.Tests.{all-more, all-fails, both-true, split, turn-done}
+use Rattle.causal.proofs.Tests.{all-more, all-fails, both-true, split, turn-done, both-one, both-assoc, all-front}
 use Rattle.frame.specs.declared.entry.Entry.{Entry}
 use Rattle.frame.specs.declared.session.Session.{Session}
 use Rattle.frame.specs.declared.refusal.Status.{Status}
@@ -41,27 +41,12 @@ use Rattle.office.proofs.Numbers.{start-facts, few-own, number-current,
 
 -- ---- a test at each number, from the front
 
-both-assoc : (a b c : Bool) → both (both a b) c ≡ both a (both b c)
-unfolding both
-both-assoc true b c = refl
-both-assoc false b c = refl
-
-both-one : (a : Bool) → both a true ≡ a
-unfolding both
-both-one true = refl
-both-one false = refl
-
-all-cons : (n : ℕ) (f : ℕ → Bool) → allBelow (suc n) f ≡ both (f 0) (allBelow n (λ j. f (suc j)))
-unfolding allBelow both
-all-cons zero f = sym (both-one (f 0))
-all-cons (suc n) f = ap (λ (b : Bool). both b (f (suc n))) (all-cons n f) ∙ both-assoc (f 0) (allBelow n (λ j. f (suc j))) (f (suc n))
-
 -- ---- plots in range
 
 pub plots-below : (p : ℕ) (qs : List ℕ) → allBelow (length qs) (λ j. ltb (getD qs j 0) p) ≡ plotsOk p qs
 unfolding plotsOk allBelow
 plots-below p [] = refl
-plots-below p (q ∷ qs) = all-cons (length qs) (λ j. ltb (getD (q ∷ qs) j 0) p) ∙ ap (both (ltb q p)) (plots-below p qs)
+plots-below p (q ∷ qs) = all-front (λ j. ltb (getD (q ∷ qs) j 0) p) (length qs) ∙ ap (both (ltb q p)) (plots-below p qs)
 
 module _ (p : ℕ) (qs : List ℕ) where
   pub plots-more : (i : ℕ) → allBelow i (λ j. ltb (getD qs j 0) p) ≡ true → getD qs i 0 < p → allBelow (i + 1) (λ j. ltb (getD qs j 0) p) ≡ true
@@ -163,7 +148,7 @@ module _ (O : Office) where
   unfolding allBelow allNoneOver
   over-plots own n s e [] g h = refl
   over-plots own n s e (q ∷ qs) g h =
-      all-cons (length qs) (λ j. noneOverTo own (getD (q ∷ qs) j 0) (g j) n)
+      all-front (λ j. noneOverTo own (getD (q ∷ qs) j 0) (g j) n) (length qs)
       ∙ ap₂ both (over-list own q (g 0) n ∙ ap₂ (noneOver q) (h 0 (omega arith)) (sym e)) (over-plots own n s e qs (λ j. g (suc j)) (tail g q qs h))
 
   words-cons : (g : ℕ → Found) (n : ℕ) → wordsTo g (suc n) ≡ threeWords (g 0) ++ wordsTo (λ j. g (suc j)) n

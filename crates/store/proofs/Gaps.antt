@@ -12,33 +12,13 @@ use lib.Pow.{pow-pos}
 use borrow.Author.Tests.{eq-eqb, eqb-true}
 use Rattle.causal.specs.Tests.{both, implies, allBelow}
 use Rattle.causal.specs.Sets.{bit}
-use Rattle.causal.proofs.Tests.{lt-or-le, same-test, all-at, all-intro, all-ext, implies-intro, implies-elim}
+use Rattle.causal.proofs.Tests.{lt-or-le, same-test, all-at, all-intro, all-ext, implies-intro, implies-elim, all-front}
 use Rattle.causal.proofs.Bits.{bit-lt, bit-low, bit-suc, bit-zero-word, bits-ext}
 use Rattle.store.specs.Slots.{noGap}
 
 -- bit s is set where the next one is
 unfoldable gap : ℕ → ℕ → Bool
 gap w s = implies (eqb (bit w (s + 1)) 1) (eqb (bit w s) 1)
-
-both-assoc : (a b c : Bool) → both (both a b) c ≡ both a (both b c)
-unfolding both
-both-assoc true b c = refl
-both-assoc false b c = refl
-
-both-true-right : (a : Bool) → both a true ≡ a
-unfolding both
-both-true-right true = refl
-both-true-right false = refl
-
--- the first one first
-all-front : (p : ℕ → Bool) (n : ℕ) → allBelow (suc n) p ≡ both (p 0) (allBelow n (λ i. p (suc i)))
-unfolding allBelow both
-all-front p zero = only (p 0)
-  where
-    only : (a : Bool) → both true a ≡ both a true
-    only true = refl
-    only false = refl
-all-front p (suc n) = ap (λ (x : Bool). both x (p (suc n))) (all-front p n) ∙ both-assoc (p 0) (allBelow n (λ i. p (suc i))) (p (suc n))
 
 -- no bit is set above a clear lowest one
 all-clear : (w n : ℕ) → w % 2 ≡ 0 → allBelow n (gap w) ≡ true → (s : ℕ) → s ≤ n → bit w s ≡ 0

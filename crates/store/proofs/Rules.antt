@@ -11,7 +11,7 @@ use borrow.Author.Tests.{ltb-true, leb-true, lt-leb, not-true, not-false}
 use Rattle.causal.specs.Tests.{both, implies, allBelow}
 use Rattle.causal.specs.Lists.{part}
 use Rattle.causal.specs.Sets.{bit, has, isIn, subsetOf}
-use Rattle.causal.proofs.Tests.{not-so, false-true, both-false, both-true, all-none, all-more, all-fails, all-at, all-ext, all-intro, implies-elim}
+use Rattle.causal.proofs.Tests.{not-so, false-true, both-false, both-true, all-none, all-more, all-fails, all-at, all-ext, all-intro, implies-elim, both-one}
 use Rattle.causal.proofs.Sets.{is-in, has-in, has-lt, subset-sound}
 use Rattle.causal.proofs.Lists.{part-length}
 use Rattle.causal.proofs.Walk.{Passed, Next, fold-next, fold-end, has-word}
@@ -20,11 +20,6 @@ use Rattle.frame.specs.Entries.{entryOk, blankEntry}
 use Rattle.frame.specs.Frames.{ringOk}
 use Rattle.store.specs.Offices.{need, slotAt, entryAt, officeOf, settingsOk, heldOk, gapless, soundOffice, soundStore}
 use Rattle.store.specs.Slots.{Laid, noGap, fits, slotOk}
-
-both-true-right : (a : Bool) → both a true ≡ a
-unfolding both
-both-true-right true = refl
-both-true-right false = refl
 
 -- ---- the slots of one word of the held set
 
@@ -45,7 +40,7 @@ module _ (ws : List ℕ) (n p : ℕ) (held visible : List ℕ) (i : ℕ) where
 
   same-at : (b : ℕ) → b < 32 → bit (getD held i 0) b ≡ 0 → allBelow (suc b) At ≡ allBelow b At
   unfolding allBelow
-  same-at b l z = ap (both (allBelow b At)) (slot-clear b l z) ∙ both-true-right (allBelow b At)
+  same-at b l z = ap (both (allBelow b At)) (slot-clear b l z) ∙ both-one (allBelow b At)
 
   pub slots-more : (b rest t : ℕ) (r : Bool) → Next (getD held i 0) b rest t → allBelow b At ≡ true → r ≡ Rest t → not r ≡ false → allBelow (t + 1) At ≡ true
   slots-more b rest t r x a e f =

@@ -28,7 +28,7 @@ pub fn hold(store: &mut [u32], e: Entry)
     requires { ⌜ slotAt (idOf e) + 18 ≤ length (now store) ⌝ }
     ensures { λ _. ⌜ now (store .exit) ≡ holdWords (now (store .entry)) e ⌝ }
 {
-    let k = layout::id_of(e);
+    let k = frame::entry::id_of(e);
     let held = layout::set_at(&store[..], 3);
     let more = causal::set::insert(held, k);
     put_entry(&mut *store, 19 + 18 * k, e);

@@ -6,7 +6,6 @@ ghost use Prim.Native.Nat.{_+_, _<_, _≤_};
 ghost use lib.ListN.{length};
 ghost use lib.Seq.{sets};
 ghost use Rattle.causal.specs.Lists.{part};
-ghost use Rattle.frame.specs.Entries.{idOf};
 ghost use Rattle.store.specs.Offices.{need, slotAt, entryAt, settingsOk};
 
 // Offices 2 to 8, plots 1 to 64, the own office one of the ring.
@@ -24,17 +23,6 @@ pub fn need_of(offices: u32) -> usize
     ensures { λ r. ⌜ r ≡ need offices ⌝ }
 {
     19 + 576 * offices as usize
-}
-
-// The id of an entry: 32 to an office.
-pub fn id_of(e: Entry) -> usize
-    ensures { λ r. ⌜ r ≡ idOf e ⌝ }
-{
-    let first = 32 * e.office as usize;
-    if e.serial < 1 {
-        return first;
-    }
-    first + (e.serial - 1) as usize
 }
 
 // The eight words from `at` on.

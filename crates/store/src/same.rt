@@ -26,7 +26,7 @@ pub fn has_content(store: &[u32], e: Entry) -> bool
     requires { ⌜ slotAt (idOf e) + 18 ≤ length (now store) ⌝ }
     ensures { λ r. ⌜ r ≡ sameContent e (entryAt (now (store .entry)) (idOf e)) ⌝ }
 {
-    let at = 19 + 18 * layout::id_of(e);
+    let at = 19 + 18 * frame::entry::id_of(e);
     if e.plot != store[at] {
         return false;
     }

@@ -1,0 +1,125 @@
+//! Stores, sessions, frames and tokens to time calls on: an empty ring, and a full one.
+
+use crate::model::codec::{write_frame, Frame};
+use crate::model::entry::{ids, insert, Clock, Entry, IdSet, SERIALS};
+use crate::model::office::{open_office, store_need};
+use crate::model::session::{fresh_session, Session};
+use crate::model::store::Store;
+use crate::model::token::{token_words, write_token};
+
+/// The office that is timed. It is the last to hear office 1, and the first to hear the last office.
+pub const OWN: u32 = 0;
+const PLOTS: u32 = 64;
+const CARRIED: usize = 15;
+
+/// What a timed call is lent.
+#[derive(Clone, PartialEq)]
+pub struct Lent {
+    pub store: Vec<u32>,
+    pub session: Session,
+    pub row: Vec<u32>,
+}
+
+/// What a call needs besides.
+pub struct Case {
+    pub offices: u32,
+    pub lent: Lent,
+    pub frame: Vec<u32>,
+    pub token: Vec<u32>,
+}
+
+/// All ids of a ring but one.
+fn all_but(offices: u32, spare: Option<(u32, u32)>) -> IdSet {
+    let mut set = IdSet::default();
+    let all = (0..offices).flat_map(|office| (1..=SERIALS).map(move |serial| (office, serial)));
+    for (office, serial) in all.filter(|&id| Some(id) != spare) {
+        insert(&mut set, office, serial);
+    }
+    set
+}
+
+/// The offices take turns: before (office, serial) come the lower serials, and the same of lower offices.
+fn before((office, serial): (u32, u32), id: (u32, u32)) -> bool {
+    (id.1, id.0) < (serial, office)
+}
+
+/// Depends on each id of the set that comes before it.
+fn entry(offices: u32, (office, serial): (u32, u32), set: &IdSet) -> Entry {
+    let mut clock = Clock::default();
+    let mut deps = IdSet::default();
+    for place in 0..offices {
+        clock[place as usize] = if place <= office { serial } else { serial - 1 };
+    }
+    for (o, s) in ids(*set).filter(|&id| before((office, serial), id)) {
+        insert(&mut deps, o, s);
+    }
+    let plot = (offices * (serial - 1) + office) % PLOTS;
+    Entry { office, serial, plot, value: 1_000 * office + serial, clock, deps }
+}
+
+fn opened(offices: u32) -> Vec<u32> {
+    let mut store = vec![0; store_need(offices, OWN, PLOTS).unwrap()];
+    open_office(offices, OWN, PLOTS, &mut store).unwrap();
+    store
+}
+
+/// Holds and shows the ids of the set.
+fn filled(offices: u32, set: &IdSet) -> Vec<u32> {
+    let mut words = opened(offices);
+    let mut store = Store::sound(&mut words).unwrap();
+    for id in ids(*set) {
+        store.hold(&entry(offices, id, set));
+    }
+    store.show(set);
+    assert!(Store::sound(&mut words).is_some());
+    words
+}
+
+/// Has read the whole set and carries the last entries of it.
+fn full_session(offices: u32, set: &IdSet) -> Session {
+    let mut session = fresh_session(offices).unwrap();
+    let mut order: Vec<(u32, u32)> = ids(*set).collect();
+    order.sort_by_key(|&(office, serial)| (serial, office));
+    session.read = *set;
+    session.clock[..offices as usize].fill(SERIALS);
+    for &id in &order[order.len() - CARRIED..] {
+        session.own[session.count] = entry(offices, id, set);
+        session.count += 1;
+    }
+    assert!(session.is_sound(offices, PLOTS));
+    session
+}
+
+fn frame_words(frame: &Frame) -> Vec<u32> {
+    let mut words = vec![0; frame.words()];
+    write_frame(frame, &mut words).unwrap();
+    words
+}
+
+fn token_of(session: &Session) -> Vec<u32> {
+    let mut words = vec![0; token_words(session)];
+    write_token(session, &mut words).unwrap();
+    words
+}
+
+/// An office that holds nothing, a fresh session, and the first frame of office `from`.
+pub fn empty(offices: u32, from: u32, hops: u32) -> Case {
+    let session = fresh_session(offices).unwrap();
+    let first = entry(offices, (from, 1), &IdSet::default());
+    let lent = Lent { store: opened(offices), session, row: vec![0; 5_000] };
+    let frame = frame_words(&Frame { offices, hops, entry: first });
+    Case { offices, lent, frame, token: token_of(&session) }
+}
+
+/// All that a ring can hold, but for the spare id, which the call brings; the frame is the spare's.
+pub fn full(offices: u32, spare: Option<(u32, u32)>, hops: u32) -> Case {
+    let set = all_but(offices, spare);
+    let session = full_session(offices, &set);
+    let lent = Lent { store: filled(offices, &set), session, row: vec![0; 5_000] };
+    let last = Entry {
+        deps: spare.map_or(IdSet::default(), |_| set),
+        ..entry(offices, spare.unwrap_or((0, 1)), &set)
+    };
+    let frame = frame_words(&Frame { offices, hops, entry: last });
+    Case { offices, lent, frame, token: token_of(&session) }
+}

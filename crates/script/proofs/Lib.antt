@@ -1,0 +1,9 @@
+pub mod Cases
+pub mod Numbers
+pub mod Fields
+pub mod Lines
+pub mod Lengths
+pub mod Decimals
+pub mod Roundtrip
+pub mod Puts
+pub mod Pendings

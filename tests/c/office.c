@@ -1,0 +1,510 @@
+/* Tests the calls on offices, sessions and tokens from C, through the header, with the cases of
+ * document 01. */
+#include "burial_register.h"
+#include "report.h"
+
+#define FILL 0xA5A5A5A5u
+
+/* The archive was built to this layout. */
+_Static_assert(sizeof(struct burial_session) == 1360, "a session is 17 words, a count and 16 entries");
+_Static_assert(sizeof(struct burial_read) == 1448, "a reading");
+_Static_assert(sizeof(struct burial_joint) == 1368, "a joint reading");
+_Static_assert(sizeof(struct burial_wrote) == 1376, "a write");
+_Static_assert(sizeof(struct burial_need) == 16, "a need");
+_Static_assert(sizeof(struct burial_token_read) == 1368, "a session that was read");
+
+static const uint32_t frame_a[] = {
+    0x10011300, 0x30000005, 0x400002C5, 0x50000001, 0x50000000, 0x50000000, 0xF00115CB,
+};
+static const uint32_t frame_b[] = {
+    0x11011301, 0x30000006, 0x40000001, 0x50000001, 0x50000001, 0x50000000, 0x60000001, 0xF101130B,
+};
+/* A and B on their last way: none still to hear. */
+static const uint32_t last_a[] = {
+    0x10010300, 0x30000005, 0x400002C5, 0x50000001, 0x50000000, 0x50000000, 0xF00105CB,
+};
+static const uint32_t last_b[] = {
+    0x11010301, 0x30000006, 0x40000001, 0x50000001, 0x50000001, 0x50000000, 0x60000001, 0xF101030B,
+};
+enum { LEN_A = sizeof frame_a / 4, LEN_B = sizeof frame_b / 4, BOTH = LEN_A + LEN_B, ROW = 128 };
+
+/* An office and a copy of its store, to see what a call changes. */
+struct office {
+    uint32_t *store, *before;
+    size_t words;
+};
+
+static uint32_t *filled(size_t words)
+{
+    uint32_t *row = malloc(4 * words + 1);
+    if (row == NULL)
+        exit(2);
+    for (size_t i = 0; i < words; i++)
+        row[i] = FILL;
+    return row;
+}
+
+static void keep(struct office *office)
+{
+    memcpy(office->before, office->store, 4 * office->words);
+}
+
+static bool unchanged(const struct office *office)
+{
+    return memcmp(office->before, office->store, 4 * office->words) == 0;
+}
+
+/* The store has exactly the words that it needs. */
+static struct office opened(uint32_t offices, uint32_t own)
+{
+    struct burial_need need = burial_store_need(offices, own, 64);
+    struct office office = { filled(need.words), filled(need.words), need.words };
+    expect(need.refusal == BURIAL_OK);
+    expect(burial_open_office(offices, own, 64, office.store, office.words) == BURIAL_OK);
+    keep(&office);
+    return office;
+}
+
+static void closed(struct office office)
+{
+    free(office.store);
+    free(office.before);
+}
+
+static struct burial_session fresh(uint32_t offices)
+{
+    struct burial_token_read read = burial_fresh_session(offices);
+    expect(read.refusal == BURIAL_OK && read.session.offices == offices && read.session.count == 0);
+    return read.session;
+}
+
+/* By its parts, since the space before the count is no field. */
+static bool same_session(const struct burial_session *a, const struct burial_session *b)
+{
+    return memcmp(a, b, 17 * 4) == 0 && a->count == b->count && memcmp(a->own, b->own, sizeof a->own) == 0;
+}
+
+static bool filled_from(const uint32_t *row, size_t from, size_t len)
+{
+    for (size_t i = from; i < len; i++)
+        if (row[i] != FILL)
+            return false;
+    return true;
+}
+
+static bool is_id(const struct burial_entry *entry, uint32_t office, uint32_t serial)
+{
+    return entry->office == office && entry->serial == serial;
+}
+
+/* Writes with a row of `room` words; on refusal nothing may have changed. The row stays in `row`. */
+static struct burial_wrote write_in(struct office *office, struct burial_session *session, uint32_t plot,
+                                    uint32_t value, size_t room, uint32_t row[ROW])
+{
+    uint32_t *lent = filled(room);
+    keep(office);
+    struct burial_wrote wrote =
+        burial_write(office->store, office->words, *session, plot, value, lent, room);
+    if (wrote.refusal != BURIAL_OK)
+        expect(wrote.words == 0 && unchanged(office) && same_session(&wrote.session, session)
+               && filled_from(lent, 0, room));
+    else
+        expect(wrote.words <= room && filled_from(lent, wrote.words, room));
+    memcpy(row, lent, 4 * room);
+    free(lent);
+    *session = wrote.session;
+    return wrote;
+}
+
+static uint32_t write_one(struct office *office, struct burial_session *session, uint32_t plot, uint32_t value)
+{
+    uint32_t row[ROW];
+    return write_in(office, session, plot, value, ROW, row).refusal;
+}
+
+static struct burial_read read_one(struct office *office, struct burial_session *session, uint32_t plot)
+{
+    keep(office);
+    struct burial_read read = burial_read_plot(office->store, office->words, *session, plot);
+    if (read.refusal != BURIAL_OK)
+        expect(read.found == 0 && unchanged(office) && same_session(&read.session, session));
+    *session = read.session;
+    return read;
+}
+
+static uint32_t joint_in(struct office *office, struct burial_session *session, const uint32_t *plots,
+                         size_t count, uint32_t *answer, size_t room)
+{
+    keep(office);
+    struct burial_joint joint =
+        burial_read_joint(office->store, office->words, *session, plots, count, answer, room);
+    if (joint.refusal != BURIAL_OK)
+        expect(unchanged(office) && same_session(&joint.session, session) && filled_from(answer, 0, room));
+    *session = joint.session;
+    return joint.refusal;
+}
+
+/* Hears a frame with a row of `room` words for what goes on. */
+static struct burial_written hear_in(struct office *office, const uint32_t *frame, size_t len, size_t room,
+                                     uint32_t row[ROW])
+{
+    uint32_t *lent = exact(frame, 4 * len), *out = filled(room);
+    keep(office);
+    struct burial_written heard = burial_receive(office->store, office->words, lent, len, out, room);
+    if (heard.refusal != BURIAL_OK)
+        expect(heard.words == 0 && unchanged(office));
+    expect(memcmp(lent, frame, 4 * len) == 0 && filled_from(out, heard.words, room));
+    memcpy(row, out, 4 * room);
+    free(lent);
+    free(out);
+    return heard;
+}
+
+/* A frame that must go on as `expected`, or end here where that is empty. */
+static void hears(struct office *office, const uint32_t *frame, size_t len, const uint32_t *expected,
+                  size_t expected_len)
+{
+    uint32_t row[ROW];
+    struct burial_written heard = hear_in(office, frame, len, expected_len, row);
+    expect(heard.refusal == BURIAL_OK && heard.words == expected_len);
+    expect(expected_len == 0 || memcmp(row, expected, 4 * expected_len) == 0);
+}
+
+static void expect_none(struct burial_read read)
+{
+    static const struct burial_entry zeros;
+    expect(read.refusal == BURIAL_OK && read.found == 0);
+    expect(memcmp(&read.entry, &zeros, sizeof zeros) == 0);
+}
+
+static void expect_found(struct burial_read read, uint32_t value, uint32_t office, uint32_t serial)
+{
+    expect(read.refusal == BURIAL_OK && read.found == 1 && read.entry.value == value);
+    expect(is_id(&read.entry, office, serial));
+}
+
+static void test_open(void)
+{
+    for (uint32_t offices = 2; offices <= 8; offices++)
+        for (uint32_t own = 0; own < offices; own++) {
+            struct office office = opened(offices, own);
+            expect(office.words <= 8192 && filled_from(office.store, 19, office.words));
+            struct burial_session session = fresh(offices);
+            for (uint32_t plot = 0; plot < 64; plot++)
+                expect_none(read_one(&office, &session, plot));
+            expect(unchanged(&office));
+            closed(office);
+        }
+    end("an opened office presents nothing");
+}
+
+static void test_need(void)
+{
+    for (uint32_t offices = 2; offices <= 8; offices++) {
+        size_t need = burial_store_need(offices, 0, 64).words;
+        uint32_t *store = filled(need);
+        for (size_t words = 0; words < need; words += words + 40 < need ? 37 : 1)
+            expect(burial_open_office(offices, 0, 64, store, words) == BURIAL_BAD_STORE
+                   && filled_from(store, 0, need));
+        expect(burial_open_office(offices, 0, 64, store, need) == BURIAL_OK);
+        struct burial_session session = fresh(offices);
+        struct burial_read read = burial_read_plot(store, need - 1, session, 0);
+        expect(read.refusal == BURIAL_BAD_STORE && same_session(&read.session, &session));
+        free(store);
+    }
+    end("a store shorter than its need is refused 2");
+}
+
+static void bad_settings(uint32_t offices, uint32_t own, uint32_t plots)
+{
+    uint32_t *store = filled(8192);
+    struct burial_need need = burial_store_need(offices, own, plots);
+    expect(need.refusal == BURIAL_BAD_SETTINGS && need.words == 0);
+    expect(burial_open_office(offices, own, plots, store, 8192) == BURIAL_BAD_SETTINGS);
+    expect(burial_open_office(offices, own, plots, store, 0) == BURIAL_BAD_SETTINGS);
+    expect(filled_from(store, 0, 8192));
+    free(store);
+}
+
+static void test_settings(void)
+{
+    static const struct burial_session zeros;
+    static const uint32_t rings[] = { 0, 1, 9, 10, 256, 0xFFFFFFFF };
+    for (size_t i = 0; i < sizeof rings / 4; i++) {
+        struct burial_token_read session = burial_fresh_session(rings[i]);
+        expect(session.refusal == BURIAL_BAD_SETTINGS && same_session(&session.session, &zeros));
+        session = burial_read_token(frame_a, LEN_A, rings[i], 64);
+        expect(session.refusal == BURIAL_BAD_SETTINGS && same_session(&session.session, &zeros));
+        bad_settings(rings[i], 0, 64);
+    }
+    bad_settings(3, 3, 64);
+    bad_settings(3, 0xFFFFFFFF, 64);
+    bad_settings(3, 0, 0);
+    bad_settings(3, 0, 65);
+    end("a ring of 9 and other settings out of range are refused 1");
+}
+
+/* The script of document 01, a call for each line that makes one. */
+static void test_script(void)
+{
+    struct office office[3] = { opened(3, 0), opened(3, 1), opened(3, 2) };
+    struct burial_session errand[2] = { fresh(3), fresh(3) };
+    uint32_t row[ROW];
+
+    /* W 0 5 709 */
+    struct burial_wrote wrote = write_in(&office[0], &errand[0], 5, 709, LEN_A, row);
+    expect(wrote.refusal == BURIAL_OK && wrote.words == LEN_A && memcmp(row, frame_a, sizeof frame_a) == 0);
+    expect(errand[0].count == 1 && is_id(&errand[0].own[0], 0, 1));
+    /* M 0 1, W 0 6 1 */
+    wrote = write_in(&office[1], &errand[0], 6, 1, BOTH, row);
+    expect(wrote.refusal == BURIAL_OK && wrote.words == BOTH);
+    expect(memcmp(row, frame_a, sizeof frame_a) == 0 && memcmp(row + LEN_A, frame_b, sizeof frame_b) == 0);
+    expect(errand[0].count == 2 && is_id(&errand[0].own[1], 1, 1));
+    /* R 1 6 */
+    expect_none(read_one(&office[0], &errand[1], 6));
+    /* H 2, H 2, H 0, H 0 */
+    hears(&office[2], row, LEN_A, last_a, LEN_A);
+    hears(&office[2], row + LEN_A, LEN_B, last_b, LEN_B);
+    hears(&office[0], last_a, LEN_A, NULL, 0);
+    hears(&office[0], last_b, LEN_B, NULL, 0);
+    /* R 1 6, M 1 2, R 1 5 */
+    expect_found(read_one(&office[0], &errand[1], 6), 1, 1, 1);
+    expect_found(read_one(&office[2], &errand[1], 5), 709, 0, 1);
+    for (int i = 0; i < 3; i++)
+        closed(office[i]);
+    end("the eleven lines, with frames A and B word for word");
+}
+
+static void test_made(void)
+{
+    struct office office = opened(2, 1);
+    for (uint32_t serial = 1; serial <= 32; serial++) {
+        struct burial_session session = fresh(2);
+        expect(write_one(&office, &session, serial, serial) == BURIAL_OK);
+        expect(session.count == 1 && is_id(&session.own[0], 1, serial));
+    }
+    struct burial_session session = fresh(2);
+    expect(write_one(&office, &session, 0, 1) == BURIAL_OFFICE_FULL);
+    closed(office);
+    end("32 entries are made and the 33rd is refused 6");
+}
+
+static void test_carried(void)
+{
+    struct office office = opened(2, 0);
+    struct burial_session session = fresh(2), other = fresh(2);
+    for (uint32_t count = 1; count <= 16; count++) {
+        expect(write_one(&office, &session, 0, count) == BURIAL_OK);
+        expect(session.count == count);
+    }
+    expect(write_one(&office, &session, 0, 17) == BURIAL_SESSION_FULL);
+    /* 7 comes before 6. */
+    for (uint32_t count = 1; count <= 16; count++)
+        expect(write_one(&office, &other, 0, count) == BURIAL_OK);
+    expect(write_one(&office, &session, 0, 17) == BURIAL_SESSION_FULL);
+    closed(office);
+    end("16 entries are carried and the 17th is refused 7");
+}
+
+static void test_value(void)
+{
+    struct office office = opened(3, 2);
+    struct burial_session session = fresh(3);
+    expect(write_one(&office, &session, 63, 1u << 28) == BURIAL_BAD_VALUE);
+    expect(write_one(&office, &session, 63, 0xFFFFFFFF) == BURIAL_BAD_VALUE);
+    expect(write_one(&office, &session, 64, 1u << 28) == BURIAL_BAD_PLOT);
+    expect(write_one(&office, &session, 63, BURIAL_MAX_VALUE) == BURIAL_OK);
+    expect_found(read_one(&office, &session, 63), BURIAL_MAX_VALUE, 2, 1);
+    expect(read_one(&office, &session, 64).refusal == BURIAL_BAD_PLOT);
+    closed(office);
+    end("the value 2^28 - 1 is written and 2^28 is refused 5");
+}
+
+static void test_room(void)
+{
+    struct office first = opened(3, 0), second = opened(3, 1);
+    struct burial_session session = fresh(3), reader = fresh(3);
+    uint32_t row[ROW], answer[6];
+    for (size_t room = 0; room < LEN_A; room++) {
+        expect(write_in(&first, &session, 5, 709, room, row).refusal == BURIAL_NO_ROOM);
+        expect(hear_in(&second, frame_a, LEN_A, room, row).refusal == BURIAL_NO_ROOM);
+    }
+    expect(write_in(&first, &session, 5, 709, LEN_A, row).refusal == BURIAL_OK);
+    for (size_t room = 0; room < BOTH; room++)
+        expect(write_in(&second, &session, 6, 1, room, row).refusal == BURIAL_NO_ROOM);
+    expect(write_in(&second, &session, 6, 1, BOTH, row).refusal == BURIAL_OK);
+    static const uint32_t plots[] = { 5, 6 };
+    memset(answer, 0xA5, sizeof answer);
+    for (size_t room = 0; room < 6; room++)
+        expect(joint_in(&first, &reader, plots, 2, answer, room) == BURIAL_NO_ROOM);
+    expect(joint_in(&first, &reader, plots, 2, answer, 6) == BURIAL_OK);
+    closed(first);
+    closed(second);
+    end("a row one word short is refused 8 and nothing has changed");
+}
+
+static void test_joint(void)
+{
+    struct office office = opened(3, 1);
+    struct burial_session session = fresh(3), reader = fresh(3);
+    static const uint32_t plots[17] = { 4, 5, 4 };
+    static const uint32_t none_then_a[9] = { 0, 0, 0, 1, 709, 1, 0, 0, 0 };
+    uint32_t answer[51];
+    memset(answer, 0xA5, sizeof answer);
+    expect(write_one(&office, &session, 4, 1) == BURIAL_OK);
+    expect(joint_in(&office, &session, plots, 2, answer, 51) == BURIAL_OWN_ENTRY);
+    expect(joint_in(&office, &session, plots, 17, answer, 51) == BURIAL_BAD_PLOT);
+    hears(&office, last_a, LEN_A, NULL, 0);
+    expect(joint_in(&office, &session, plots, 2, answer, 51) == BURIAL_OWN_ENTRY);
+    expect(joint_in(&office, &session, plots + 1, 1, answer, 3) == BURIAL_OK);
+    expect(answer[0] == 1 && answer[1] == 709 && answer[2] == 1 && filled_from(answer, 3, 51));
+    expect(joint_in(&office, &reader, plots, 3, answer, 51) == BURIAL_OK);
+    expect(memcmp(answer, none_then_a, sizeof none_then_a) == 0 && filled_from(answer, 9, 51));
+    closed(office);
+    end("a joint reading, and with an own write refused 13");
+}
+
+/* Each call on a store: the refusal of all, or a number that none gives. */
+static uint32_t refusal_of_all(struct office *office, struct burial_session session)
+{
+    static const uint32_t plots[] = { 5 };
+    uint32_t row[ROW], answer[3] = { FILL, FILL, FILL };
+    struct burial_session copies[3] = { session, session, session };
+    uint32_t refusal = read_one(office, &copies[0], 5).refusal;
+    bool same = joint_in(office, &copies[1], plots, 1, answer, 3) == refusal;
+    same &= write_one(office, &copies[2], 5, 1) == refusal;
+    same &= hear_in(office, frame_a, LEN_A, ROW, row).refusal == refusal;
+    return same ? refusal : 99;
+}
+
+/* Opening and hearing write every word that counts; a damaged one is refused, the others mean nothing. */
+static void test_damaged(void)
+{
+    struct office office = opened(3, 1), trial = opened(3, 1);
+    struct burial_session reader = fresh(3);
+    size_t refused = 0;
+    hears(&office, last_a, LEN_A, NULL, 0);
+    for (size_t at = 0; at < office.words; at++) {
+        bool counts = office.store[at] != FILL;
+        memcpy(trial.store, office.store, 4 * office.words);
+        trial.store[at] = 0xFFFFFFFF;
+        uint32_t refusal = refusal_of_all(&trial, reader);
+        expect(refusal == (counts ? BURIAL_BAD_STORE : BURIAL_OK));
+        refused += refusal == BURIAL_BAD_STORE;
+    }
+    expect(refused > 19);
+    memset(trial.store, 0, 4 * trial.words);
+    expect(refusal_of_all(&trial, reader) == BURIAL_BAD_STORE);
+    closed(office);
+    closed(trial);
+    end("a damaged store is refused 2 and nothing has changed");
+}
+
+static struct burial_token_read read_token(const uint32_t *words, size_t len, uint32_t plots)
+{
+    uint32_t *lent = exact(words, 4 * len);
+    struct burial_token_read read = burial_read_token(lent, len, 3, plots);
+    free(lent);
+    return read;
+}
+
+static bool token_refused(const uint32_t *words, size_t len, uint32_t plots)
+{
+    static const struct burial_session zeros;
+    struct burial_token_read read = read_token(words, len, plots);
+    return read.refusal == BURIAL_NOT_A_FRAME && same_session(&read.session, &zeros);
+}
+
+/* A session that has read A at office 2 and carries its write there. */
+static struct burial_session travelled(void)
+{
+    struct office office = opened(3, 2);
+    struct burial_session session = fresh(3);
+    hears(&office, last_a, LEN_A, NULL, 0);
+    expect_found(read_one(&office, &session, 5), 709, 0, 1);
+    expect(write_one(&office, &session, 6, 1) == BURIAL_OK);
+    closed(office);
+    return session;
+}
+
+static size_t write_token_at_each_room(const struct burial_session *session, uint32_t row[ROW])
+{
+    size_t words = burial_write_token(*session, row, ROW).words;
+    for (size_t room = 0; room <= words; room++) {
+        uint32_t *lent = filled(room);
+        struct burial_written written = burial_write_token(*session, lent, room);
+        if (room < words)
+            expect(written.refusal == BURIAL_NO_ROOM && written.words == 0 && filled_from(lent, 0, room));
+        else
+            expect(written.refusal == BURIAL_OK && memcmp(lent, row, 4 * words) == 0);
+        free(lent);
+    }
+    return words;
+}
+
+static void test_token(void)
+{
+    struct burial_session session = travelled();
+    uint32_t row[ROW];
+    size_t words = write_token_at_each_room(&session, row);
+    for (uint32_t plots = 7; plots <= 64; plots++) {
+        struct burial_token_read read = read_token(row, words, plots);
+        expect(read.refusal == BURIAL_OK && same_session(&read.session, &session));
+    }
+    expect(token_refused(row, words, 6)); /* it carries a write on plot 6 */
+    expect(token_refused(row, words - 1, 64));
+    for (size_t at = 0; at < words; at++)
+        for (int bit = 0; bit < 32; bit++) {
+            row[at] ^= 1u << bit;
+            expect(token_refused(row, words, 64));
+            row[at] ^= 1u << bit;
+        }
+    end("a token is written and read back; one word changed is refused 9");
+    session.count = 17;
+    struct burial_written written = burial_write_token(session, row, ROW);
+    expect(written.refusal == BURIAL_BAD_CONTENT && written.words == 0);
+    end("a token that carries 17 is refused 3");
+}
+
+/* All ids read, and 16 own entries that depend on all others. */
+static void test_longest_token(void)
+{
+    struct burial_session session = fresh(8);
+    memset(session.read, 0xFF, sizeof session.read);
+    session.count = 16;
+    for (uint32_t i = 0; i < 16; i++) {
+        struct burial_entry *entry = &session.own[i];
+        *entry = (struct burial_entry){ .office = 7, .serial = i + 1, .plot = 63, .value = BURIAL_MAX_VALUE };
+        entry->clock[7] = i + 1;
+        memset(entry->deps, 0xFF, sizeof entry->deps);
+        entry->deps[7] &= ~(1u << i);
+    }
+    uint32_t *row = filled(BURIAL_TOKEN_WORDS);
+    struct burial_written written = burial_write_token(session, row, BURIAL_TOKEN_WORDS - 1);
+    expect(written.refusal == BURIAL_NO_ROOM && filled_from(row, 0, BURIAL_TOKEN_WORDS));
+    written = burial_write_token(session, row, BURIAL_TOKEN_WORDS);
+    expect(written.refusal == BURIAL_OK && written.words == BURIAL_TOKEN_WORDS);
+    struct burial_token_read read = burial_read_token(row, BURIAL_TOKEN_WORDS, 8, 64);
+    expect(read.refusal == BURIAL_OK && same_session(&read.session, &session));
+    free(row);
+    end("the longest token");
+}
+
+int main(void)
+{
+    /* So that a crash does not take the lines before it along. */
+    setvbuf(stdout, NULL, _IOLBF, 0);
+    test_open();
+    test_need();
+    test_settings();
+    test_script();
+    test_made();
+    test_carried();
+    test_value();
+    test_room();
+    test_joint();
+    test_damaged();
+    test_token();
+    test_longest_token();
+    return finish("office");
+}
