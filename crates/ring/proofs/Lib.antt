@@ -14,3 +14,5 @@ pub mod SameRun
 pub mod Theorem
 pub mod Corrects
 pub mod Played
+pub mod Contract
+pub mod Promises

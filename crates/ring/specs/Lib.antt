@@ -1,3 +1,4 @@
 pub mod Run
 pub mod Holds
 pub mod Lines
+pub mod Promises
