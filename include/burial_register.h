@@ -39,7 +39,7 @@ extern "C" {
 #define BURIAL_MAX_VALUE   0xFFFFFFFu  /* 2^28 - 1 */
 #define BURIAL_MAX_SERIAL  32u         /* serials are numbered from 1 */
 #define BURIAL_FRAME_WORDS 267u        /* the longest frame: 8 offices, 255 dependencies */
-#define BURIAL_TOKEN_WORDS 4538u       /* more than the longest token takes */
+#define BURIAL_TOKEN_WORDS 4538u       /* the longest token: 8 offices, all read, 16 own entries */
 #define BURIAL_CARRIED     16u         /* own entries that a session carries at most */
 #define BURIAL_JOINT       16u         /* plots in one joint reading at most */
 
@@ -176,6 +176,25 @@ struct burial_joint burial_read_joint(uint32_t *store, size_t store_len,
 struct burial_wrote burial_write(uint32_t *store, size_t store_len,
                                  struct burial_session session, uint32_t plot, uint32_t value,
                                  uint32_t *out, size_t out_len);
+
+/* The three calls of a session with the session lent: it holds its new state afterwards, and
+ * stays as it was on refusal. The session overlaps no row of the call. */
+struct burial_plot_found {
+    uint32_t refusal;
+    uint32_t found; /* 1, or 0 where the plot has no entry */
+    struct burial_entry entry;
+};
+
+struct burial_plot_found burial_lent_read_plot(uint32_t *store, size_t store_len,
+                                               struct burial_session *session, uint32_t plot);
+
+uint32_t burial_lent_read_joint(uint32_t *store, size_t store_len, struct burial_session *session,
+                                const uint32_t *plots, size_t plots_len,
+                                uint32_t *answer, size_t answer_len);
+
+struct burial_written burial_lent_write(uint32_t *store, size_t store_len,
+                                        struct burial_session *session, uint32_t plot,
+                                        uint32_t value, uint32_t *out, size_t out_len);
 
 /* Hears a frame. Words is 0 at the last office; otherwise out gets the frame to send on.
  * BURIAL_BAD_STORE, BURIAL_NOT_A_FRAME, BURIAL_UNMADE, BURIAL_DIFFERENT, BURIAL_MISSING,

@@ -490,6 +490,38 @@ static void test_longest_token(void)
     end("the longest token");
 }
 
+/* The calls with the session lent do as those by value, and leave the session alone on refusal. */
+static void test_lent(void)
+{
+    struct office by_value = opened(3, 0), lent = opened(3, 0);
+    struct burial_session session = fresh(3), before;
+    uint32_t *row = filled(ROW), *other = filled(ROW), answer[6];
+    const uint32_t plots[] = { 6, 7 }, own[] = { 5 };
+
+    struct burial_wrote wrote = burial_write(by_value.store, by_value.words, session, 5, 709, row, ROW);
+    struct burial_written written = burial_lent_write(lent.store, lent.words, &session, 5, 709, other, ROW);
+    expect(written.refusal == BURIAL_OK && written.words == LEN_A && memcmp(row, other, 4 * ROW) == 0);
+    expect(same_session(&session, &wrote.session));
+    expect(memcmp(by_value.store, lent.store, 4 * lent.words) == 0);
+
+    struct burial_plot_found found = burial_lent_read_plot(lent.store, lent.words, &session, 5);
+    expect(found.refusal == BURIAL_OK && found.found == 1 && found.entry.value == 709);
+    expect(burial_lent_read_joint(lent.store, lent.words, &session, plots, 2, answer, 6) == BURIAL_OK);
+    expect(answer[0] == 0 && answer[3] == 0);
+
+    before = session;
+    keep(&lent);
+    expect(burial_lent_read_plot(lent.store, lent.words, &session, 64).refusal == BURIAL_BAD_PLOT);
+    expect(burial_lent_read_joint(lent.store, lent.words, &session, own, 1, answer, 6) == BURIAL_OWN_ENTRY);
+    expect(burial_lent_write(lent.store, lent.words, &session, 5, BURIAL_MAX_VALUE + 1, other, ROW).refusal == BURIAL_BAD_VALUE);
+    expect(same_session(&session, &before) && unchanged(&lent) && memcmp(row, other, 4 * ROW) == 0);
+    free(row);
+    free(other);
+    closed(by_value);
+    closed(lent);
+    end("sessions lent");
+}
+
 int main(void)
 {
     /* So that a crash does not take the lines before it along. */
@@ -506,5 +538,6 @@ int main(void)
     test_damaged();
     test_token();
     test_longest_token();
+    test_lent();
     return finish("office");
 }

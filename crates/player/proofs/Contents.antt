@@ -1,0 +1,117 @@
+-- The sessions that accepted calls leave, as structs and as contents. Assumes nothing.
+use Prim.Native.Nat.{ℕ, suc, zero, _+_, _-_, _<_, _≤_}
+use mathlib.Core.Bool.{Bool, true}
+use mathlib.Core.List.{List, [], _++_, _∷_}
+use mathlib.Core.Path.{_∙_, _≡_, ap, refl, sym}
+use native.Mathlib.Omega.{arith}
+use lib.ListN.{getD, length, length-set, set}
+use lib.Seq.{getD-set-other, getD-set-same}
+use Rattle.causal.specs.Clocks.{join}
+use Rattle.causal.specs.Lists.{tab}
+use Rattle.causal.proofs.Lists.{tab-length, tab-more}
+use Rattle.frame.specs.Sessions.{Content, contentOf, nobody}
+use Rattle.frame.specs.declared.entry.Entry.{Entry}
+use Rattle.frame.specs.declared.session.Session.{Session}
+use Rattle.store.specs.Offices.{Found, None, Office, Some, current, officeOf, reveal, soundStore}
+use Rattle.office.specs.Answers.{anyFound, entryFound, extendedBy, notedIn, readPlotSession, sessionIf, writeSession}
+use Rattle.office.specs.Calls.{newEntry, noted, readCode, readOn, readPlot, write, writeCode, writeOn, wroteSession}
+use Rattle.ring.specs.Run.{lastOf}
+use Rattle.ring.proofs.WriteKeeps.{last-snoc}
+use Rattle.script.specs.declared.reply.Reply.the-variants.{Wrote}
+use Rattle.player.specs.Desks.{newestReply}
+use Rattle.player.specs.Play.{readReply, wroteReply}
+use Rattle.player.specs.Steps.{entryReply}
+use Rattle.player.proofs.Accepted.{no-refusal}
+
+tab-ext : {A : Type 0} (n : ℕ) (f g : ℕ → A) → ((i : ℕ) → i < n → f i ≡ g i) → tab n f ≡ tab n g
+unfolding tab
+tab-ext zero f g h = refl
+tab-ext (suc n) f g h = λ i. tab-ext n f g (λ k l. h k (omega arith)) i ++ (h n (omega arith) i ∷ [])
+
+pub own-length : (s : Session) → length (contentOf s .own) ≡ s .count
+unfolding contentOf
+own-length s = tab-length (s .count) (λ i. getD (s .own) i nobody)
+
+-- one own entry more
+own-more : (own : List Entry) (n : ℕ) (e : Entry) → n < length own →
+    tab (n + 1) (λ i. getD (set own n e) i nobody) ≡ tab n (λ i. getD own i nobody) ++ (e ∷ [])
+own-more own n e h =
+    tab-more n (λ i. getD (set own n e) i nobody)
+    ∙ (λ i. tab-ext n (λ k. getD (set own n e) k nobody) (λ k. getD own k nobody) (λ k l. getD-set-other own n k e nobody (λ (q : k ≡ n). omega arith)) i
+    ++ (getD-set-same own n e nobody h i ∷ []))
+
+extended : (s : Session) (O : Office) (plot value : ℕ) → s .count < length (s .own)
+    → contentOf (extendedBy s (newEntry O (contentOf s) plot value)) ≡ wroteSession O (contentOf s) plot value
+unfolding contentOf extendedBy wroteSession
+extended s O plot value h =
+    λ i.
+    record {
+      offices = s .offices;
+      clock = join (s .clock) (newEntry O (contentOf s) plot value .clock);
+      read = s .read;
+      own = own-more (s .own) (s .count) (newEntry O (contentOf s) plot value) h i;
+    }
+
+accepted-session : (ws : List ℕ) (s : Content) (plot value : ℕ) (row : List ℕ) → write ws s plot value row .code ≡ 0
+    → write ws s plot value row .session ≡ wroteSession (officeOf ws) s plot value
+unfolding write writeOn
+accepted-session ws s plot value row h =
+    let z = no-refusal (soundStore ws) (writeCode (officeOf ws) s plot value (length row)) ws (officeOf ws) s row _ h in rw (z .0, z .1)
+
+accepted-reading : (ws : List ℕ) (s : Content) (plot : ℕ) → readPlot ws s plot .code ≡ 0
+    → readPlot ws s plot .session ≡ noted (current (reveal (officeOf ws) (s .read)) plot) s
+unfolding readPlot readOn
+accepted-reading ws s plot h =
+    let z = no-refusal (soundStore ws) (readCode (officeOf ws) s plot) ws (officeOf ws) s [] _ h in rw (z .0, z .1)
+
+noted-is : (s : Session) (f : Found) → contentOf (notedIn f s) ≡ noted f (contentOf s)
+unfolding notedIn noted contentOf
+noted-is s None = refl
+noted-is s (Some e) = refl
+
+noted-size : (s : Session) (f : Found) → length (notedIn f s .own) ≡ length (s .own)
+unfolding notedIn
+noted-size s None = refl
+noted-size s (Some e) = refl
+
+last-tab : (n : ℕ) (f : ℕ → Entry) → 1 ≤ n → lastOf (tab n f) ≡ f (n - 1)
+unfolding tab
+last-tab zero f h = absurd (omega arith)
+last-tab (suc n) f h = last-snoc (tab n f) (f n) ∙ ap f (omega arith)
+
+module _ (ws : List ℕ) (s : Session) (size : length (s .own) ≡ 16) where
+  module _ (plot value : ℕ) (row : List ℕ) (z : write ws (contentOf s) plot value row .code ≡ 0) (few : length (contentOf s .own) < 16) where
+    pub write-session : write ws (contentOf s) plot value row .session ≡ contentOf (writeSession ws s plot value row)
+    unfolding writeSession sessionIf
+    write-session = wrote ∙ sym (rw z more)
+      where
+        wrote : write ws (contentOf s) plot value row .session ≡ wroteSession (officeOf ws) (contentOf s) plot value
+        wrote = accepted-session ws (contentOf s) plot value row z
+
+        more : contentOf (extendedBy s (newEntry (officeOf ws) (contentOf s) plot value)) ≡ wroteSession (officeOf ws) (contentOf s) plot value
+        more = extended s (officeOf ws) plot value (omega (arith, own-length s))
+
+    pub write-count : (1 ≤ writeSession ws s plot value row .count) × (writeSession ws s plot value row .count ≤ 16) × (length (writeSession ws s plot value row .own) ≡ 16)
+    unfolding writeSession sessionIf extendedBy
+    write-count = rw z (omega arith, omega (arith, own-length s), length-set (s .own) (s .count) (newEntry (officeOf ws) (contentOf s) plot value) ∙ size)
+
+  module _ (plot : ℕ) (z : readPlot ws (contentOf s) plot .code ≡ 0) where
+    pub read-session : readPlot ws (contentOf s) plot .session ≡ contentOf (readPlotSession ws s plot)
+    unfolding readPlotSession sessionIf contentOf
+    read-session = accepted-reading ws (contentOf s) plot z ∙ sym (rw z (noted-is s (current (reveal (officeOf ws) (s .read)) plot)))
+
+    pub read-size : length (readPlotSession ws s plot .own) ≡ 16
+    unfolding readPlotSession sessionIf
+    read-size = rw z (noted-size s (current (reveal (officeOf ws) (s .read)) plot) ∙ size)
+
+-- ---- replies
+
+pub newest-is : (s : Session) → 1 ≤ s .count → newestReply s ≡ wroteReply (contentOf s .own)
+unfolding wroteReply contentOf
+newest-is s h = ap (λ (e : Entry). Wrote (e .office) (e .serial)) (sym (last-tab (s .count) (λ i. getD (s .own) i nobody) h))
+
+pub found-is : (fs : List Found) → entryReply (anyFound fs) (entryFound fs) ≡ readReply fs
+unfolding anyFound entryFound readReply
+found-is [] = refl
+found-is (None ∷ fs) = refl
+found-is (Some e ∷ fs) = refl

@@ -1,0 +1,82 @@
+-- Words copied one by one; where the frames of a row begin. Assumes nothing.
+use Prim.Native.Nat.{ℕ, suc, zero, _%_, _*_, _+_, _<_, _≤_}
+use mathlib.Core.List.{List, [], _∷_, _++_}
+use mathlib.Core.Logic.{⊎-elim}
+use mathlib.Core.Path.{_∙_, _≡_, ap, refl, sym}
+use native.Mathlib.Numerals.{add-one}
+use native.Mathlib.Omega.{arith}
+use lib.ListN.{getD, length, set}
+use lib.Seq.{sets}
+use Rattle.causal.specs.Lists.{part}
+use Rattle.causal.proofs.Lists.{part-add, part-cons, part-length, sets-append}
+use Rattle.causal.proofs.Tests.{lt-or-le, split}
+use Rattle.player.specs.Desks.{Cut, frameLen, lengthAt, pushed, slotAt, startOf}
+
+-- ---- copying
+
+pub copy-none : (to from : List ℕ) (a b : ℕ) → to ≡ sets to b (part from a 0)
+unfolding part
+copy-none to from a b = refl
+
+part-none : (ws : List ℕ) (a : ℕ) → part ws a 0 ≡ []
+unfolding part
+part-none ws a = refl
+
+pub part-more : (ws : List ℕ) (a n : ℕ) → a + n < length ws → part ws a (n + 1) ≡ part ws a n ++ (getD ws (a + n) 0 ∷ [])
+part-more ws a n h = part-add ws a n 1 ∙ ap (λ (l : List ℕ). part ws a n ++ l) (part-cons ws (a + n) 0 h ∙ ap (λ (l : List ℕ). getD ws (a + n) 0 ∷ l) (part-none ws (suc (a + n))))
+
+pub copy-more : (to from : List ℕ) (a b n : ℕ) → a + n < length from → set (sets to b (part from a n)) (b + n) (getD from (a + n) 0) ≡ sets to b (part from a (n + 1))
+copy-more to from a b n h =
+    sym
+    (ap (sets to b) (part-more from a n h)
+    ∙ sets-append to b (part from a n) (getD from (a + n) 0 ∷ [])
+    ∙ ap (λ (x : ℕ). set (sets to b (part from a n)) (b + x) (getD from (a + n) 0)) (part-length from a n (omega arith)))
+
+-- a frame's length in front of it
+pub push-one : (lines row : List ℕ) (slot at len : ℕ) → at + len ≤ length row → sets (set lines slot len) (slot + 1) (part row at len) ≡ sets lines slot (len ∷ part row at len)
+push-one lines row slot at len h = sym (sets-append lines slot (len ∷ []) (part row at len))
+
+-- ---- where frames begin
+
+pub start-more : (ws : List ℕ) (k : ℕ) → startOf ws (k + 1) ≡ startOf ws k + frameLen ws k
+unfolding startOf
+start-more ws k = rw (add-one k)
+
+pub start-mono : (ws : List ℕ) (k n : ℕ) → k ≤ n → startOf ws k ≤ startOf ws n
+unfolding startOf
+start-mono ws k zero h = let e : k ≡ 0 = omega arith in rw e (omega arith)
+start-mono ws k (suc n) h =
+    ⊎-elim (λ (l : k < suc n). omega (arith, start-mono ws k n (omega arith))) (λ (g : suc n ≤ k). let e : k ≡ suc n = omega arith in rw e (omega arith)) (lt-or-le k (suc n))
+
+pub start-next : (ws : List ℕ) (k n : ℕ) → k < n → startOf ws k + frameLen ws k ≤ startOf ws n
+start-next ws k n h = omega (arith, start-mono ws (k + 1) n (omega arith), start-more ws k)
+
+-- counting them
+pub count-goes : (ws : List ℕ) (words m n : ℕ) → Cut ws words m → startOf ws n < words → n ≤ m → n + 1 ≤ m
+count-goes ws words m n c h l =
+    ⊎-elim (λ (g : n < m). omega arith) (λ (g : m ≤ n). absurd (let e : n ≡ m = omega arith in let q : startOf ws n ≡ words = ap (startOf ws) e ∙ c .whole in omega arith)) (lt-or-le n m)
+
+pub count-ends : (ws : List ℕ) (words m n : ℕ) → Cut ws words m → words ≤ startOf ws n → n ≤ m → n ≡ m
+count-ends ws words m n c h l =
+    ⊎-elim (λ (g : n < m). absurd (omega (arith, start-next ws n m g, c .whole))) (λ (g : m ≤ n). omega arith) (lt-or-le n m)
+
+pub pushed-none : (lines : List ℕ) (o q : ℕ) (row : List ℕ) → lines ≡ pushed lines o q row 0
+unfolding pushed
+pushed-none lines o q row = refl
+
+pub pushed-more : (lines : List ℕ) (o q : ℕ) (row : List ℕ) (k : ℕ) →
+    sets (pushed lines o q row k) (slotAt o ((q + k) % 32)) (frameLen row k ∷ part row (startOf row k) (frameLen row k)) ≡ pushed lines o q row (k + 1)
+unfolding pushed
+pushed-more lines o q row k = rw (add-one k)
+
+pub start-none : (ws : List ℕ) → 0 ≡ startOf ws 0
+unfolding startOf
+start-none ws = refl
+
+pub start-low : (ws : List ℕ) (k : ℕ) → 7 * k ≤ startOf ws k
+unfolding startOf
+start-low ws zero = omega arith
+start-low ws (suc k) = omega (arith, start-low ws k)
+
+pub cut-few : (ws : List ℕ) (words n : ℕ) → Cut ws words n → 7 * n ≤ words
+cut-few ws words n c = omega (arith, start-low ws n, c .whole)

@@ -1,0 +1,17 @@
+pub mod Cuts
+pub mod Room
+pub mod Accepted
+pub mod Waiting
+pub mod Scenes
+pub mod Contents
+pub mod Refusals
+pub mod Delivery
+pub mod PlayWrite
+pub mod PlayRead
+pub mod PlayReceive
+pub mod PlayMove
+pub mod LineWrite
+pub mod LineRead
+pub mod LineReceive
+pub mod Runs
+pub mod Started

@@ -1,0 +1,39 @@
+use Prim.Native.Nat.{ℕ, suc, zero, _%_, _*_, _+_, _-_, _<_, _≤_}
+use mathlib.Core.List.{List, [], _∷_}
+use mathlib.Core.Path.{_∙_, _≡_, ap, refl, sym}
+use native.Mathlib.Omega.{arith}
+use lib.ListN.{getD, length, length-set}
+use lib.Seq.{length-sets, sets}
+use Rattle.causal.specs.Lists.{part}
+use Rattle.ring.specs.Run.{nextOf}
+use Rattle.player.specs.Desks.{Cut, countAt, firstAt, frameLen, lengthAt, placeAt, pushed, sessionAt, slotAt, startOf, withFrames}
+use Rattle.player.specs.Play.{Scene}
+use Rattle.player.specs.Shows.{Shows}
+use Rattle.player.proofs.Cuts as cuts
+use Rattle.player.proofs.Delivery as dl
+use Rattle.player.proofs.Scenes.{next-low}
+use Rattle.player.proofs.PlayMove as mv
+use mathlib.Core.Path.{subst}
+use Rattle.player.specs.declared.desk.Desk.{Desk}
+use Rattle.player.specs.Steps.{Plays}
+use Rattle.script.specs.declared.line.Line.the-variants.{Move}
+use Rattle.script.specs.declared.reply.Reply.the-variants.{Moved}
+use borrow.Author.Needs.{needs}
+use Rattle.player.proofs.play.move_line.Statement.{statement}
+use Rattle.player.proofs.play.move_line.Tie as tie
+
+returns : tie.Need-returns
+returns c = λ row stores lines g S. mv.move-odd g (c .before .args .desk) stores lines S row (c .before .args .i) (c .before .args .office) (c .if1 .taken)
+
+returns-2 : tie.Need-returns-2
+returns-2 c = λ row stores lines g S. mv.move-far g (c .before .before .args .desk) stores lines S row (c .before .before .args .i) (c .before .before .args .office) (c .before .if1 .left) (c .if2 .taken)
+
+with-place-requires : tie.Need-with-place-requires
+with-place-requires c κs = search needs
+
+returns-3 : tie.Need-returns-3
+returns-3 c = λ row stores lines g S. let z = c .before .before .before in
+    subst (λ (d : Desk). Plays row g (Move (z .args .i) (z .args .office)) (record { desk = d; reply = Moved }) stores lines) (sym (c .with-place .ensures)) (mv.move-done g (z .args .desk) stores lines S row (z .args .i) (z .args .office) (c .before .before .if1 .left) (c .before .if2 .left))
+
+pub move-line-spec : {M : Type 1} → statement M
+move-line-spec = tie.close (tie.spec returns returns-2 with-place-requires returns-3)

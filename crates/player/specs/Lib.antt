@@ -1,0 +1,4 @@
+pub mod Play
+pub mod Desks
+pub mod Shows
+pub mod Steps
