@@ -16,3 +16,4 @@ pub mod Corrects
 pub mod Played
 pub mod Contract
 pub mod Promises
+pub mod Table

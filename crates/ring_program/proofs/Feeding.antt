@@ -1,0 +1,166 @@
+-- Bytes fed one after another. Assumes nothing.
+use Prim.Native.Nat.{ℕ, suc, zero, _+_, _-_, _<_, _≤_}
+use mathlib.Core.List.{List, [], _++_, _∷_, append-assoc, append-nil}
+use mathlib.Core.Path.{_∙_, _≡_, ap, refl, subst, sym}
+use native.Mathlib.Nat.{add-zero, zero-add}
+use native.Mathlib.Omega.{arith}
+use lib.ListN.{drop, getD, length, length-append, take}
+use lib.Seq.{length-sets, sets, take-length}
+use Rattle.causal.specs.Lists.{part}
+use Rattle.causal.proofs.Lists.{part-add, part-cons, sets-append}
+use Rattle.script.specs.Lines.{lineOf}
+use Rattle.script.specs.Pendings.{pendingOf, pushed}
+use Rattle.script.specs.Replies.{replyBytes}
+use Rattle.script.specs.declared.line.Line.{Line}
+use Rattle.script.specs.declared.pending.Pending.{Pending}
+use Rattle.script.specs.declared.reply.Reply.{Reply}
+use Rattle.script.proofs.Pendings.{push-more}
+use Rattle.player.specs.declared.desk.Desk.{Desk}
+use Rattle.player.specs.declared.desk.Played.{Played}
+use Rattle.player.specs.Play.{Scene, play}
+use Rattle.player.specs.Shows.{Shows}
+use Rattle.player.specs.Steps.{Plays}
+use Rattle.ring_program.specs.declared.feed.Stage.{Stage}
+use Rattle.ring_program.specs.Fed.{Ended, Fed, Follows, Leads, byte, line, none}
+
+fed-then : {g h k : Scene} {l m n bs cs x y : List ℕ} → Fed g l bs h m x → Fed h m cs k n y → Fed g l (bs ++ cs) k n (x ++ y)
+fed-then {g} {h} {k} {l} {m} {n} {bs} {cs} {x} {y} F none = subst (λ (p : List ℕ × List ℕ). Fed g l (p .0) h m (p .1)) (λ i. (sym (append-nil bs) i, sym (append-nil x) i)) F
+fed-then {g} {h} {k} {l} {m} {n} {bs} {cs} {x} {y} F (byte {h = h′} {bs = b′} {m = m′} {text = t′} b ne G) =
+    subst (λ (p : List ℕ). Fed g l p h′ (m′ ++ (b ∷ [])) (x ++ t′)) (append-assoc bs b′ (b ∷ [])) (byte b ne (fed-then F G))
+fed-then {g} {h} {k} {l} {m} {n} {bs} {cs} {x} {y} F (line {h = h′} {bs = b′} {m = m′} {text = t′} row e G) =
+    subst (λ (p : List ℕ × List ℕ). Fed g l (p .0) (play row h′ (lineOf m′) .0) [] (p .1)) (λ i. (append-assoc bs b′ (10 ∷ []) i, append-assoc x t′ (replyBytes (play row h′ (lineOf m′) .1)) i)) (line row e (fed-then F G))
+
+module _ (g : Scene) (l bs : List ℕ) (at : ℕ) (text : List ℕ) where
+  pub follows-then : (r : Stage) (stores lines text′ : List ℕ) (A : Follows g l bs at text r stores lines text′) (cs : List ℕ) (q : Stage) (stores′ lines′ text″ : List ℕ)
+      → Follows (A .scene) (A .rest) cs (r .at) text′ q stores′ lines′ text″ → Follows g l (bs ++ cs) at text q stores′ lines′ text″
+  follows-then r stores lines text′ A cs q stores′ lines′ text″ B =
+      record {
+        scene = B .scene;
+        rest = B .rest;
+        said = A .said ++ B .said;
+        fed = fed-then (A .fed) (B .fed);
+        shows = B .shows;
+        pending = B .pending;
+        at-is = omega (arith, B .at-is, A .at-is, length-append (A .said) (B .said));
+        text-is = B .text-is ∙ (λ i. sets (A .text-is i) (A .at-is i) (B .said)) ∙ sym (sets-append text at (A .said) (B .said));
+      }
+
+pub ended-follows : (row : List ℕ) (g : Scene) (l : List ℕ) (at : ℕ) (text : List ℕ) (r : Stage) (stores lines text′ : List ℕ) → length row ≡ 1751 → (b : ℕ) → b ≡ 10
+    → Ended row g l at text r stores lines text′ → Follows g l (b ∷ []) at text r stores lines text′
+ended-follows row g l at text r stores lines text′ e b is E =
+    record {
+      scene = play row g (lineOf l) .0;
+      rest = [];
+      said = replyBytes (play row g (lineOf l) .1);
+      fed = subst (λ (x : ℕ). Fed g l (x ∷ []) (play row g (lineOf l) .0) [] (replyBytes (play row g (lineOf l) .1))) (sym is) (line row e none);
+      shows = E .shows;
+      pending = E .pending;
+      at-is = E .at-is;
+      text-is = E .text-is;
+    }
+
+pub byte-follows : (g : Scene) (l : List ℕ) (at : ℕ) (text : List ℕ) (d : Desk) (p q : Pending) (stores lines : List ℕ) (b : ℕ) → (b ≡ 10 → ⊥) → Shows g d stores lines → p ≡ pendingOf l → q ≡ pushed p b
+    → Follows g l (b ∷ []) at text (record { desk = d; pending = q; at = at }) stores lines text
+byte-follows g l at text d p q stores lines b ne S e h =
+    record {
+      scene = g;
+      rest = l ++ (b ∷ []);
+      said = [];
+      fed = byte b ne none;
+      shows = S;
+      pending = h ∙ ap (λ (x : Pending). pushed x b) e ∙ push-more l b;
+      at-is = sym (add-zero at);
+      text-is = refl;
+    }
+
+-- a line played and its reply put
+pub ended : (row : List ℕ) (g : Scene) (l : List ℕ) (at n : ℕ) (text text′ : List ℕ) (asked : Line) (r : Played) (blank : Pending) (stores lines : List ℕ) → asked ≡ lineOf l → Plays row g asked r stores lines
+    → n ≡ at + length (replyBytes (r .reply)) → text′ ≡ sets text at (replyBytes (r .reply)) → blank ≡ pendingOf []
+    → Ended row g l at text (record { desk = r .desk; pending = blank; at = n }) stores lines text′
+ended row g l at n text text′ asked r blank stores lines e P a t z =
+    record {
+      shows = subst (λ (x : Line). Shows (play row g x .0) (r .desk) stores lines) e (P .shows);
+      pending = z;
+      at-is = a ∙ ap (λ (x : Reply). at + length (replyBytes x)) said;
+      text-is = t ∙ ap (λ (x : Reply). sets text at (replyBytes x)) said;
+    }
+  where
+    said : r .reply ≡ play row g (lineOf l) .1
+    said = P .reply ∙ ap (λ (x : Line). play row g x .1) e
+
+part-one : (xs : List ℕ) (a : ℕ) → a < length xs → part xs a 1 ≡ getD xs a 0 ∷ []
+unfolding part
+part-one xs a k = part-cons xs a 0 k
+
+-- the next byte of a part
+pub part-next : (ws : List ℕ) (from i : ℕ) → from ≤ i → i < length ws → part ws from (i - from) ++ (getD ws i 0 ∷ []) ≡ part ws from (i + 1 - from)
+part-next ws from i h l =
+    let e : i + 1 - from ≡ (i - from) + 1 = omega arith in
+    let f : from + (i - from) ≡ i = omega arith in
+    ap (λ (x : ℕ). part ws from (i - from) ++ (getD ws x 0 ∷ [])) (sym f)
+    ∙ ap (λ (x : List ℕ). part ws from (i - from) ++ x) (sym (part-one ws (from + (i - from)) (omega arith)))
+    ∙ sym (part-add ws from (i - from) 1)
+    ∙ ap (part ws from) (sym e)
+
+-- ---- the loop over bytes
+
+part-zero : (bytes : List ℕ) (i : ℕ) → part bytes i (i - i) ≡ []
+unfolding part
+part-zero bytes i = let e : i - i ≡ 0 = omega arith in ap (λ (x : ℕ). take x (drop i bytes)) e
+
+pub nothing-fed : (bytes : List ℕ) (i : ℕ) (r : Stage) (stores lines text : List ℕ) (g : Scene) (l : List ℕ) → Shows g (r .desk) stores lines → r .pending ≡ pendingOf l
+    → Follows g l (part bytes i (i - i)) (r .at) text r stores lines text
+nothing-fed bytes i r stores lines text g l S e =
+    subst (λ (x : List ℕ). Follows g l x (r .at) text r stores lines text) (sym (part-zero bytes i))
+    (record { scene = g; rest = l; said = []; fed = none; shows = S; pending = e; at-is = sym (add-zero (r .at)); text-is = refl })
+
+pub one-more : (bytes : List ℕ) (from i : ℕ) → from ≤ i → i < length bytes → (g : Scene) (l : List ℕ) (at : ℕ) (text : List ℕ) (r : Stage) (stores lines text′ : List ℕ)
+    (A : Follows g l (part bytes from (i - from)) at text r stores lines text′) (q : Stage) (stores′ lines′ text″ : List ℕ)
+    → Follows (A .scene) (A .rest) (getD bytes i 0 ∷ []) (r .at) text′ q stores′ lines′ text″ → Follows g l (part bytes from (i + 1 - from)) at text q stores′ lines′ text″
+one-more bytes from i h k g l at text r stores lines text′ A q stores′ lines′ text″ B =
+    subst (λ (x : List ℕ). Follows g l x at text q stores′ lines′ text″) (part-next bytes from i h k)
+    (follows-then g l (part bytes from (i - from)) at text r stores lines text′ A (getD bytes i 0 ∷ []) q stores′ lines′ text″ B)
+
+pub first-then : (bytes : List ℕ) (from i : ℕ) → from + 1 ≤ i → i ≤ length bytes → (g : Scene) (l : List ℕ) (at : ℕ) (text : List ℕ) (r : Stage) (stores lines text′ : List ℕ)
+    (A : Follows g l (getD bytes from 0 ∷ []) at text r stores lines text′) (q : Stage) (stores′ lines′ text″ : List ℕ)
+    → Follows (A .scene) (A .rest) (part bytes (from + 1) (i - (from + 1))) (r .at) text′ q stores′ lines′ text″ → Follows g l (part bytes from (i - from)) at text q stores′ lines′ text″
+first-then bytes from i h k g l at text r stores lines text′ A q stores′ lines′ text″ B =
+    subst (λ (x : List ℕ). Follows g l x at text q stores′ lines′ text″) whole
+    (follows-then g l (getD bytes from 0 ∷ []) at text r stores lines text′ A (part bytes (from + 1) (i - (from + 1))) q stores′ lines′ text″ B)
+  where
+    whole : getD bytes from 0 ∷ part bytes (from + 1) (i - (from + 1)) ≡ part bytes from (i - from)
+    whole =
+        let e : i - from ≡ suc (i - (from + 1)) = omega arith in
+        let f : from + 1 ≡ suc from = omega arith in
+        ap (λ (x : ℕ). getD bytes from 0 ∷ part bytes x (i - (from + 1))) f ∙ sym (part-cons bytes from (i - (from + 1)) (omega arith)) ∙ ap (part bytes from) (sym e)
+
+-- ---- the loop over a chunk
+
+part-whole : (bytes : List ℕ) → part bytes 0 (length bytes) ≡ bytes
+unfolding part
+part-whole bytes = take-length bytes
+
+pub leads-none : (bytes : List ℕ) (r : Stage) (stores lines : List ℕ) (g : Scene) (l : List ℕ) → Shows g (r .desk) stores lines → r .pending ≡ pendingOf l → Leads g l (part bytes 0 0) r stores lines
+unfolding part
+leads-none bytes r stores lines g l S e = record { scene = g; rest = l; said = []; fed = none; shows = S; pending = e }
+
+pub leads-then : (bytes : List ℕ) (from next : ℕ) → from ≤ next → (g : Scene) (l : List ℕ) (r : Stage) (stores lines : List ℕ) (A : Leads g l (part bytes 0 from) r stores lines) (at : ℕ) (text : List ℕ) (q w : Stage)
+    (stores′ lines′ text′ : List ℕ) → Follows (A .scene) (A .rest) (part bytes from (next - from)) at text q stores′ lines′ text′ → w .desk ≡ q .desk → w .pending ≡ q .pending
+    → Leads g l (part bytes 0 next) w stores′ lines′
+leads-then bytes from next h g l r stores lines A at text q w stores′ lines′ text′ B d p =
+    record {
+      scene = B .scene;
+      rest = B .rest;
+      said = A .said ++ B .said;
+      fed = subst (λ (x : List ℕ). Fed g l x (B .scene) (B .rest) (A .said ++ B .said)) whole (fed-then (A .fed) (B .fed));
+      shows = subst (λ (x : Desk). Shows (B .scene) x stores′ lines′) (sym d) (B .shows);
+      pending = p ∙ B .pending;
+    }
+  where
+    whole : part bytes 0 from ++ part bytes from (next - from) ≡ part bytes 0 next
+    whole =
+        let e : from + (next - from) ≡ next = omega arith in
+        ap (λ (x : ℕ). part bytes 0 from ++ part bytes x (next - from)) (sym (zero-add from)) ∙ sym (part-add bytes 0 from (next - from)) ∙ ap (part bytes 0) e
+
+pub leads-all : (bytes : List ℕ) (n : ℕ) → n ≡ length bytes → (g : Scene) (l : List ℕ) (r : Stage) (stores lines : List ℕ) → Leads g l (part bytes 0 n) r stores lines → Leads g l bytes r stores lines
+leads-all bytes n e g l r stores lines A = subst (λ (x : List ℕ). Leads g l x r stores lines) (ap (part bytes 0) e ∙ part-whole bytes) A

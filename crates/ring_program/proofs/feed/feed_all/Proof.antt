@@ -1,0 +1,130 @@
+use Prim.Native.Nat.{ℕ, suc, zero, _+_, _-_, _<_, _≤_}
+use mathlib.Core.List.{List, [], _∷_}
+use mathlib.Core.Path.{_∙_, _≡_, ap, refl, subst, sym}
+use native.Mathlib.Omega.{arith}
+use lib.ListN.{getD, length}
+use lib.Seq.{length-sets, sets}
+use Rattle.causal.specs.Lists.{part}
+use Rattle.script.specs.Pendings.{pendingOf}
+use Rattle.script.proofs.Pendings.{parse-whole}
+use Rattle.player.specs.Play.{Scene}
+use Rattle.player.specs.Shows.{Shown, Shows}
+use Rattle.ring_program.specs.Fed.{Ended, Fed, Follows}
+use Rattle.ring_program.proofs.Feeding as fd
+use Rattle.script.specs.Pendings.{parsed}
+use Rattle.script.specs.declared.pending.Pending.{Pending}
+use lib.Seq.{length-take-le}
+use Rattle.ring_program.specs.Fed.{Leads}
+use borrow.Author.Needs.{needs}
+use Rattle.ring_program.proofs.feed.feed_all.Statement.{statement}
+use Rattle.ring_program.proofs.feed.feed_all.Tie as tie
+
+abbrev Inv-loop : tie.InvT-loop
+Inv-loop bytes stores₀ lines₀ scratch₀ out₀ text₀ cur₀ from₀ stores lines scratch out text cur from = (from ≤ length bytes) × (length scratch ≡ length scratch₀) × (length out ≡ length out₀) × (length text ≡ length text₀) × (length stores ≡ length stores₀) × (length lines ≡ length lines₀) × (cur .at ≡ 0) × ((g : Scene) (l : List ℕ) → Shows g (cur₀ .desk) stores₀ lines₀ → cur₀ .pending ≡ pendingOf l → Leads g l (part bytes 0 from) cur stores lines)
+
+abbrev μ-loop : tie.MeasureT-loop
+μ-loop bytes stores₀ lines₀ scratch₀ out₀ text₀ cur₀ from₀ stores lines scratch out text cur from = length bytes - from
+
+loop-holds : tie.Need-loop-holds Inv-loop μ-loop
+loop-holds c = let z = c .before .before .before .before .before .before in
+    let a = z .args in
+    (omega arith, refl, refl, refl, refl, refl, z .pre .3, λ g l S e. fd.leads-none (a .bytes .now) (a .stage) (a .stores .now) (a .lines .now) g l S e)
+
+feed-some-requires : tie.Need-feed-some-requires Inv-loop μ-loop
+feed-some-requires c κs = let z = c .before .before .before .before .before .before .before .before .before .before .before .before .before in
+    let a = z .args in
+    let L = c .before .before .before .before .before .before .loop in
+    let B = L .inv .7 (z .pre .4 .0) (z .pre .4 .1) (z .pre .4 .2) (z .pre .4 .3) in
+    (L .inv .1 ∙ z .pre .0, L .inv .2 ∙ z .pre .1, omega (arith, L .inv .6, L .inv .3, z .pre .2), c .before .before .before .before .before .loop-test .taken, (B .scene, B .rest, B .shows, B .pending))
+
+slice-reshare-prefix-write-all : tie.Need-slice-reshare-prefix-write-all Inv-loop μ-loop
+slice-reshare-prefix-write-all c = let z = c .before .before .before .before .before .before .before .before .before .before .before .before .before .before .before .before .before .before .before .before .before .before .before .before .before in
+    let a = z .args in
+    let L = c .before .before .before .before .before .before .before .before .before .before .before .before .before .before .before .before .before .before .loop in
+    let B = L .inv .7 (z .pre .4 .0) (z .pre .4 .1) (z .pre .4 .2) (z .pre .4 .3) in
+    let q = c .before .before .before .before .before .before .before .before .before .before .before .feed-some in
+    omega (arith, q .ensures .2, q .kept .1 .1 .1 .1 .1 .1 .1 .0)
+
+slice-aggregate-write-all : tie.Need-slice-aggregate-write-all Inv-loop μ-loop
+slice-aggregate-write-all c = let z = c .before .before .before .before .before .before .before .before .before .before .before .before .before .before .before .before .before .before .before .before .before .before .before .before .before .before in
+    let a = z .args in
+    let L = c .before .before .before .before .before .before .before .before .before .before .before .before .before .before .before .before .before .before .before .loop in
+    let B = L .inv .7 (z .pre .4 .0) (z .pre .4 .1) (z .pre .4 .2) (z .pre .4 .3) in
+    let q = c .before .before .before .before .before .before .before .before .before .before .before .before .feed-some in
+    sym (length-take-le (q .result .stage .at) (q .last .1 .1 .1 .1 .1 .1 .1 .0) (omega (arith, q .ensures .2, q .kept .1 .1 .1 .1 .1 .1 .1 .0)))
+
+write-all-requires : tie.Need-write-all-requires Inv-loop μ-loop
+write-all-requires c κs = search needs
+
+written-requires : tie.Need-written-requires Inv-loop μ-loop
+written-requires c κs = search needs
+
+loop-less : tie.Need-loop-less Inv-loop μ-loop
+loop-less c = let z = c .before .before .before .before .before .before .before .before .before .before .before .before .before .before .before .before .before .before .before .before .before .before .before .before .before .before .before .before in
+    let a = z .args in
+    let L = c .before .before .before .before .before .before .before .before .before .before .before .before .before .before .before .before .before .before .before .before .before .loop in
+    let B = L .inv .7 (z .pre .4 .0) (z .pre .4 .1) (z .pre .4 .2) (z .pre .4 .3) in
+    let q = c .before .before .before .before .before .before .before .before .before .before .before .before .before .before .feed-some in
+    omega (arith, q .ensures .0, q .ensures .1)
+
+loop-again : tie.Need-loop-again Inv-loop μ-loop
+loop-again c = let z = c .before .before .before .before .before .before .before .before .before .before .before .before .before .before .before .before .before .before .before .before .before .before .before .before .before .before .before .before in
+    let a = z .args in
+    let L = c .before .before .before .before .before .before .before .before .before .before .before .before .before .before .before .before .before .before .before .before .before .loop in
+    let B = L .inv .7 (z .pre .4 .0) (z .pre .4 .1) (z .pre .4 .2) (z .pre .4 .3) in
+    let q = c .before .before .before .before .before .before .before .before .before .before .before .before .before .before .feed-some in
+    let w = c .written in (
+      q .ensures .1,
+      q .kept .1 .1 .1 .1 .1 .0 ∙ L .inv .1,
+      q .kept .1 .1 .1 .1 .1 .1 .0 ∙ L .inv .2,
+      q .kept .1 .1 .1 .1 .1 .1 .1 .0 ∙ L .inv .3,
+      q .kept .1 .1 .1 .0 ∙ L .inv .4,
+      q .kept .1 .1 .1 .1 .0 ∙ L .inv .5,
+      w .ensures .2,
+      λ g l S e.
+          let X = L .inv .7 g l S e in
+          fd.leads-then (a .bytes .now) (L .from) (q .result .next) (omega (arith, q .ensures .0)) g l (L .cur) _ _ X (L .cur .at) _ (q .result .stage) (w .result) _ _ _ (q .ensures .3 (X .scene) (X .rest) (X .shows) (X .pending)) (w .ensures .0) (w .ensures .1),
+    )
+
+same-length : tie.Need-same-length Inv-loop μ-loop
+same-length c = c .before .loop .inv .4
+
+same-length-2 : tie.Need-same-length-2 Inv-loop μ-loop
+same-length-2 c = c .before .loop .inv .5
+
+same-length-3 : tie.Need-same-length-3 Inv-loop μ-loop
+same-length-3 c = c .before .loop .inv .1
+
+same-length-4 : tie.Need-same-length-4 Inv-loop μ-loop
+same-length-4 c = c .before .loop .inv .2
+
+same-length-5 : tie.Need-same-length-5 Inv-loop μ-loop
+same-length-5 c = c .before .loop .inv .3
+
+returns : tie.Need-returns Inv-loop μ-loop
+returns c = let z = c .before .before .before .before .before .before .before .before in
+    let a = z .args in
+    let L = c .before .loop in
+    let B = L .inv .7 (z .pre .4 .0) (z .pre .4 .1) (z .pre .4 .2) (z .pre .4 .3) in
+    (L .inv .6, λ g l S e. fd.leads-all (a .bytes .now) (L .from) (omega arith) g l (L .cur) _ _ (L .inv .7 g l S e))
+
+pub feed-all-spec : {M : Type 1} → statement M
+feed-all-spec =
+    tie.close
+    (tie.spec
+    Inv-loop
+    μ-loop
+    loop-holds
+    feed-some-requires
+    slice-reshare-prefix-write-all
+    slice-aggregate-write-all
+    write-all-requires
+    written-requires
+    loop-less
+    loop-again
+    same-length
+    same-length-2
+    same-length-3
+    same-length-4
+    same-length-5
+    returns)

@@ -1,0 +1,73 @@
+use Prim.Native.Nat.{ℕ, suc, zero, _+_, _-_, _<_, _≤_}
+use mathlib.Core.List.{List, [], _∷_}
+use mathlib.Core.Path.{_∙_, _≡_, ap, refl, subst, sym}
+use native.Mathlib.Omega.{arith}
+use lib.ListN.{getD, length}
+use lib.Seq.{length-sets, sets}
+use Rattle.causal.specs.Lists.{part}
+use Rattle.script.specs.Pendings.{pendingOf}
+use Rattle.script.proofs.Pendings.{parse-whole}
+use Rattle.player.specs.Play.{Scene}
+use Rattle.player.specs.Shows.{Shown, Shows}
+use Rattle.ring_program.specs.Fed.{Ended, Fed, Follows}
+use Rattle.ring_program.proofs.Feeding as fd
+use Rattle.script.specs.Pendings.{parsed}
+use Rattle.script.specs.declared.pending.Pending.{Pending}
+use lib.Seq.{length-take-le}
+use Rattle.ring_program.specs.Fed.{Leads}
+use borrow.Author.Needs.{needs}
+use Rattle.ring_program.proofs.feed.finish.Statement.{statement}
+use Rattle.ring_program.proofs.feed.finish.Tie as tie
+
+is-empty-requires : tie.Need-is-empty-requires
+is-empty-requires c κs = search needs
+
+returns : tie.Need-returns
+returns c = search needs
+
+end-line-requires : tie.Need-end-line-requires
+end-line-requires c κs = search needs
+
+slice-reshare-prefix-write-all : tie.Need-slice-reshare-prefix-write-all
+slice-reshare-prefix-write-all c = search needs
+
+slice-aggregate-write-all : tie.Need-slice-aggregate-write-all
+slice-aggregate-write-all c = let q = c .before .before .before .before .before .before .before .before .before .before .before .end-line in let z = c .before .before .before .before .before .before .before .before .before .before .before .before .before .before .before .before .before .before .before .before .before .before .before .before .before in sym (length-take-le (q .result .at) (q .last .1 .1 .1 .1 .1 .0) (omega (arith, q .ensures .0, q .kept .1 .1 .1 .1 .1 .0, z .pre .2, z .pre .3)))
+
+write-all-requires : tie.Need-write-all-requires
+write-all-requires c κs = search needs
+
+same-length : tie.Need-same-length
+same-length c = search needs
+
+same-length-2 : tie.Need-same-length-2
+same-length-2 c = search needs
+
+same-length-3 : tie.Need-same-length-3
+same-length-3 c = search needs
+
+same-length-4 : tie.Need-same-length-4
+same-length-4 c = search needs
+
+same-length-5 : tie.Need-same-length-5
+same-length-5 c = search needs
+
+returns-2 : tie.Need-returns-2
+returns-2 c = search needs
+
+pub finish-spec : {M : Type 1} → statement M
+finish-spec =
+    tie.close
+    (tie.spec
+    is-empty-requires
+    returns
+    end-line-requires
+    slice-reshare-prefix-write-all
+    slice-aggregate-write-all
+    write-all-requires
+    same-length
+    same-length-2
+    same-length-3
+    same-length-4
+    same-length-5
+    returns-2)
