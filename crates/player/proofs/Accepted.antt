@@ -87,7 +87,7 @@ length-map : {A B : Type 0} (f : A → B) (l : List A) → length (map f l) ≡ 
 length-map f [] = refl
 length-map f (x ∷ l) = ap suc (length-map f l)
 
-sends-few : (O : Office) (s : Content) (plot value : ℕ) → length (writeSends O s plot value) ≤ length (s .own) + 1
+pub sends-few : (O : Office) (s : Content) (plot value : ℕ) → length (writeSends O s plot value) ≤ length (s .own) + 1
 unfolding sentOf
 sends-few O s plot value =
     omega (

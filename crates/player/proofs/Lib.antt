@@ -15,3 +15,5 @@ pub mod LineRead
 pub mod LineReceive
 pub mod Runs
 pub mod Started
+pub mod Enough
+pub mod Table

@@ -1,0 +1,42 @@
+-- The table of paper 01, "The ring program": the eleven replies by computing, over stores and rows of zeros. Assumes nothing.
+use Prim.Native.Nat.{ℕ}
+use mathlib.Core.List.{List, [], _++_, _∷_, map}
+use mathlib.Core.Path.{_≡_, refl}
+use lib.Count.{trailingZeros}
+use lib.ListN.{replicate}
+use Rattle.causal.specs.Clocks.{join}
+use Rattle.causal.specs.Codes.{check, orElse}
+use Rattle.causal.specs.Lists.{eqWords, part, sumBelow, tab}
+use Rattle.causal.specs.Rank.{higher, ranksAbove}
+use Rattle.causal.specs.Sets.{bit, has, inserted, isIn, lowestIn, lowestOf, minus, subsetOf, unite, wordIn}
+use Rattle.causal.specs.Tests.{allBelow, both, either, implies}
+use Rattle.frame.specs.Calls.{laid}
+use Rattle.frame.specs.Entries.{boundsOk, clockOk, clockPlaceOk, entryOk, idsOk, idsPlaceOk, outranks, sameContent}
+use Rattle.frame.specs.Frames.{accepts, bodyWords, frameOf, frameOk, frameWords, ringOk}
+use Rattle.frame.specs.Sessions.{idsOf, ownOk, sessionOk}
+use Rattle.frame.specs.Tokens.{rowsOf}
+use Rattle.frame.specs.Words.{clockFrom, clockWords, idWordIf, idWords, idWordsTo, idsFrom, summed, total}
+use Rattle.store.specs.Offices.{bestOwn, bestTo, better, clockOf, consider, current, hold, made, maxTo, reveal, settingsOk}
+use Rattle.store.specs.Reveal.{revealed, steps}
+use Rattle.office.specs.Calls.{entryCode, freshCode, handed, holdAll, holdNew, missing, newEntry, noted, ownCode, readCode, readOn, receiveCode, receiveOn, receiveSends, receivedBy, sentOf, writeCode, writeOn, wroteSession}
+use Rattle.ring.specs.Run.{at, gained, lastOf, nextOf, run, step, together, upd, writerPast}
+use Rattle.store.specs.Offices.{entryAt, gapless, heldOk, officeOf, slotWords, slotsTo, soundOffice, soundStore, storeWords}
+use Rattle.office.specs.Calls.{openOffice, readPlot, receive, write}
+use Rattle.ring.specs.Run.{onWords, wordsRun}
+use Rattle.script.specs.declared.line.Line.{Line}
+use Rattle.script.specs.declared.line.Line.the-variants.{Move, Read, Receive, Write}
+use Rattle.script.specs.declared.reply.Reply.{Reply}
+use Rattle.script.specs.declared.reply.Reply.the-variants.{Found, Moved, NoEntry, Received, Wrote}
+use Rattle.player.specs.Play.{crowded, opening, play, playAll, playRead, playReceive, playWrite, readReply, settled, wroteReply}
+
+abbrev pub tableLines : List Line
+tableLines =
+    Write 0 5 709 ∷ Move 0 1 ∷ Write 0 6 1 ∷ Read 1 6 ∷ Receive 2 ∷ Receive 2 ∷ Receive 0 ∷ Receive 0 ∷ Read 1 6 ∷ Move 1 2 ∷ Read 1 5 ∷ []
+
+abbrev pub tableReplies : List Reply
+tableReplies =
+    Wrote 0 1 ∷ Moved ∷ Wrote 1 1 ∷ NoEntry ∷ Received 1 ∷ Received 0 ∷ Received 1 ∷ Received 0 ∷ Found 1 1 1 ∷ Moved ∷ Found 709 0 1 ∷ []
+
+pub table-plays : playAll (opening (λ o. replicate 1747 0)) (map (λ (l : Line). (replicate 1751 0, l)) tableLines) .1 ≡ tableReplies
+unfolding trailingZeros both either implies allBelow check orElse part tab sumBelow eqWords bit has isIn unite minus inserted wordIn subsetOf lowestIn lowestOf join higher ranksAbove outranks clockWords clockFrom idWordIf idWordsTo idWords idsFrom total summed clockPlaceOk clockOk idsPlaceOk idsOk boundsOk entryOk sameContent ringOk bodyWords frameWords frameOk frameOf accepts laid idsOf ownOk sessionOk rowsOf steps revealed settingsOk made maxTo clockOf reveal hold better consider bestTo current bestOwn entryCode ownCode noted readCode handed newEntry missing sentOf writeCode holdAll wroteSession receiveCode holdNew receivedBy receiveSends readOn writeOn receiveOn readPlot write receive openOffice entryAt officeOf slotWords slotsTo storeWords heldOk gapless soundOffice soundStore freshCode at upd nextOf writerPast gained together lastOf step run onWords wordsRun crowded settled wroteReply readReply playWrite playRead playReceive play playAll
+table-plays = refl
