@@ -1,8 +1,7 @@
 /* Tests the calls on frames from C, through the header, with frames A and B of document 01. */
 #include "burial_register.h"
+#include "cases.h"
 #include "report.h"
-
-#define FILL 0xA5A5A5A5u
 
 /* The archive was built to this layout. */
 _Static_assert(sizeof(struct burial_entry) == 80, "an entry is 20 words");
@@ -10,13 +9,7 @@ _Static_assert(sizeof(struct burial_frame) == 88, "a frame is 22 words");
 _Static_assert(sizeof(struct burial_frame_read) == 92, "a frame that was read is 23 words");
 _Static_assert(sizeof(struct burial_written) == 16, "a count of words is aligned");
 
-static const uint32_t frame_a[] = {
-    0x10011300, 0x30000005, 0x400002C5, 0x50000001, 0x50000000, 0x50000000, 0xF00115CB,
-};
-static const uint32_t frame_b[] = {
-    0x11011301, 0x30000006, 0x40000001, 0x50000001, 0x50000001, 0x50000000, 0x60000001, 0xF101130B,
-};
-enum { LEN_A = sizeof frame_a / 4, LEN_B = sizeof frame_b / 4, MOST = 16 };
+enum { MOST = 16 };
 
 static const struct burial_frame content_a = {
     .offices = 3, .hops = 1, .entry = { .serial = 1, .plot = 5, .value = 709, .clock = { 1 } },

@@ -1,9 +1,8 @@
 /* Tests the calls on offices, sessions and tokens from C, through the header, with the cases of
  * document 01. */
 #include "burial_register.h"
+#include "cases.h"
 #include "report.h"
-
-#define FILL 0xA5A5A5A5u
 
 /* The archive was built to this layout. */
 _Static_assert(sizeof(struct burial_session) == 1360, "a session is 17 words, a count and 16 entries");
@@ -13,12 +12,6 @@ _Static_assert(sizeof(struct burial_wrote) == 1376, "a write");
 _Static_assert(sizeof(struct burial_need) == 16, "a need");
 _Static_assert(sizeof(struct burial_token_read) == 1368, "a session that was read");
 
-static const uint32_t frame_a[] = {
-    0x10011300, 0x30000005, 0x400002C5, 0x50000001, 0x50000000, 0x50000000, 0xF00115CB,
-};
-static const uint32_t frame_b[] = {
-    0x11011301, 0x30000006, 0x40000001, 0x50000001, 0x50000001, 0x50000000, 0x60000001, 0xF101130B,
-};
 /* A and B on their last way: none still to hear. */
 static const uint32_t last_a[] = {
     0x10010300, 0x30000005, 0x400002C5, 0x50000001, 0x50000000, 0x50000000, 0xF00105CB,
@@ -26,7 +19,7 @@ static const uint32_t last_a[] = {
 static const uint32_t last_b[] = {
     0x11010301, 0x30000006, 0x40000001, 0x50000001, 0x50000001, 0x50000000, 0x60000001, 0xF101030B,
 };
-enum { LEN_A = sizeof frame_a / 4, LEN_B = sizeof frame_b / 4, BOTH = LEN_A + LEN_B, ROW = 128 };
+enum { BOTH = LEN_A + LEN_B, ROW = 128 };
 
 /* An office and a copy of its store, to see what a call changes. */
 struct office {
