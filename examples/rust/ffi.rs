@@ -21,63 +21,55 @@ pub struct Session {
     pub own: [Entry; 16],
 }
 
+/// How many words a store needs, or how many were written.
 #[repr(C)]
-pub struct Need {
+pub struct Words {
     pub refusal: u32,
     pub words: usize,
 }
 
 #[repr(C)]
-pub struct PlotRead {
+pub struct PlotFound {
     pub refusal: u32,
     pub found: u32,
     pub entry: Entry,
-    pub session: Session,
 }
 
-/// A joint reading, a fresh session, or a token that was read.
+/// A fresh session, or a token that was read.
 #[repr(C)]
 pub struct WithSession {
     pub refusal: u32,
     pub session: Session,
 }
 
-#[repr(C)]
-pub struct Wrote {
-    pub refusal: u32,
-    pub words: usize,
-    pub session: Session,
-}
-
-#[repr(C)]
-pub struct Written {
-    pub refusal: u32,
-    pub words: usize,
-}
-
 extern "C" {
-    pub fn burial_store_need(offices: u32, own: u32, plots: u32) -> Need;
+    pub fn burial_store_need(offices: u32, own: u32, plots: u32) -> Words;
     pub fn burial_open_office(offices: u32, own: u32, plots: u32, store: *mut u32, store_len: usize) -> u32;
     pub fn burial_fresh_session(offices: u32) -> WithSession;
-    pub fn burial_read_plot(store: *mut u32, store_len: usize, session: Session, plot: u32) -> PlotRead;
-    pub fn burial_read_joint(
+    pub fn burial_lent_read_plot(
         store: *mut u32,
         store_len: usize,
-        session: Session,
+        session: *mut Session,
+        plot: u32,
+    ) -> PlotFound;
+    pub fn burial_lent_read_joint(
+        store: *mut u32,
+        store_len: usize,
+        session: *mut Session,
         plots: *const u32,
         plots_len: usize,
         answer: *mut u32,
         answer_len: usize,
-    ) -> WithSession;
-    pub fn burial_write(
+    ) -> u32;
+    pub fn burial_lent_write(
         store: *mut u32,
         store_len: usize,
-        session: Session,
+        session: *mut Session,
         plot: u32,
         value: u32,
         out: *mut u32,
         out_len: usize,
-    ) -> Wrote;
+    ) -> Words;
     pub fn burial_receive(
         store: *mut u32,
         store_len: usize,
@@ -85,7 +77,7 @@ extern "C" {
         frame_len: usize,
         out: *mut u32,
         out_len: usize,
-    ) -> Written;
+    ) -> Words;
     pub fn burial_read_token(words: *const u32, words_len: usize, offices: u32, plots: u32) -> WithSession;
-    pub fn burial_write_token(session: Session, out: *mut u32, out_len: usize) -> Written;
+    pub fn burial_write_token(session: Session, out: *mut u32, out_len: usize) -> Words;
 }

@@ -1,8 +1,8 @@
 //! One office, which owns its store.
 //!
 //! Why this is safe: each row crosses as the pointer and the length of a slice or vector, which is
-//! aligned and never null; a row that is written is borrowed mutably, so it overlaps no other; and
-//! the library keeps no pointer and checks every word that it is lent.
+//! aligned and never null; a row or session that is written is borrowed mutably, so it overlaps no
+//! other; and the library keeps no pointer and checks every word that it is lent.
 
 use crate::ffi;
 use crate::refusal::Refusal;
@@ -58,9 +58,8 @@ impl Office {
 
     pub fn read(&mut self, session: &mut Session, plot: u32) -> Result<Option<Found>, Refusal> {
         let (store, len) = (self.store.as_mut_ptr(), self.store.len());
-        let read = unsafe { ffi::burial_read_plot(store, len, session.inner, plot) };
+        let read = unsafe { ffi::burial_lent_read_plot(store, len, &mut session.inner, plot) };
         Refusal::check(read.refusal)?;
-        session.inner = read.session;
         let ffi::Entry { value, office, serial, .. } = read.entry;
         Ok((read.found == 1).then_some(Found { value, office, serial }))
     }
@@ -74,11 +73,10 @@ impl Office {
         let mut answer = vec![0; 3 * plots.len()];
         let (store, len) = (self.store.as_mut_ptr(), self.store.len());
         let (list, count) = (plots.as_ptr(), plots.len());
-        let joint = unsafe {
-            ffi::burial_read_joint(store, len, session.inner, list, count, answer.as_mut_ptr(), answer.len())
-        };
-        Refusal::check(joint.refusal)?;
-        session.inner = joint.session;
+        let (session, row) = (&mut session.inner, answer.as_mut_ptr());
+        Refusal::check(unsafe {
+            ffi::burial_lent_read_joint(store, len, session, list, count, row, answer.len())
+        })?;
         let found = |id: u32, value| Found { value, office: id >> 8, serial: id & 0xFF };
         Ok(answer.chunks_exact(3).map(|row| (row[0] == 1).then(|| found(row[2], row[1]))).collect())
     }
@@ -87,10 +85,9 @@ impl Office {
     pub fn write(&mut self, session: &mut Session, plot: u32, value: u32) -> Result<Vec<Frame>, Refusal> {
         let mut row = vec![0; MOST_FRAMES * FRAME_WORDS];
         let (store, len) = (self.store.as_mut_ptr(), self.store.len());
-        let wrote =
-            unsafe { ffi::burial_write(store, len, session.inner, plot, value, row.as_mut_ptr(), row.len()) };
+        let (session, out) = (&mut session.inner, row.as_mut_ptr());
+        let wrote = unsafe { ffi::burial_lent_write(store, len, session, plot, value, out, row.len()) };
         Refusal::check(wrote.refusal)?;
-        session.inner = wrote.session;
         Ok(self.split(&row[..wrote.words]))
     }
 
