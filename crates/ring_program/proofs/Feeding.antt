@@ -2,6 +2,8 @@
 use Prim.Native.Nat.{ℕ, suc, zero, _+_, _-_, _<_, _≤_}
 use mathlib.Core.List.{List, [], _++_, _∷_, append-assoc, append-nil}
 use mathlib.Core.Path.{_∙_, _≡_, ap, refl, subst, sym}
+use mathlib.Core.Bool.{Bool, true, false}
+use borrow.Author.Tests.{eqb-false, eqb-true}
 use native.Mathlib.Nat.{add-zero, zero-add}
 use native.Mathlib.Omega.{arith}
 use lib.ListN.{drop, getD, length, length-append, take}
@@ -9,19 +11,19 @@ use lib.Seq.{length-sets, sets, take-length}
 use Rattle.causal.specs.Lists.{part}
 use Rattle.causal.proofs.Lists.{part-add, part-cons, sets-append}
 use Rattle.script.specs.Lines.{lineOf}
-use Rattle.script.specs.Pendings.{pendingOf, pushed}
+use Rattle.script.specs.Pendings.{isEmpty, pendingOf, pushed}
 use Rattle.script.specs.Replies.{replyBytes}
 use Rattle.script.specs.declared.line.Line.{Line}
 use Rattle.script.specs.declared.pending.Pending.{Pending}
 use Rattle.script.specs.declared.reply.Reply.{Reply}
-use Rattle.script.proofs.Pendings.{push-more}
+use Rattle.script.proofs.Pendings.{empty-is, push-more}
 use Rattle.player.specs.declared.desk.Desk.{Desk}
 use Rattle.player.specs.declared.desk.Played.{Played}
 use Rattle.player.specs.Play.{Scene, play}
 use Rattle.player.specs.Shows.{Shows}
 use Rattle.player.specs.Steps.{Plays}
 use Rattle.ring_program.specs.declared.feed.Stage.{Stage}
-use Rattle.ring_program.specs.Fed.{Ended, Fed, Follows, Leads, byte, line, none}
+use Rattle.ring_program.specs.Fed.{Ended, Fed, Finishes, Follows, Leads, byte, line, none}
 
 fed-then : {g h k : Scene} {l m n bs cs x y : List ℕ} → Fed g l bs h m x → Fed h m cs k n y → Fed g l (bs ++ cs) k n (x ++ y)
 fed-then {g} {h} {k} {l} {m} {n} {bs} {cs} {x} {y} F none = subst (λ (p : List ℕ × List ℕ). Fed g l (p .0) h m (p .1)) (λ i. (sym (append-nil bs) i, sym (append-nil x) i)) F
@@ -164,3 +166,24 @@ leads-then bytes from next h g l r stores lines A at text q w stores′ lines′
 
 pub leads-all : (bytes : List ℕ) (n : ℕ) → n ≡ length bytes → (g : Scene) (l : List ℕ) (r : Stage) (stores lines : List ℕ) → Leads g l (part bytes 0 n) r stores lines → Leads g l bytes r stores lines
 leads-all bytes n e g l r stores lines A = subst (λ (x : List ℕ). Leads g l x r stores lines) (ap (part bytes 0) e ∙ part-whole bytes) A
+
+-- ---- the end of the input
+
+empty-list : (l : List ℕ) → isEmpty (pendingOf l) ≡ true → l ≡ []
+empty-list [] e = refl
+empty-list (b ∷ l) e = let k : suc (length l) ≡ 0 = eqb-true _ _ (sym (empty-is (b ∷ l)) ∙ e) in absurd (omega (arith, k))
+
+some-list : (l : List ℕ) → isEmpty (pendingOf l) ≡ false → l ≡ [] → ⊥
+some-list l e n = eqb-false _ _ (sym (empty-is l) ∙ e) (ap length n)
+
+pub nothing-finishes : (row : List ℕ) (g : Scene) (l text : List ℕ) (p : Pending) → p ≡ pendingOf l → isEmpty p ≡ true → Finishes row g l text text
+nothing-finishes row g l text p e h =
+    record { nothing-left = λ (_ : l ≡ []). refl; last = λ (some : l ≡ [] → ⊥). absurd (some (empty-list l (ap isEmpty (sym e) ∙ h))) }
+
+pub last-finishes : (row : List ℕ) (g : Scene) (l : List ℕ) (at : ℕ) (text : List ℕ) (r : Stage) (stores lines text′ : List ℕ) (p : Pending) → p ≡ pendingOf l → isEmpty p ≡ false → at ≡ 0
+    → Ended row g l at text r stores lines text′ → Finishes row g l text text′
+last-finishes row g l at text r stores lines text′ p e h z E =
+    record {
+      nothing-left = λ (n : l ≡ []). absurd (some-list l (ap isEmpty (sym e) ∙ h) n);
+      last = λ (_ : l ≡ [] → ⊥). E .text-is ∙ ap (λ (x : ℕ). sets text x (replyBytes (play row g (lineOf l) .1))) z;
+    }

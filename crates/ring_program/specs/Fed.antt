@@ -49,3 +49,9 @@ pub record Leads (g : Scene) (l bs : List ℕ) (r : Stage) (stores lines : List 
 -- some scene is shown, and some bytes are pending
 abbrev pub Staged : Stage → List ℕ → List ℕ → Type 0
 Staged r stores lines = (g : Scene) × (l : List ℕ) × Shows g (r .desk) stores lines × (r .pending ≡ pendingOf l)
+
+-- the input has ended: "a line ends at a newline or the input's end, and no line begins at the input's end". What is pending is played as the
+-- last line, and its reply stands at the text's beginning
+pub record Finishes (row : List ℕ) (g : Scene) (l text text′ : List ℕ) : Type 0 where
+  pub nothing-left : l ≡ [] → text′ ≡ text
+  pub last : (l ≡ [] → ⊥) → text′ ≡ sets text 0 (replyBytes (play row g (lineOf l) .1))

@@ -7,7 +7,7 @@ ghost use Rattle.causal.specs.Lists.{part};
 ghost use Rattle.script.specs.Pendings.{pendingOf};
 ghost use Rattle.player.specs.Play.{Scene};
 ghost use Rattle.player.specs.Shows.{Shown, Shows};
-ghost use Rattle.ring_program.specs.Fed.{Ended, Follows, Leads, Staged};
+ghost use Rattle.ring_program.specs.Fed.{Ended, Finishes, Follows, Leads, Staged};
 use player::desk::Desk;
 use player::play::play_line;
 use script::pending::Pending;
@@ -192,6 +192,7 @@ pub fn finish(
     text: &mut [u8],
 )
     requires { ⌜ (length (now scratch) ≡ 1747) × (length (now out) ≡ 1751) × (length (now text) ≡ 8192) × (stage .at ≡ 0) × Staged stage (now stores) (now lines) ⌝ }
+    ensures { λ _. ⌜ ((g : Scene) (l : List ℕ) → Shows g (stage .desk) (now (stores .entry)) (now (lines .entry)) → stage .pending ≡ pendingOf l → Finishes (now (out .entry)) g l (now (text .entry)) (now (text .exit))) ⌝ }
 {
     let pending = stage.pending;
     if is_empty(pending) {
