@@ -6,7 +6,7 @@ mod archive;
 mod model;
 mod office_cases;
 
-use archive::{office as archive_office, tokens as archive_tokens};
+use archive::{lent as archive_lent, office as archive_office, tokens as archive_tokens};
 use model::{office as model_office, token as model_tokens};
 use office_cases::{empty, full, Case, Lent, OWN};
 use std::hint::black_box;
@@ -59,9 +59,19 @@ fn model_plot(_: &Case, lent: &mut Lent) {
     assert!(black_box(&read).is_ok());
 }
 
+fn archive_lent_plot(_: &Case, lent: &mut Lent) {
+    let read = archive_lent::read_plot(&mut lent.store, &mut lent.session, black_box(PLOTS[1]));
+    assert_eq!(black_box(&read).0, 0);
+}
+
 fn archive_joint(_: &Case, lent: &mut Lent) {
     let plots = black_box(&PLOTS);
     assert_eq!(archive_office::read_joint(&mut lent.store, &mut lent.session, plots, &mut lent.row), 0);
+}
+
+fn archive_lent_joint(_: &Case, lent: &mut Lent) {
+    let plots = black_box(&PLOTS);
+    assert_eq!(archive_lent::read_joint(&mut lent.store, &mut lent.session, plots, &mut lent.row), 0);
 }
 
 fn model_joint(_: &Case, lent: &mut Lent) {
@@ -71,6 +81,11 @@ fn model_joint(_: &Case, lent: &mut Lent) {
 
 fn archive_write(_: &Case, lent: &mut Lent) {
     let wrote = archive_office::write(&mut lent.store, &mut lent.session, black_box(7), 709, &mut lent.row);
+    assert_eq!(wrote.0, 0);
+}
+
+fn archive_lent_write(_: &Case, lent: &mut Lent) {
+    let wrote = archive_lent::write(&mut lent.store, &mut lent.session, black_box(7), 709, &mut lent.row);
     assert_eq!(wrote.0, 0);
 }
 
@@ -112,19 +127,20 @@ const fn reading(name: &'static str, archive: Call, model: Call) -> Timed {
     Timed { name, archive, model, changes: false, spare: |_| None, hops: |_| 0 }
 }
 
-const CALLS: [Timed; 9] = [
+/// A call that makes the office's entry 32.
+const fn writing(name: &'static str, archive: Call) -> Timed {
+    Timed { name, archive, model: model_write, changes: true, spare: |_| Some((OWN, 32)), hops: |_| 0 }
+}
+
+const CALLS: [Timed; 12] = [
     reading("store_need", archive_need, model_need),
     reading("read_plot no store", archive_refused, model_refused),
-    reading("read_plot", archive_plot, model_plot),
-    reading("read_joint of 4", archive_joint, model_joint),
-    Timed {
-        name: "write",
-        archive: archive_write,
-        model: model_write,
-        changes: true,
-        spare: |_| Some((OWN, 32)),
-        hops: |_| 0,
-    },
+    reading("read_plot", archive_lent_plot, model_plot),
+    reading("  by value", archive_plot, model_plot),
+    reading("read_joint of 4", archive_lent_joint, model_joint),
+    reading("  by value", archive_joint, model_joint),
+    writing("write", archive_lent_write),
+    writing("  by value", archive_write),
     Timed {
         name: "receive, last hop",
         archive: archive_receive,

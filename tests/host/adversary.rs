@@ -16,7 +16,7 @@ mod store_cases;
 mod token_cases;
 
 use adversary_cases::Adversary;
-use archive::{frames, office, tokens};
+use archive::{frames, lent, office, tokens};
 use guard::{Guarded, Side};
 use model::codec::Frame;
 use model::entry::Entry;
@@ -41,10 +41,13 @@ pub const CALLS: &[&str] = &[
     "receive",
     "read_token",
     "write_token",
+    "lent_read_plot",
+    "lent_read_joint",
+    "lent_write",
 ];
 
 /// The replies that each call may give; a run that misses one has not tested it.
-const REPLIES: [&[u32]; 12] = [
+const REPLIES: [&[u32]; 15] = [
     &[0, 1, 9],
     &[0, 1, 9],
     &[0, 3, 8],
@@ -57,15 +60,23 @@ const REPLIES: [&[u32]; 12] = [
     &[0, 2, 8, 9, 10, 11, 12],
     &[0, 1, 9],
     &[0, 3, 8],
+    &[0, 2, 3, 4, 12],
+    &[0, 2, 3, 4, 8, 12, 13],
+    &[0, 2, 3, 4, 5, 6, 7, 8, 10, 11, 12],
 ];
+
+type PlotRead = fn(&mut [u32], &mut Session, u32) -> (u32, (u32, Entry));
+type JointRead = fn(&mut [u32], &mut Session, &[u32], &mut [u32]) -> u32;
+type Write = fn(&mut [u32], &mut Session, u32, u32, &mut [u32]) -> (u32, usize);
 
 struct Test {
     adversary: Adversary,
     report: Report,
     side: Side,
     number: u64,
-    /// A guarded room for each lent place: store, row that is read, row that is written.
+    /// A guarded room for each lent place: store, session, row that is read, row that is written.
     store: Guarded,
+    session: Guarded,
     input: Guarded,
     output: Guarded,
 }
@@ -150,36 +161,38 @@ impl Test {
         Done { refusal, kept: refusal == 0 || session == Session::default() }
     }
 
-    fn read_plot(&mut self) -> Done {
+    fn read_plot(&mut self, call: PlotRead) -> Done {
         let (words, session, plot) =
             (self.adversary.store(), self.adversary.session(), self.adversary.plot());
-        let (lent, mut after) = (self.store.words(&words, self.side), session);
-        let (refusal, found) = office::read_plot(lent, &mut after, plot);
-        let kept = store_kept(refusal, &words, lent) && session_kept(refusal, &session, &after);
+        let lent = self.store.words(&words, self.side);
+        let after = self.session.value(&session, self.side);
+        let (refusal, found) = call(lent, after, plot);
+        let kept = store_kept(refusal, &words, lent) && session_kept(refusal, &session, after);
         Done {
             refusal,
             kept: kept && (found.0 == 1 || found == (0, Entry::default())) && (refusal == 0 || found.0 == 0),
         }
     }
 
-    fn read_joint(&mut self) -> Done {
+    fn read_joint(&mut self, call: JointRead) -> Done {
         let (words, session) = (self.adversary.store(), self.adversary.session());
         let (plots, row) = (self.adversary.list(), self.adversary.row());
         let (lent, list) = (self.store.words(&words, self.side), self.input.words(&plots, self.side));
-        let (answer, mut after) = (self.output.words(&row, self.side), session);
-        let refusal = office::read_joint(lent, &mut after, list, answer);
+        let answer = self.output.words(&row, self.side);
+        let after = self.session.value(&session, self.side);
+        let refusal = call(lent, after, list, answer);
         let written = if refusal == 0 { 3 * plots.len() } else { 0 };
-        let kept = store_kept(refusal, &words, lent) && session_kept(refusal, &session, &after);
+        let kept = store_kept(refusal, &words, lent) && session_kept(refusal, &session, after);
         Done { refusal, kept: kept && *list == plots && row_kept(refusal, written, &row, answer) }
     }
 
-    fn write(&mut self) -> Done {
+    fn write(&mut self, call: Write) -> Done {
         let (words, session) = (self.adversary.store(), self.adversary.session());
         let (plot, value, row) = (self.adversary.plot(), self.adversary.value(), self.adversary.row());
         let (lent, out) = (self.store.words(&words, self.side), self.output.words(&row, self.side));
-        let mut after = session;
-        let (refusal, written) = office::write(lent, &mut after, plot, value, out);
-        let kept = store_kept(refusal, &words, lent) && session_kept(refusal, &session, &after);
+        let after = self.session.value(&session, self.side);
+        let (refusal, written) = call(lent, after, plot, value, out);
+        let kept = store_kept(refusal, &words, lent) && session_kept(refusal, &session, after);
         Done { refusal, kept: kept && row_kept(refusal, written, &row, out) }
     }
 
@@ -216,21 +229,23 @@ impl Test {
             3 => self.store_need(),
             4 => self.open_office(),
             5 => self.fresh_session(),
-            6 => self.read_plot(),
-            7 => self.read_joint(),
-            8 => self.write(),
+            6 => self.read_plot(office::read_plot),
+            7 => self.read_joint(office::read_joint),
+            8 => self.write(office::write),
             9 => self.receive(),
             10 => self.read_token(),
-            _ => self.write_token(),
+            11 => self.write_token(),
+            12 => self.read_plot(lent::read_plot),
+            13 => self.read_joint(lent::read_joint),
+            _ => self.write(lent::write),
         }
     }
 
     /// The calls that are lent most come most often.
     fn step(&mut self) {
-        let call = self
-            .adversary
-            .random
-            .pick(&[0, 1, 2, 3, 4, 5, 6, 6, 6, 7, 7, 7, 8, 8, 8, 8, 9, 9, 9, 10, 10, 11]);
+        let call = self.adversary.random.pick(&[
+            0, 1, 2, 3, 4, 5, 6, 6, 7, 7, 8, 8, 9, 9, 9, 10, 10, 11, 12, 12, 12, 13, 13, 13, 14, 14, 14, 14,
+        ]);
         let done = self.call(call);
         let known = REPLIES[call].contains(&done.refusal);
         let (side, number) = (self.side, self.number);
@@ -262,6 +277,7 @@ fn main() -> ExitCode {
         side: Side::Behind,
         number: 0,
         store: Guarded::new(),
+        session: Guarded::new(),
         input: Guarded::new(),
         output: Guarded::new(),
     };

@@ -67,4 +67,13 @@ impl Guarded {
         lent.copy_from_slice(bytes);
         lent
     }
+
+    /// A copy of a value that touches the guard.
+    pub fn value<T: Copy>(&mut self, value: &T, side: Side) -> &mut T {
+        let start = self.start(std::mem::size_of::<T>(), side) as *mut T;
+        unsafe {
+            start.write(*value);
+            &mut *start
+        }
+    }
 }

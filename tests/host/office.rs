@@ -20,53 +20,52 @@ use twin::Twin;
 
 const SEED: u64 = 0x0FF1_CE20_2601_5EED;
 
+const PLOT: &[&str] = &["none", "presented", "own", "refused 2", "refused 3", "refused 4", "refused 12"];
+const JOINT: &[&str] = &[
+    "accepted",
+    "empty list",
+    "refused 2",
+    "refused 3",
+    "refused 4",
+    "refused 8",
+    "refused 12",
+    "refused 13",
+];
+const WRITE: &[&str] = &[
+    "accepted",
+    "carried",
+    "refused 2",
+    "refused 3",
+    "refused 4",
+    "refused 5",
+    "refused 6",
+    "refused 7",
+    "refused 8",
+    "refused 10",
+    "refused 11",
+    "refused 12",
+];
+const RECEIVE: &[&str] = &[
+    "brought out",
+    "went on",
+    "refused 2",
+    "refused 8",
+    "refused 9",
+    "refused 10",
+    "refused 11",
+    "refused 12",
+];
+
 /// Each way in which a call can end; a run that misses one has not tested it.
 const OUTCOMES: &[(&str, &[&str])] = &[
     ("store_need", &["accepted", "refused 1"]),
-    ("read_plot", &["none", "presented", "own", "refused 2", "refused 3", "refused 4", "refused 12"]),
-    (
-        "read_joint",
-        &[
-            "accepted",
-            "empty list",
-            "refused 2",
-            "refused 3",
-            "refused 4",
-            "refused 8",
-            "refused 12",
-            "refused 13",
-        ],
-    ),
-    (
-        "write",
-        &[
-            "accepted",
-            "carried",
-            "refused 2",
-            "refused 3",
-            "refused 4",
-            "refused 5",
-            "refused 6",
-            "refused 7",
-            "refused 8",
-            "refused 10",
-            "refused 11",
-            "refused 12",
-        ],
-    ),
-    (
-        "receive",
-        &[
-            "brought out",
-            "went on",
-            "refused 2",
-            "refused 8",
-            "refused 9",
-            "refused 10",
-            "refused 11",
-            "refused 12",
-        ],
-    ),
+    ("read_plot", PLOT),
+    ("read_plot, lent", PLOT),
+    ("read_joint", JOINT),
+    ("read_joint, lent", JOINT),
+    ("write", WRITE),
+    ("write, lent", WRITE),
+    ("receive", RECEIVE),
 ];
 
 fn main() -> ExitCode {

@@ -1,6 +1,7 @@
-//! Makes each call twice, on the archive with copies and on the model, and compares all that is left.
+//! Makes each call on the archive with copies, with the session by value and lent, and on the model, and
+//! compares all that is left.
 
-use crate::archive::office as archive;
+use crate::archive::{lent, office as archive};
 use crate::model::entry::Entry;
 use crate::model::office as model;
 use crate::model::session::Session;
@@ -19,6 +20,31 @@ struct Left<R> {
     store: Vec<u32>,
     session: Session,
     row: Vec<u32>,
+}
+
+/// A call of the archive by its name.
+type Form<F> = (&'static str, F);
+type PlotRead = fn(&mut [u32], &mut Session, u32) -> (u32, (u32, Entry));
+type JointRead = fn(&mut [u32], &mut Session, &[u32], &mut [u32]) -> u32;
+type Write = fn(&mut [u32], &mut Session, u32, u32, &mut [u32]) -> (u32, usize);
+
+const PLOT_READS: [Form<PlotRead>; 2] =
+    [("read_plot", archive::read_plot), ("read_plot, lent", lent::read_plot)];
+const JOINT_READS: [Form<JointRead>; 2] =
+    [("read_joint", archive::read_joint), ("read_joint, lent", lent::read_joint)];
+const WRITES: [Form<Write>; 2] = [("write", archive::write), ("write, lent", lent::write)];
+
+/// What each form of a call leaves of copies.
+fn on_copies<F: Copy, R>(
+    forms: [Form<F>; 2],
+    (store, session, row): (&[u32], &Session, &[u32]),
+    made: impl Fn(F, &mut [u32], &mut Session, &mut [u32]) -> R,
+) -> [Form<Left<R>>; 2] {
+    forms.map(|(name, call)| {
+        let (mut store, mut session, mut row) = (store.to_vec(), *session, row.to_vec());
+        let reply = made(call, &mut store, &mut session, &mut row);
+        (name, Left { reply, store, session, row })
+    })
 }
 
 fn first_difference(archive: &[u32], model: &[u32]) -> String {
@@ -79,6 +105,17 @@ impl Twin {
         self.report.check(&format!("{call}: {outcome}"), archive == model, || describe(&archive, &model));
     }
 
+    fn compare_forms<R: Clone + PartialEq + std::fmt::Debug>(
+        &mut self,
+        outcome: &str,
+        archive: [Form<Left<R>>; 2],
+        model: Left<R>,
+    ) {
+        for (call, left) in archive {
+            self.compare(call, outcome, left, model.clone());
+        }
+    }
+
     pub fn store_need(&mut self, offices: u32, own: u32, plots: u32) {
         let archive = archive::store_need(offices, own, plots);
         let result = model::store_need(offices, own, plots);
@@ -87,9 +124,9 @@ impl Twin {
     }
 
     pub fn read_plot(&mut self, store: &mut [u32], session: &mut Session, plot: u32) {
-        let (mut store_copy, mut session_copy) = (store.to_vec(), *session);
-        let archive = archive::read_plot(&mut store_copy, &mut session_copy, plot);
-        let archive = Left { reply: archive, store: store_copy, session: session_copy, row: vec![] };
+        let archive = on_copies(PLOT_READS, (store, session, &[]), |call, store, session, _| {
+            call(store, session, plot)
+        });
 
         let result = model::read_plot(store, session, plot);
         let outcome = outcome(&result, |entry| match entry {
@@ -99,19 +136,19 @@ impl Twin {
         });
         let reply = result.map_or_else(|refusal| (refusal, found(&None)), |entry| (0, found(&entry)));
         let model = Left { reply, store: store.to_vec(), session: *session, row: vec![] };
-        self.compare("read_plot", &outcome, archive, model);
+        self.compare_forms(&outcome, archive, model);
     }
 
     pub fn read_joint(&mut self, store: &mut [u32], session: &mut Session, plots: &[u32]) {
         let mut row = self.row_for(3 * plots.len());
-        let (mut store_copy, mut session_copy, mut row_copy) = (store.to_vec(), *session, row.clone());
-        let archive = archive::read_joint(&mut store_copy, &mut session_copy, plots, &mut row_copy);
-        let archive = Left { reply: archive, store: store_copy, session: session_copy, row: row_copy };
+        let archive = on_copies(JOINT_READS, (store, session, &row), |call, store, session, row| {
+            call(store, session, plots, row)
+        });
 
         let result = model::read_joint(store, session, plots, &mut row);
         let outcome = outcome(&result, |_| if plots.is_empty() { "empty list" } else { "accepted" });
         let model = Left { reply: result.err().unwrap_or(0), store: store.to_vec(), session: *session, row };
-        self.compare("read_joint", &outcome, archive, model);
+        self.compare_forms(&outcome, archive, model);
     }
 
     /// The row's words that were written, if any.
@@ -120,9 +157,9 @@ impl Twin {
         let trial = model::write(&mut store.to_vec(), &mut session.clone(), plot, value, &mut [0; 4600]);
         let any = self.random.index(300);
         let mut row = self.row_for(trial.unwrap_or(any));
-        let (mut store_copy, mut session_copy, mut row_copy) = (store.to_vec(), *session, row.clone());
-        let archive = archive::write(&mut store_copy, &mut session_copy, plot, value, &mut row_copy);
-        let archive = Left { reply: archive, store: store_copy, session: session_copy, row: row_copy };
+        let archive = on_copies(WRITES, (store, session, &row), |call, store, session, row| {
+            call(store, session, plot, value, row)
+        });
 
         let result = model::write(store, session, plot, value, &mut row);
         let one = 4 + session.offices as usize + row.first().map_or(0, |head| (head & 0xFF) as usize);
@@ -130,7 +167,7 @@ impl Twin {
         let reply = reply(&result, |&words| words);
         let model = Left { reply, store: store.to_vec(), session: *session, row };
         let written = model.row[..reply.1].to_vec();
-        self.compare("write", &outcome, archive, model);
+        self.compare_forms(&outcome, archive, model);
         written
     }
 

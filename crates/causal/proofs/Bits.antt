@@ -1,19 +1,18 @@
 -- Laws of bits: of a | b, of a & b, of a without b, of 2 ^ j; words with the same bits are equal; what trailingZeros says. Assumes nothing.
-use mathlib.Core.Path.{_≡_, refl, sym, ap, ap₂, _∙_}
-use mathlib.Core.Logic.{_⊎_, inl, inr, ⊎-elim}
+use mathlib.Core.Path.{_≡_, refl, sym, ap, _∙_}
 use mathlib.Core.Bool.{Bool, true, false}
-use Prim.Native.Nat.{ℕ, zero, suc, _+_, _-_, _*_, _/_, _%_, _^_, _≤_, _<_, min, max, suc-le-suc}
+use Prim.Native.Nat.{ℕ, zero, suc, _-_, _*_, _/_, _%_, _^_, _<_, min, max, suc-le-suc}
 use native.Mathlib.Nat.{zero-div, pow-suc, one-mul, mod-eq-of-lt, not-suc-le-zero, le-of-suc-le-suc}
-use native.Mathlib.Numerals.{add-one, one-add}
+use native.Mathlib.Numerals.{one-add}
 use native.Mathlib.Omega.{arith}
-use lib.Bits.{bitAnd, bitOr, bitXor, differ, and-step, or-step, xor-step, and-shr, or-shr, xor-shr, or-add-and, xor-add-and, xor-self, and-le-l, and-le-r, and-self}
-use lib.Pow.{pow-pos, pow-lt, shr-shr}
+use lib.Bits.{bitAnd, bitOr, bitXor, differ, and-step, or-step, xor-step, and-shr, or-shr, xor-shr, or-add-and, xor-add-and, xor-self, and-le-l, and-le-r}
+use lib.Pow.{pow-lt, shr-shr}
 use lib.Count.{trailingZeros, under}
 use Rattle.causal.specs.Sets.{bit}
 use Rattle.causal.specs.Tests.{both}
-use Rattle.causal.proofs.Tests.{eq-or-ne, same-test, both-true, both-intro}
-use lib.Dec.{eqb, ltb, eqb·zero-suc, eqb·suc-zero, eqb·suc-suc}
-use borrow.Author.Tests.{eq-eqb, ne-eqb, eqb-true, eqb-false, ltb-true, ltb-false}
+use Rattle.causal.proofs.Tests.{same-test, both-true, both-intro}
+use lib.Dec.{eqb, eqb·zero-suc, eqb·suc-zero, eqb·suc-suc}
+use borrow.Author.Tests.{eq-eqb, ne-eqb, eqb-true}
 
 pub bit-lt : (w i : ℕ) → bit w i < 2
 unfolding bit

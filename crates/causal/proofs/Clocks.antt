@@ -7,7 +7,6 @@ use native.Mathlib.Omega.{arith}
 use lib.Dec.{leb}
 use lib.ListN.{getD}
 use borrow.Author.Tests.{leb-true, le-leb}
-use Rattle.causal.specs.Lists.{zip8}
 use Rattle.causal.specs.Clocks.{join, covers}
 use Rattle.causal.proofs.Tests.{all-at, all-intro}
 use Rattle.causal.proofs.Lists.{zip8-at}

@@ -1,14 +1,14 @@
 -- Laws of refusal numbers: what each link of a chain of checks gives, and what a chain that refuses nothing says. Assumes nothing.
 use Prim.Native.Nat.{ℕ, zero, suc, _+_, _<_, _≤_}
-use mathlib.Core.Path.{_≡_, refl, sym, ap, _∙_}
+use mathlib.Core.Path.{_≡_, refl, sym, _∙_}
 use mathlib.Core.Bool.{Bool, true, false, not}
-use mathlib.Core.Logic.{_⊎_, inl, inr, ⊎-elim}
+use mathlib.Core.Logic.{⊎-elim}
 use native.Mathlib.Omega.{arith}
 use native.Mathlib.Numerals.{add-one}
-use lib.Dec.{ltb, leb, eqb}
-use borrow.Author.Tests.{lt-ltb, le-ltb, le-leb, lt-leb, eq-eqb, ne-eqb, eqb-true, eqb-false, not-true, not-false}
+use lib.Dec.{ltb}
+use borrow.Author.Tests.{lt-ltb, le-ltb, not-true, not-false}
 use Rattle.causal.specs.Codes.{check, orElse, firstCode}
-use Rattle.causal.proofs.Tests.{split, eq-or-ne}
+use Rattle.causal.proofs.Tests.{split}
 
 pub or-none : (a b : ℕ) → a ≡ 0 → orElse a b ≡ b
 unfolding orElse

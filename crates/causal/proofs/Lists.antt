@@ -1,20 +1,20 @@
 -- Laws of lists of words: parts, runs of stores (`sets ws i vs` is ws with vs stored from i on), tables, eight places, sums.
 -- Assumes nothing.
-use Prim.Native.Nat.{ℕ, zero, suc, _+_, _-_, _*_, _<_, _≤_, max}
+use Prim.Native.Nat.{ℕ, zero, suc, _+_, _-_, _<_, _≤_}
 use mathlib.Core.Path.{_≡_, refl, sym, ap, _∙_}
-use mathlib.Core.Bool.{Bool, true, false}
-use mathlib.Core.Logic.{_⊎_, inl, inr, ⊎-elim}
+use mathlib.Core.Bool.{true}
+use mathlib.Core.Logic.{⊎-elim}
 use mathlib.Core.List.{List, [], _∷_, _++_, append-assoc}
 use native.Mathlib.Nat.{add-zero, zero-add, add-suc, suc-add}
 use native.Mathlib.Numerals.{add-one}
 use native.Mathlib.Omega.{arith}
 use lib.Dec.{eqb}
-use borrow.Author.Tests.{eq-eqb, ne-eqb, eqb-true, eqb-false}
+use borrow.Author.Tests.{eq-eqb, eqb-true}
 use lib.ListN.{length, getD, take, drop, set, length-append, length-take, length-drop, length-set, List·getD-append}
-use lib.Seq.{sets, take-suc, take-add, drop-drop, drop-cons, drop-set-add, drop-set-lt, take-set-le, take-set-lt, getD-take, getD-drop, sets-eq, take-at, drop-at, getD-at, length-take-le, length-sets, take-nil, take-take, getD-set-same, getD-set-other, take-append-seam}
+use lib.Seq.{sets, take-suc, take-add, drop-drop, drop-cons, drop-set-add, drop-set-lt, take-set-le, take-set-lt, getD-take, getD-drop, sets-eq, take-at, drop-at, getD-at, length-take-le, take-nil, take-take, getD-set-same, getD-set-other, take-append-seam}
 use Rattle.causal.specs.Tests.{both}
 use Rattle.causal.specs.Lists.{part, tab, sumBelow, zip8, eqWords}
-use Rattle.causal.proofs.Tests.{split, both-true, not-so}
+use Rattle.causal.proofs.Tests.{split, both-true}
 
 -- ---- parts
 

@@ -1,26 +1,25 @@
 -- Laws of sets of ids, by membership. Assumes nothing.
-use mathlib.Core.Path.{_≡_, refl, sym, ap, ap₂, _∙_}
+use mathlib.Core.Path.{_≡_, refl, sym, ap, _∙_}
 use mathlib.Core.Bool.{Bool, true, false}
 use mathlib.Core.List.{List, [], _∷_}
-use Prim.Native.Nat.{ℕ, zero, suc, _+_, _-_, _*_, _/_, _%_, _^_, _≤_, _<_, min, max}
+use Prim.Native.Nat.{ℕ, zero, suc, _+_, _-_, _*_, _/_, _%_, _^_, _≤_, _<_, max}
 use mathlib.Core.Logic.{_⊎_, inl, inr, ⊎-elim}
 use native.Mathlib.Numerals.{add-one}
 use native.Mathlib.Omega.{arith}
-use lib.Bits.{bitAnd, bitOr, bitXor, or-lt, xor-lt}
+use lib.Bits.{bitOr, bitXor, or-lt, xor-lt}
 use lib.Count.{trailingZeros}
-use lib.Dec.{eqb, ltb, lit<}
+use lib.Dec.{eqb, lit<}
 use lib.ListN.{length, getD, set, drop, length-set, getD-replicate, List·getD-eq-default, drop-of-length-le}
 use lib.Seq.{drop-cons, ext-getD, getD-set-same, getD-set-other, set-out}
 use lib.Pow.{pow-lt}
 use borrow.Author.Tests.{eq-eqb, ne-eqb, eqb-true, eqb-false}
 use Rattle.causal.specs.Tests.{both, allBelow}
 use Rattle.causal.specs.Lists.{zip8, zeros, sumBelow}
-use Rattle.causal.specs.Sets.{bit, has, isIn, IdSet, unite, minus, inserted, wordIn, subsetOf, sizeOf, Within, lowestIn, lowestOf}
-use Rattle.causal.specs.declared.set.Lowest.{Lowest}
+use Rattle.causal.specs.Sets.{bit, has, isIn, IdSet, unite, minus, inserted, isEmpty, wordIn, subsetOf, sizeOf, Within, lowestIn, lowestOf}
 use Rattle.causal.specs.declared.set.Lowest.the-variants.{At, Empty}
 use Rattle.causal.proofs.Tests.{lt-or-le, eq-or-ne, all-at, all-intro, split}
 use Rattle.causal.proofs.Lists.{zip8-at, sum-le}
-use Rattle.causal.proofs.Bits.{bit-lt, bit-or, bit-and, bit-minus, bit-pow, bit-zero-word, bits-ext, same, same-eq, same-ne, tz-below, tz-at, or-is-zero, none-left}
+use Rattle.causal.proofs.Bits.{bit-lt, bit-or, bit-minus, bit-pow, bit-zero-word, bits-ext, same, same-eq, same-ne, tz-below, tz-at, or-is-zero, none-left}
 
 pub has-lt : (s : List ℕ) (k : ℕ) → has s k < 2
 unfolding has
@@ -269,27 +268,39 @@ subset-complete a b x y f = all-intro (wordIn a b) 8 word
         let g′ : bit (getD a i 0) j ≤ bit (getD b i 0) j = rw (d, r) at g in
         omega (arith, bit-or (getD a i 0) (getD b i 0) j)))
 
--- ---- subset, all eight words at once
+-- ---- eight words at once
 
-module _ (a b : List ℕ) where
-  -- what is left of word i of a
-  abbrev Left : ℕ → ℕ
-  Left i = bitXor (bitOr (getD a i 0) (getD b i 0)) (getD b i 0)
+module _ (s : List ℕ) where
+  abbrev OrTo : ℕ → ℕ
+  OrTo zero = getD s 0 0
+  OrTo (suc i) = bitOr (OrTo i) (getD s (suc i) 0)
 
-  abbrev LeftTo : ℕ → ℕ
-  LeftTo zero = Left 0
-  LeftTo (suc i) = bitOr (LeftTo i) (Left (suc i))
+  or-to : (i : ℕ) → eqb (OrTo i) 0 ≡ allBelow (suc i) (λ j. eqb (getD s j 0) 0)
+  unfolding allBelow both
+  or-to zero = refl
+  or-to (suc i) = or-is-zero (OrTo i) (getD s (suc i) 0) ∙ ap (λ (t : Bool). both t (eqb (getD s (suc i) 0) 0)) (or-to i)
 
-  left-to : (i : ℕ) → eqb (LeftTo i) 0 ≡ allBelow (suc i) (wordIn a b)
-  unfolding wordIn allBelow both
-  left-to zero = none-left (getD a 0 0) (getD b 0 0)
-  left-to (suc i) = or-is-zero (LeftTo i) (Left (suc i)) ∙ ap₂ both (left-to i) (none-left (getD a (suc i) 0) (getD b (suc i) 0))
+  pub or-eight : eqb (bitOr (bitOr (bitOr (bitOr (bitOr (bitOr (bitOr (getD s 0 0) (getD s 1 0)) (getD s 2 0)) (getD s 3 0)) (getD s 4 0)) (getD s 5 0)) (getD s 6 0)) (getD s 7 0)) 0 ≡ isEmpty s
+  unfolding isEmpty
+  or-eight = or-to 7
 
-  pub subset-left : (l : List ℕ) → l ≡ minus a b
-      → eqb (bitOr (bitOr (bitOr (bitOr (bitOr (bitOr (bitOr (getD l 0 0) (getD l 1 0)) (getD l 2 0)) (getD l 3 0)) (getD l 4 0)) (getD l 5 0)) (getD l 6 0)) (getD l 7 0)) 0
-      ≡ subsetOf a b
-  unfolding minus subsetOf
-  subset-left l e = rw e (left-to 7)
+-- eight words, each of them 0 where a test of its place holds and only there
+pub eight-tests : (p : ℕ → Bool) (a b c d e f g h : ℕ) → eqb a 0 ≡ p 0 → eqb b 0 ≡ p 1 → eqb c 0 ≡ p 2 → eqb d 0 ≡ p 3 → eqb e 0 ≡ p 4 → eqb f 0 ≡ p 5 → eqb g 0 ≡ p 6 → eqb h 0 ≡ p 7
+    → isEmpty (a ∷ b ∷ c ∷ d ∷ e ∷ f ∷ g ∷ h ∷ []) ≡ allBelow 8 p
+unfolding isEmpty allBelow both
+eight-tests p a b c d e f g h t0 t1 t2 t3 t4 t5 t6 t7 = λ i. both (both (both (both (both (both (both (t0 i) (t1 i)) (t2 i)) (t3 i)) (t4 i)) (t5 i)) (t6 i)) (t7 i)
+
+pub subset-left : (a b : List ℕ) → isEmpty (minus a b) ≡ subsetOf a b
+unfolding minus subsetOf wordIn
+subset-left a b = eight-tests (wordIn a b) _ _ _ _ _ _ _ _ (left 0) (left 1) (left 2) (left 3) (left 4) (left 5) (left 6) (left 7)
+  where
+    left : (i : ℕ) → eqb (bitXor (bitOr (getD a i 0) (getD b i 0)) (getD b i 0)) 0 ≡ eqb (bitOr (getD a i 0) (getD b i 0)) (getD b i 0)
+    left i = none-left (getD a i 0) (getD b i 0)
+
+-- the empty set has no member
+pub empty-out : (s : List ℕ) → isEmpty s ≡ true → (k : ℕ) → k < 256 → isIn s k ≡ false
+unfolding isEmpty has
+empty-out s h k l = is-out s k (ap (λ (w : ℕ). bit w (k % 32)) (eqb-true _ 0 (all-at (λ i. eqb (getD s i 0) 0) 8 h (k / 32) (omega arith))) ∙ bit-zero-word (k % 32))
 
 -- ---- sets with the same members are the same words
 

@@ -1,19 +1,18 @@
 -- To walk the set bits of a word, lowest first: `t = trailing_zeros(rest)` is the next, and `rest & (rest - 1)` is without it.
 -- A fold over all bits that passes over clear ones stays as it is in between. Assumes nothing.
-use Prim.Native.Nat.{ℕ, zero, suc, _+_, _-_, _*_, _/_, _%_, _^_, _≤_, _<_, min, max, suc-le-suc}
+use Prim.Native.Nat.{ℕ, zero, suc, _+_, _-_, _*_, _/_, _%_, _^_, _≤_, _<_, min}
 use mathlib.Core.Path.{_≡_, refl, sym, ap, ap₂, _∙_}
-use mathlib.Core.Bool.{Bool, true, false}
-use mathlib.Core.List.{List, [], _∷_}
+use mathlib.Core.List.{List}
 use mathlib.Core.Logic.{_⊎_, inl, inr, ⊎-elim}
-use native.Mathlib.Nat.{pow-suc, not-suc-le-zero, le-of-suc-le-suc, add-suc, add-zero}
+use native.Mathlib.Nat.{pow-suc, add-suc, add-zero}
 use native.Mathlib.Numerals.{add-one}
 use native.Mathlib.Omega.{arith}
-use lib.Bits.{bitAnd, and-le-r, and-lt}
-use lib.Count.{trailingZeros, under, ones, ones-step, trailing-le}
-use lib.Dec.{eqb, eqb·zero-suc, eqb·suc-zero, eqb·suc-suc}
-use lib.ListN.{length, getD}
+use lib.Bits.{bitAnd, and-le-r}
+use lib.Count.{trailingZeros, under, ones, ones-step}
+use lib.Dec.{eqb·suc-suc}
+use lib.ListN.{getD}
 use Rattle.causal.specs.Lists.{sumBelow}
-use Rattle.causal.specs.Sets.{bit, has, isIn, IdSet}
+use Rattle.causal.specs.Sets.{bit, has}
 use Rattle.causal.proofs.Tests.{lt-or-le, split}
 use Rattle.causal.proofs.Bits.{bit-lt, bit-and, bit-low, bit-suc, bit-zero-word, flag, same, same-eq, same-ne, tz-below, tz-at}
 

@@ -1,8 +1,8 @@
 -- Sets of ids (01: of names). An id is a number k < 256, 32 to an office; a set is eight words of 32 bits, k at bit k % 32 of word k / 32.
 -- Assumes nothing.
-use Prim.Native.Nat.{ℕ, zero, suc, _+_, _-_, _*_, _/_, _%_, _^_, _<_}
+use Prim.Native.Nat.{ℕ, _+_, _/_, _%_, _^_, _<_}
 use mathlib.Core.Path.{_≡_}
-use mathlib.Core.Bool.{Bool, true, false, cond}
+use mathlib.Core.Bool.{Bool, cond}
 use mathlib.Core.List.{List, [], _∷_}
 use lib.Bits.{bitOr, bitXor}
 use lib.Count.{trailingZeros}
@@ -37,6 +37,10 @@ minus a b = zip8 (λ x y. bitXor (bitOr x y) y) a b
 
 unfoldable pub inserted : List ℕ → ℕ → List ℕ
 inserted s k = set s (k / 32) (bitOr (getD s (k / 32) 0) (2 ^ (k % 32)))
+
+-- no member
+unfoldable pub isEmpty : List ℕ → Bool
+isEmpty s = allBelow 8 (λ i. eqb (getD s i 0) 0)
 
 -- word i of a adds nothing to word i of b
 unfoldable pub wordIn : List ℕ → List ℕ → ℕ → Bool

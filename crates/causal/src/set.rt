@@ -1,6 +1,6 @@
 // Sets of ids (01: of names) as eight words: id k, 0 <= k < 256, is bit k % 32 of word k / 32.
 ghost use mathlib.Core.Path.{_≡_};
-ghost use Rattle.causal.specs.Sets.{isIn, inserted, unite, minus, subsetOf, sizeOf, lowestOf};
+ghost use Rattle.causal.specs.Sets.{isIn, inserted, unite, minus, isEmpty, subsetOf, sizeOf, lowestOf};
 
 pub enum Lowest {
     At(usize),
@@ -61,12 +61,19 @@ pub fn without(a: [u32; 8], b: [u32; 8]) -> [u32; 8]
     ]
 }
 
-// Is every member of a one of b? All eight words at once.
+// Are all eight words 0? Asked of all at once.
+pub fn is_empty(set: [u32; 8]) -> bool
+    ensures { λ r. ⌜ r ≡ isEmpty set ⌝ }
+{
+    set[0] | set[1] | set[2] | set[3] | set[4] | set[5] | set[6] | set[7] == 0
+}
+
+// Is every member of a one of b?
 pub fn subset(a: [u32; 8], b: [u32; 8]) -> bool
     ensures { λ r. ⌜ r ≡ subsetOf a b ⌝ }
 {
     let left = without(a, b);
-    left[0] | left[1] | left[2] | left[3] | left[4] | left[5] | left[6] | left[7] == 0
+    is_empty(left)
 }
 
 // How many members.

@@ -1,9 +1,9 @@
 -- "What was written reads back": the frame that was written to a row. Assumes nothing.
 use Prim.Native.Nat.{ℕ, _%_, _*_, _+_, _/_, _<_, _≤_}
-use mathlib.Core.Bool.{Bool, false, true}
+use mathlib.Core.Bool.{true}
 use mathlib.Core.List.{List}
 use mathlib.Core.Logic.{⊎-elim}
-use mathlib.Core.Path.{_∙_, _≡_, ap, refl, sym}
+use mathlib.Core.Path.{_∙_, _≡_, ap, sym}
 use native.Mathlib.Omega.{arith}
 use lib.ListN.{getD, length}
 use lib.Seq.{ext-getD}

@@ -1,16 +1,16 @@
 -- What the entry and frame rules say, as facts, both ways; rank is a strict total order on entries that keep them. Assumes nothing.
-use Prim.Native.Nat.{ℕ, zero, suc, _+_, _-_, _*_, _/_, _%_, _<_, _≤_}
+use Prim.Native.Nat.{ℕ, _-_, _<_, _≤_}
 use mathlib.Core.Path.{_≡_, refl, sym, ap, _∙_}
-use mathlib.Core.Bool.{Bool, true, false, cond, not}
-use mathlib.Core.Logic.{_⊎_, inl, inr, ⊎-elim}
+use mathlib.Core.Bool.{true, false, cond, not}
+use mathlib.Core.Logic.{_⊎_, ⊎-elim}
 use mathlib.Core.List.{List}
 use native.Mathlib.Omega.{arith}
 use lib.Dec.{leb, ltb, eqb}
 use lib.ListN.{length, getD}
 use borrow.Author.Tests.{ltb-true, leb-true, eqb-true, lt-ltb, le-ltb, le-leb, eq-eqb, not-true}
-use Rattle.causal.specs.Tests.{both, either, allBelow}
+use Rattle.causal.specs.Tests.{both, either}
 use Rattle.causal.specs.Sets.{isIn}
-use Rattle.causal.proofs.Tests.{both-true, both-intro, all-at, all-intro, lt-or-le}
+use Rattle.causal.proofs.Tests.{both-true, all-at, all-intro, lt-or-le}
 use Rattle.causal.proofs.Ranks.{above-irrefl, above-trans, above-cotrans, above-total}
 use Rattle.frame.specs.declared.entry.Entry.{Entry}
 use Rattle.frame.specs.declared.entry.Frame.{Frame}

@@ -1,30 +1,28 @@
 -- Laws of frames: the words of a frame, part by part; the reader's checks accept just the writings; what was written is read back.
 -- Assumes nothing.
-use Prim.Native.Nat.{ℕ, zero, suc, _+_, _-_, _*_, _/_, _%_, _^_, _<_, _≤_}
+use Prim.Native.Nat.{ℕ, suc, _+_, _-_, _*_, _/_, _%_, _<_, _≤_}
 use mathlib.Core.Path.{_≡_, refl, sym, ap, _∙_}
-use mathlib.Core.Bool.{Bool, true, false, cond}
-use mathlib.Core.Logic.{_⊎_, inl, inr, ⊎-elim}
-use mathlib.Core.List.{List, [], _∷_, _++_, append-assoc, append-nil}
-use native.Mathlib.Nat.{add-zero, zero-add, add-suc, suc-add, le-refl}
+use mathlib.Core.Bool.{Bool, true, cond}
+use mathlib.Core.List.{List, [], _∷_, _++_, append-assoc}
+use native.Mathlib.Nat.{le-refl}
 use native.Mathlib.Omega.{arith}
 use lib.Dec.{leb, ltb, eqb}
-use lib.ListN.{length, getD, take, drop, length-append, List·getD-append}
-use lib.Seq.{ext-getD, getD-at, take-at, drop-at, drop-cons, drop-drop, take-suc, take-all}
-use borrow.Author.Tests.{ltb-true, leb-true, eqb-true, lt-ltb, le-ltb, le-leb, eq-eqb}
-use Rattle.causal.specs.Tests.{both, either, allBelow}
-use Rattle.causal.specs.Lists.{part, tab, eqWords}
-use Rattle.causal.specs.Sets.{isIn, IdSet, sizeOf}
-use Rattle.causal.proofs.Tests.{both-true, both-intro, all-at, all-intro, same-test, lt-or-le}
+use lib.ListN.{length, getD, take, drop, length-append}
+use lib.Seq.{ext-getD, getD-at, take-at, drop-at, drop-drop, take-suc, take-all}
+use borrow.Author.Tests.{ltb-true, leb-true, eqb-true, lt-ltb, le-leb, eq-eqb}
+use Rattle.causal.specs.Tests.{both, either}
+use Rattle.causal.specs.Lists.{part, eqWords}
+use Rattle.causal.proofs.Tests.{both-true, both-intro, all-at, all-intro, same-test}
 use Rattle.causal.proofs.Lists.{part-add, part-cons, part-at, part-length, eqWords-refl, eqWords-eq}
 use Rattle.causal.proofs.Sets.{size-less}
 use Rattle.frame.specs.declared.entry.Entry.{Entry}
 use Rattle.frame.specs.declared.entry.Frame.{Frame}
-use Rattle.frame.specs.Entries.{idOf, clockOk, idsOk, entryOk}
-use Rattle.frame.specs.Words.{kindOf, payload, payAt, isKind, kindIs, clockWord, clockWords, clockPlace, clockFrom, idWords, idsFrom, total, sumWord, summed}
-use Rattle.frame.specs.Frames.{ringOk, framed, headWord, bodyWords, frameWords, frameOk, officesIn, countIn, frameOf, accepts}
+use Rattle.frame.specs.Entries.{idOf, entryOk}
+use Rattle.frame.specs.Words.{kindOf, payload, payAt, isKind, kindIs, clockWord, clockWords, clockFrom, idWords, idsFrom, total, sumWord, summed}
+use Rattle.frame.specs.Frames.{headWord, bodyWords, frameWords, frameOk, officesIn, countIn, frameOf, accepts}
 use Rattle.frame.specs.Reading.{shapeOk, clockKinds, kindsOk, ascends, sumOk, checked}
-use Rattle.frame.proofs.Entries.{clock-facts, EntryFacts, entry-facts, FrameFacts, frame-facts, facts-frame, frame-wider}
-use Rattle.frame.proofs.Words.{kind-is, is-kind, length-summed, length-clock, clock-at, clock-from-at, clock-from-eight, ids-size, ascends-are, ids-ascend, ids-back, ids-from-set}
+use Rattle.frame.proofs.Entries.{clock-facts, EntryFacts, entry-facts, FrameFacts, frame-facts, facts-frame}
+use Rattle.frame.proofs.Words.{kind-is, is-kind, length-summed, length-clock, clock-at, clock-from-at, ids-size, ascends-are, ids-ascend}
 
 -- ---- how many words
 

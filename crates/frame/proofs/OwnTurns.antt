@@ -6,7 +6,8 @@ use mathlib.Core.List.{List, [], _∷_, _++_, foldl-append}
 use lib.Dec.{leb, eqb}
 use lib.ListN.{length, getD, replicate, List·getD-append}
 use lib.Seq.{ext-getD}
-use Rattle.causal.proofs.Tests.{both-one, both-assoc}
+use borrow.Author.Tests.{leb-true}
+use Rattle.causal.proofs.Tests.{both-one, both-assoc, both-true}
 use Rattle.causal.specs.Tests.{both, allBelow}
 use Rattle.causal.specs.Lists.{tab, zeros}
 use Rattle.causal.specs.Sets.{isIn, unite, inserted, subsetOf}
@@ -14,10 +15,8 @@ use Rattle.causal.proofs.Lists.{tab-length, tab-at, tab-more}
 use Rattle.frame.specs.declared.entry.Entry.{Entry}
 use Rattle.frame.specs.declared.session.Session.{Session}
 use Rattle.frame.specs.Entries.{idOf, clockOk, idsOk, entryOk, blankEntry}
-use Rattle.frame.specs.Sessions.{Content, nobody, contentOf, filled, sessionOf, idsOf, ownTurn, ownOk, sessionOk}
+use Rattle.frame.specs.Sessions.{Content, nobody, contentOf, filled, sessionOf, idsOf, ownTurn, ownOk, headOk, sessionOk}
 use Rattle.frame.proofs.Sessions.{idsWith}
-
--- ---- chains
 
 -- ---- own writes, one after the other
 
@@ -69,6 +68,30 @@ unfolding sessionOk contentOf
 session-is n p s =
     ap (λ (m : ℕ). both (eqb (s .offices) n) (both (leb m 16) (both (clockOk n (s .clock)) (both (idsOk n (s .read)) (ownOk n p (s .read) zeros (tab (s .count) (ownsOf (s .own))))))))
     (sym (tab-length (s .count) (ownsOf (s .own))))
+
+-- the same in two steps
+pub session-parts : (n p : ℕ) (s : Session)
+    → both (headOk n (s .offices) (s .count) (s .clock) (s .read)) (ownOk n p (s .read) zeros (tab (s .count) (ownsOf (s .own)))) ≡ sessionOk n p (contentOf s)
+unfolding headOk
+session-parts n p s =
+    let A : Bool = eqb (s .offices) n in
+    let B : Bool = leb (s .count) 16 in
+    let C : Bool = clockOk n (s .clock) in
+    let D : Bool = idsOk n (s .read) in
+    let R : Bool = ownOk n p (s .read) zeros (tab (s .count) (ownsOf (s .own))) in
+    both-assoc A (both B (both C D)) R ∙ ap (both A) (both-assoc B (both C D) R ∙ ap (both B) (both-assoc C D R)) ∙ session-is n p s
+
+pub head-refused : (n p : ℕ) (s : Session) → headOk n (s .offices) (s .count) (s .clock) (s .read) ≡ false → sessionOk n p (contentOf s) ≡ false
+unfolding both
+head-refused n p s h = sym (session-parts n p s) ∙ ap (λ (b : Bool). both b (ownOk n p (s .read) zeros (tab (s .count) (ownsOf (s .own))))) h
+
+pub head-then : (n p : ℕ) (s : Session) (r : Bool) → headOk n (s .offices) (s .count) (s .clock) (s .read) ≡ true → r ≡ ownOk n p (s .read) zeros (tab (s .count) (ownsOf (s .own))) → r ≡ sessionOk n p (contentOf s)
+unfolding both
+head-then n p s r h e = e ∙ sym (ap (λ (b : Bool). both b (ownOk n p (s .read) zeros (tab (s .count) (ownsOf (s .own))))) h) ∙ session-parts n p s
+
+pub head-few : (n offices count : ℕ) (clock read : List ℕ) → headOk n offices count clock read ≡ true → count ≤ 16
+unfolding headOk
+head-few n offices count clock read h = leb-true count 16 (both-true (leb count 16) _ (both-true (eqb offices n) _ h .1) .0)
 
 pub none-ok : (n p : ℕ) (read : List ℕ) (f : ℕ → Entry) (m : ℕ) → m ≡ 0 → true ≡ ownOk n p read zeros (tab m f)
 unfolding ownOk tab

@@ -1,17 +1,16 @@
 -- What the reader of a frame answers, by its steps. Assumes nothing.
-use Prim.Native.Nat.{ℕ, zero, suc, _+_, _-_, _*_, _/_, _%_, _<_, _≤_}
+use Prim.Native.Nat.{ℕ, suc, _+_, _-_}
 use mathlib.Core.Path.{_≡_, refl, sym, ap, _∙_}
 use mathlib.Core.Bool.{Bool, true, false}
 use mathlib.Core.List.{List}
 use native.Mathlib.Omega.{arith}
 use lib.Dec.{leb, ltb, eqb}
 use lib.ListN.{length, getD, take, drop}
-use borrow.Author.Tests.{ltb-true, eqb-true}
+use borrow.Author.Tests.{eqb-true}
 use Rattle.causal.specs.Tests.{both}
 use Rattle.causal.specs.Codes.{check}
 use Rattle.causal.specs.Lists.{part}
 use Rattle.causal.proofs.Tests.{both-true}
-use Rattle.frame.specs.declared.entry.Entry.{Entry}
 use Rattle.frame.specs.declared.entry.Frame.{Frame}
 use Rattle.frame.specs.Entries.{entryOk}
 use Rattle.frame.specs.Words.{kindIs, idsFrom, clockFrom}

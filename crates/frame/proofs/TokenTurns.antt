@@ -54,6 +54,10 @@ pub rows-none : (n : ℕ) (f : ℕ → Entry) → ownRows n (tab 0 f) ≡ []
 unfolding rowsOf tab
 rows-none n f = refl
 
+-- a session that carries none
+pub rows-of-none : (n : ℕ) (own : List Entry) (count : ℕ) → count ≡ 0 → ownRows n (tab count (ownsOf own)) ≡ []
+rows-of-none n own count e = ap (λ (i : ℕ). ownRows n (tab i (ownsOf own))) e ∙ rows-none n (ownsOf own)
+
 module _ (n : ℕ) (f : ℕ → Entry) where
   pub rows-more : (i : ℕ) → ownRows n (tab (i + 1) f) ≡ ownRows n (tab i f) ++ frameWords (framed n 0 (f i))
   rows-more i = ap (ownRows n) (tab-more i f) ∙ rows-snoc n (tab i f) (f i)

@@ -1,6 +1,6 @@
 -- "What was written reads back": the session that was written to a token. Assumes nothing.
 use Prim.Native.Nat.{ℕ, _%_, _+_, _/_, _<_, _≤_, suc}
-use mathlib.Core.Bool.{Bool, false, true}
+use mathlib.Core.Bool.{true}
 use mathlib.Core.List.{List, List·Memᴰ, List·Memᴰ·head, List·Memᴰ·tail, [], _++_, _∷_, append-assoc, map}
 use mathlib.Core.Path.{_∙_, _≡_, ap, refl, sym}
 use native.Mathlib.Omega.{arith}

@@ -1,26 +1,26 @@
 -- Laws of words: kinds and payloads, the check sum, the words of a clock, the words of a set of ids. Assumes nothing.
-use Prim.Native.Nat.{ℕ, zero, suc, _+_, _-_, _*_, _/_, _%_, _^_, _<_, _≤_, max, zero-le}
+use Prim.Native.Nat.{ℕ, zero, suc, _+_, _*_, _/_, _%_, _<_, _≤_, max, zero-le}
 use mathlib.Core.Path.{_≡_, refl, sym, ap, _∙_}
 use mathlib.Core.Bool.{Bool, true, false, cond}
 use mathlib.Core.Logic.{_⊎_, inl, inr, ⊎-elim}
 use mathlib.Core.List.{List, [], _∷_, _++_, foldl, foldl-append, append-assoc, append-nil}
-use native.Mathlib.Nat.{add-zero, zero-add, add-suc, suc-add, le-refl}
+use native.Mathlib.Nat.{add-zero, add-suc, le-refl}
 use native.Mathlib.Numerals.{add-one}
 use native.Mathlib.Omega.{arith}
-use lib.Dec.{leb, ltb, eqb, lit<}
-use lib.ListN.{length, getD, take, drop, set, replicate, length-append, List·getD-append}
-use lib.Seq.{take-suc, drop-cons, ext-getD, getD-at}
+use lib.Dec.{leb, ltb, eqb}
+use lib.ListN.{length, getD, take, set, length-append, List·getD-append}
+use lib.Seq.{take-suc, getD-at}
 use borrow.Author.Tests.{ltb-true, leb-true, eqb-true, lt-ltb, le-ltb, le-leb, lt-leb, eq-eqb, ne-eqb}
 use Rattle.causal.specs.Tests.{both, either}
-use Rattle.causal.specs.Lists.{part, tab, zeros, sumBelow}
+use Rattle.causal.specs.Lists.{zeros, sumBelow}
 use Rattle.causal.specs.Sets.{bit, has, isIn, IdSet, inserted, sizeOf}
-use Rattle.causal.proofs.Tests.{both-true, both-intro, lt-or-le, eq-or-ne, split, not-so, same-test, false-true}
-use Rattle.causal.proofs.Lists.{tab-length, tab-at, part-at, part-length, sum-le}
+use Rattle.causal.proofs.Tests.{both-true, both-intro, lt-or-le, eq-or-ne, not-so, same-test, false-true}
+use Rattle.causal.proofs.Lists.{tab-length, tab-at}
 use Rattle.causal.proofs.Bits.{same, same-eq, same-ne, bit-zero-word}
 use Rattle.causal.proofs.Sets.{has-lt, has-inserted, ids-inserted, is-in, in-is, out-is, is-out, in-inserted, in-or-out, same-words, ids-zeros, has-zeros}
 use Rattle.causal.proofs.Walk.{skip, has-word}
 use Rattle.frame.specs.Entries.{idsOk}
-use Rattle.frame.specs.Words.{kindOf, payload, payAt, isKind, kindIs, clockWord, clockWords, clockPlace, clockFrom, idWord, idWordIf, idWordsTo, idWords, idWordsIn, idIn, idsFrom, total, sumWord, summed}
+use Rattle.frame.specs.Words.{kindOf, payload, isKind, kindIs, clockWord, clockWords, clockPlace, clockFrom, idWord, idWordIf, idWordsTo, idWords, idWordsIn, idIn, idsFrom, total, sumWord, summed}
 use Rattle.frame.specs.Reading.{idOk, ascends}
 use Rattle.frame.proofs.Entries.{ids-facts}
 

@@ -7,7 +7,6 @@ use lib.Dec.{leb, ltb, eqb}
 use lib.ListN.{length, getD, take}
 use Rattle.causal.specs.Tests.{both, allBelow}
 use Rattle.causal.specs.Lists.{part}
-use Rattle.frame.specs.declared.entry.Entry.{Entry}
 use Rattle.frame.specs.declared.entry.Frame.{Frame}
 use Rattle.frame.specs.Entries.{entryOk}
 use Rattle.frame.specs.Words.{payload, payAt, kindIs, clockFrom, total}

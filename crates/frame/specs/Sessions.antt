@@ -52,6 +52,10 @@ ownOk n p read seen (e ∷ es) =
 unfoldable pub ownTurn : ℕ → ℕ → List ℕ → List ℕ → Entry → Bool
 ownTurn n p read seen e = both (entryOk n p e) (both (not (isIn seen (idOf e))) (subsetOf (e .deps) (unite read seen)))
 
+-- all that a sound session keeps but for its own writes: the ring size, how many it carries, clock and read
+unfoldable pub headOk : ℕ → ℕ → ℕ → List ℕ → List ℕ → Bool
+headOk n offices count clock read = both (eqb offices n) (both (leb count 16) (both (clockOk n clock) (idsOk n read)))
+
 -- "An errand is sound for a store if the ring size agrees, it carries at most 16, names, clocks and plots are in range for that ring and
 -- those plots, .."
 unfoldable pub sessionOk : ℕ → ℕ → Content → Bool

@@ -1,12 +1,12 @@
 // Entries, frames that carry them round the ring, and the rules they keep.
 ghost use mathlib.Core.Path.{_≡_};
-ghost use mathlib.Core.Bool.{not};
+ghost use mathlib.Core.Bool.{cond, not};
 ghost use Prim.Native.Nat.{_+_, _-_, _*_, _<_, _≤_};
-ghost use lib.Dec.{eqb};
+ghost use lib.Dec.{eqb, leb, ltb};
 ghost use lib.ListN.{getD};
-ghost use Rattle.causal.specs.Tests.{both};
+ghost use Rattle.causal.specs.Tests.{both, either};
 ghost use Rattle.causal.specs.Sets.{isIn};
-ghost use Rattle.frame.specs.Entries.{idOf, clockPlaceOk, clockOk, idsPlaceOk, idsOk, boundsOk, entryOk, outranks as outranksOf, blankEntry};
+ghost use Rattle.frame.specs.Entries.{idOf, clockOk, idsOk, boundsOk, entryOk, outranks as outranksOf, blankEntry};
 ghost use Rattle.frame.specs.Frames.{ringOk, frameOk};
 
 #[repr(C)]
@@ -42,48 +42,61 @@ pub fn ring_ok(offices: u32, plots: u32) -> bool
     plots <= 64
 }
 
-fn clock_place_ok(n: usize, clock: [u32; 8], j: usize) -> bool
-    requires { ⌜ j < 8 ⌝ }
-    ensures { λ r. ⌜ r ≡ clockPlaceOk n clock j ⌝ }
+// 0 where place j of a clock may be x, in a ring of n offices.
+fn over(n: usize, x: u32, j: usize) -> u32
+    ensures { λ r. ⌜ eqb r 0 ≡ cond (ltb j n) (leb x 32) (eqb x 0) ⌝ }
 {
-    if j < n {
-        return clock[j] <= 32;
+    if j >= n {
+        return x;
     }
-    clock[j] == 0
+    if x > 32 {
+        return 1;
+    }
+    0
 }
 
-// Numbers of 0 to 32, and zero for offices that the ring has not.
+// Numbers of 0 to 32, and zero for offices that the ring has not. All places at once.
 pub fn clock_ok(n: usize, clock: [u32; 8]) -> bool
     ensures { λ r. ⌜ r ≡ clockOk n clock ⌝ }
 {
-    for j in 0..8 {
-        if !clock_place_ok(n, clock, j) {
-            return false;
-        }
-    }
-    true
+    let left = [
+        over(n, clock[0], 0),
+        over(n, clock[1], 1),
+        over(n, clock[2], 2),
+        over(n, clock[3], 3),
+        over(n, clock[4], 4),
+        over(n, clock[5], 5),
+        over(n, clock[6], 6),
+        over(n, clock[7], 7),
+    ];
+    causal::set::is_empty(left)
 }
 
-fn ids_place_ok(n: usize, ids: [u32; 8], j: usize) -> bool
-    requires { ⌜ j < 8 ⌝ }
-    ensures { λ r. ⌜ r ≡ idsPlaceOk n ids j ⌝ }
+// What word j of a set has of an office that the ring has not.
+fn beyond(n: usize, w: u32, j: usize) -> u32
+    ensures { λ r. ⌜ eqb r 0 ≡ either (ltb j n) (eqb w 0) ⌝ }
 {
     if j < n {
-        return true;
+        return 0;
     }
-    ids[j] == 0
+    w
 }
 
-// No id of an office that the ring has not.
+// No id of an office that the ring has not. All words at once.
 pub fn ids_ok(n: usize, ids: [u32; 8]) -> bool
     ensures { λ r. ⌜ r ≡ idsOk n ids ⌝ }
 {
-    for j in 0..8 {
-        if !ids_place_ok(n, ids, j) {
-            return false;
-        }
-    }
-    true
+    let left = [
+        beyond(n, ids[0], 0),
+        beyond(n, ids[1], 1),
+        beyond(n, ids[2], 2),
+        beyond(n, ids[3], 3),
+        beyond(n, ids[4], 4),
+        beyond(n, ids[5], 5),
+        beyond(n, ids[6], 6),
+        beyond(n, ids[7], 7),
+    ];
+    causal::set::is_empty(left)
 }
 
 fn bounds_ok(n: u32, p: u32, office: u32, serial: u32, plot: u32, value: u32) -> bool

@@ -3,7 +3,7 @@ ghost use mathlib.Core.Path.{_≡_};
 ghost use Prim.Native.Nat.{_≤_};
 ghost use lib.ListN.{getD};
 ghost use Rattle.causal.specs.Lists.{tab, zeros};
-ghost use Rattle.frame.specs.Sessions.{nobody, contentOf, sessionOf, idsOf, ownTurn, ownOk, sessionOk, freshContent};
+ghost use Rattle.frame.specs.Sessions.{nobody, contentOf, sessionOf, idsOf, ownTurn, ownOk, headOk, sessionOk, freshContent};
 use crate::entry::Entry;
 
 #[repr(C)]
@@ -50,7 +50,7 @@ fn own_ok(n: u32, p: u32, read: [u32; 8], seen: [u32; 8], e: Entry) -> bool
 }
 
 // The own writes, with the set of the ids seen so far.
-fn owns_ok(n: u32, p: u32, read: [u32; 8], own: [Entry; 16], count: usize) -> bool
+pub fn owns_ok(n: u32, p: u32, read: [u32; 8], own: [Entry; 16], count: usize) -> bool
     requires { ⌜ (n ≤ 8) × (count ≤ 16) ⌝ }
     ensures { λ r. ⌜ r ≡ ownOk n p read zeros (tab count (λ i. getD own i nobody)) ⌝ }
 {
@@ -67,24 +67,32 @@ fn owns_ok(n: u32, p: u32, read: [u32; 8], own: [Entry; 16], count: usize) -> bo
     true
 }
 
-// 01: is a session sound for a ring of so many offices, with so many plots?
+// All of a session but its own writes: the ring size, how many it carries, clock and read ids.
+pub fn head_ok(offices: u32, count: usize, clock: [u32; 8], read: [u32; 8], n: u32) -> bool
+    ensures { λ r. ⌜ r ≡ headOk n offices count clock read ⌝ }
+{
+    if offices != n {
+        return false;
+    }
+    if count > 16 {
+        return false;
+    }
+    if !crate::entry::clock_ok(n as usize, clock) {
+        return false;
+    }
+    crate::entry::ids_ok(n as usize, read)
+}
+
+// 01: is a session sound for a ring of so many offices, with so many plots? The own writes are taken out only where there are any: they are
+// 1,280 bytes.
 pub fn session_ok(s: Session, offices: u32, plots: u32) -> bool
     requires { ⌜ offices ≤ 8 ⌝ }
     ensures { λ r. ⌜ r ≡ sessionOk offices plots (contentOf s) ⌝ }
 {
-    if s.offices != offices {
-        return false;
-    }
     let count = s.count;
-    if count > 16 {
-        return false;
-    }
     let clock = s.clock;
-    if !crate::entry::clock_ok(offices as usize, clock) {
-        return false;
-    }
     let read = s.read;
-    if !crate::entry::ids_ok(offices as usize, read) {
+    if !head_ok(s.offices, count, clock, read, offices) {
         return false;
     }
     if count == 0 {
@@ -115,6 +123,10 @@ pub fn own_ids(s: Session) -> [u32; 8]
     ensures { λ r. ⌜ r ≡ idsOf (contentOf s .own) ⌝ }
 {
     let count = s.count;
+    if count == 0 {
+        let none = [0u32; 8];
+        return none;
+    }
     let own = s.own;
     ids_of(own, count)
 }

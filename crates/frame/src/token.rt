@@ -46,16 +46,26 @@ fn own_words(n: u32, own: [Entry; 16], count: usize) -> usize
     words
 }
 
+// The same of a session's own writes, which are taken out only where there are any.
+fn carried_words(s: Session) -> usize
+    requires { ⌜ (s .offices ≤ 8) × (s .count ≤ 16) ⌝ }
+    ensures { λ r. ⌜ r ≡ length (ownRows (s .offices) (tab (s .count) (λ i. getD (s .own) i nobody))) ⌝ }
+{
+    if s.count == 0 {
+        return 0;
+    }
+    let own = s.own;
+    own_words(s.offices, own, s.count)
+}
+
 // How many words a token takes.
 fn words_of(s: Session) -> usize
     requires { ⌜ (s .offices ≤ 8) × (s .count ≤ 16) ⌝ }
     ensures { λ r. ⌜ r ≡ length (tokenWords (contentOf s)) ⌝ }
 {
     let read = s.read;
-    let own = s.own;
-    let count = s.count;
     let n = s.offices;
-    let words = own_words(n, own, count);
+    let words = carried_words(s);
     n as usize + causal::set::size(read) + words + 2
 }
 
@@ -92,6 +102,18 @@ fn put_owns(n: u32, own: [Entry; 16], count: usize, out: &mut [u32], at: usize) 
     to
 }
 
+// The same of a session's own writes, which are taken out only where there are any.
+fn put_carried(s: Session, out: &mut [u32], at: usize) -> usize
+    requires { ⌜ (s .count ≤ 16) × ((i : ℕ) → i < s .count → frameOk (s .offices) 64 (framed (s .offices) 0 (getD (s .own) i nobody)) ≡ true) × (at + length (ownRows (s .offices) (tab (s .count) (λ i. getD (s .own) i nobody))) ≤ length (now out)) ⌝ }
+    ensures { λ r. ⌜ (r ≡ at + length (ownRows (s .offices) (tab (s .count) (λ i. getD (s .own) i nobody)))) × (now (out .exit) ≡ sets (now (out .entry)) at (ownRows (s .offices) (tab (s .count) (λ i. getD (s .own) i nobody)))) ⌝ }
+{
+    if s.count == 0 {
+        return at;
+    }
+    let own = s.own;
+    put_owns(s.offices, own, s.count, out, at)
+}
+
 // The words of a token, where there is room for them.
 fn fill(s: Session, out: &mut [u32])
     requires { ⌜ (ringOk (s .offices) 64 ≡ true) × (sessionOk (s .offices) 64 (contentOf s) ≡ true) × (length (tokenWords (contentOf s)) ≤ length (now out)) ⌝ }
@@ -99,15 +121,13 @@ fn fill(s: Session, out: &mut [u32])
 {
     let clock = s.clock;
     let read = s.read;
-    let own = s.own;
-    let count = s.count;
     let n = s.offices;
     let reads = causal::set::size(read);
-    let head = head_word(n, count as u32, reads as u32);
+    let head = head_word(n, s.count as u32, reads as u32);
     out[0] = head;
     crate::word::put_clock(clock, n as usize, out, 1);
     let at = crate::word::put_ids(read, out, 1 + n as usize);
-    let end = put_owns(n, own, count, out, at);
+    let end = put_carried(s, out, at);
     crate::word::put_sum(out, end);
 }
 

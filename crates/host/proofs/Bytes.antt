@@ -1,10 +1,9 @@
 -- Rows of bytes: what the check of one answers, by its steps. Assumes nothing.
-use Prim.Native.Nat.{ℕ, suc, _+_, _*_, _/_, _%_, _<_, _≤_}
+use Prim.Native.Nat.{ℕ, _/_, _%_, _<_, _≤_}
 use mathlib.Core.Path.{_≡_, refl, sym, ap, _∙_}
-use mathlib.Core.Bool.{Bool, true, false}
+use mathlib.Core.Bool.{true, false}
 use mathlib.Core.List.{List}
 use native.Mathlib.Omega.{arith}
-use lib.Dec.{eqb}
 use lib.ListN.{length, take, replicate, length-replicate}
 use lib.Seq.{sets}
 use borrow.Author.Tests.{eq-eqb, ne-eqb}
@@ -12,11 +11,9 @@ use Rattle.causal.specs.Codes.{check}
 use Rattle.causal.specs.Lists.{tab}
 use Rattle.causal.proofs.Tests.{not-so}
 use Rattle.causal.proofs.Lists.{tab-length, take-front}
-use Rattle.frame.specs.Entries.{entryOk}
 use Rattle.frame.specs.Frames.{ringOk, frameOf, accepts}
-use Rattle.frame.specs.Words.{idWords}
 use Rattle.frame.specs.Calls.{readFrameCode}
-use Rattle.frame.proofs.Entries.{ring-facts, frame-facts}
+use Rattle.frame.proofs.Entries.{frame-facts}
 use Rattle.frame.proofs.Frames.{length-frame, count-fits}
 use Rattle.frame.proofs.Back.{accepted-ok, accepted-written}
 use Rattle.host.specs.Bytes.{wordAt, wordsOf, checkBytes}

@@ -1,8 +1,10 @@
 // The readings and the writing of an office for a host that lends the session: it comes as `s` and is left as the call leaves it.
+// A reading changes its clock and its read names alone, and only those are written.
 ghost use mathlib.Core.Path.{_≡_};
 ghost use mathlib.Core.Bool.{cond};
 ghost use Rattle.frame.specs.Sessions.{contentOf};
 ghost use Rattle.office.specs.Calls.{readPlot, readJoint, write as writeOf};
+ghost use Rattle.office.specs.Decide.{withSeen};
 ghost use Rattle.office.specs.Answers.{anyFound, entryFound, readPlotSession, readJointSession, writeSession};
 use crate::answer::WordsAnswer;
 use frame::session::Session;
@@ -17,7 +19,14 @@ pub struct PlotFound {
 
 pub struct PlotDone {
     pub answer: PlotFound,
-    pub session: Session,
+    pub clock: [u32; 8],
+    pub read: [u32; 8],
+}
+
+pub struct JointDone {
+    pub refusal: u32,
+    pub clock: [u32; 8],
+    pub read: [u32; 8],
 }
 
 pub struct WriteDone {
@@ -25,23 +34,52 @@ pub struct WriteDone {
     pub session: Session,
 }
 
-// burial_read_plot, with the answer apart from the session.
+// burial_read_plot, with what it changes of the session in place of the session.
 fn plot_by_value(store: &mut [u32], s: Session, plot: u32) -> PlotDone
     ensures { λ r. ⌜ (r .answer .refusal ≡ readPlot (now (store .entry)) (contentOf s) plot .code)
         × (r .answer .found ≡ cond (anyFound (readPlot (now (store .entry)) (contentOf s) plot .found)) 1 0)
         × (r .answer .entry ≡ entryFound (readPlot (now (store .entry)) (contentOf s) plot .found))
-        × (r .session ≡ readPlotSession (now (store .entry)) s plot)
+        × (withSeen s (record { clock = r .clock; read = r .read }) ≡ readPlotSession (now (store .entry)) s plot)
         × (now (store .exit) ≡ readPlot (now (store .entry)) (contentOf s) plot .store) ⌝ }
 {
-    let read = crate::offices::burial_read_plot(store, s, plot);
-    let entry = read.entry;
-    let session = read.session;
+    let done = office::read::see_plot(store, s, plot);
+    let status = done.status;
+    let refusal = frame::refusal::code_of(status);
+    let found = crate::offices::flag(done.found);
+    let entry = done.entry;
     let answer = PlotFound {
-        refusal: read.refusal,
-        found: read.found,
+        refusal,
+        found,
         entry,
     };
-    PlotDone { answer, session }
+    let seen = done.seen;
+    let clock = seen.clock;
+    let read = seen.read;
+    PlotDone {
+        answer,
+        clock,
+        read,
+    }
+}
+
+// burial_read_joint, the same.
+fn joint_by_value(store: &mut [u32], s: Session, plots: &[u32], answer: &mut [u32]) -> JointDone
+    ensures { λ r. ⌜ (r .refusal ≡ readJoint (now (store .entry)) (contentOf s) (now (plots .entry)) (now (answer .entry)) .code)
+        × (withSeen s (record { clock = r .clock; read = r .read }) ≡ readJointSession (now (store .entry)) s (now (plots .entry)) (now (answer .entry)))
+        × (now (store .exit) ≡ readJoint (now (store .entry)) (contentOf s) (now (plots .entry)) (now (answer .entry)) .store)
+        × (now (answer .exit) ≡ readJoint (now (store .entry)) (contentOf s) (now (plots .entry)) (now (answer .entry)) .row) ⌝ }
+{
+    let done = office::joint::see_joint(store, s, plots, answer);
+    let status = done.status;
+    let refusal = frame::refusal::code_of(status);
+    let seen = done.seen;
+    let clock = seen.clock;
+    let read = seen.read;
+    JointDone {
+        refusal,
+        clock,
+        read,
+    }
 }
 
 // burial_write, with the answer apart from the session.
@@ -58,12 +96,10 @@ fn write_by_value(
         × (now (store .exit) ≡ writeOf (now (store .entry)) (contentOf s) plot value (now (out .entry)) .store)
         × (now (out .exit) ≡ writeOf (now (store .entry)) (contentOf s) plot value (now (out .entry)) .row) ⌝ }
 {
-    let wrote = crate::offices::burial_write(store, s, plot, value, out);
+    let wrote = office::write::write(store, s, plot, value, out);
+    let written = wrote.written;
+    let answer = crate::answer::words_answer(written);
     let session = wrote.session;
-    let answer = WordsAnswer {
-        refusal: wrote.refusal,
-        words: wrote.words,
-    };
     WriteDone { answer, session }
 }
 
@@ -77,7 +113,8 @@ pub extern "C" fn burial_lent_read_plot(store: &mut [u32], s: &mut Session, plot
         × (now (store .exit) ≡ readPlot (now (store .entry)) (contentOf (now (s .entry))) plot .store) ⌝ }
 {
     let done = plot_by_value(store, *s, plot);
-    *s = done.session;
+    s.clock = done.clock;
+    s.read = done.read;
     done.answer
 }
 
@@ -94,8 +131,9 @@ pub extern "C" fn burial_lent_read_joint(
         × (now (store .exit) ≡ readJoint (now (store .entry)) (contentOf (now (s .entry))) (now (plots .entry)) (now (answer .entry)) .store)
         × (now (answer .exit) ≡ readJoint (now (store .entry)) (contentOf (now (s .entry))) (now (plots .entry)) (now (answer .entry)) .row) ⌝ }
 {
-    let done = crate::offices::burial_read_joint(store, *s, plots, answer);
-    *s = done.session;
+    let done = joint_by_value(store, *s, plots, answer);
+    s.clock = done.clock;
+    s.read = done.read;
     done.refusal
 }
 

@@ -40,7 +40,8 @@ pub extern "C" fn burial_fresh_session(offices: u32) -> SessionAnswer
     SessionAnswer { refusal, session }
 }
 
-fn flag(b: bool) -> u32
+// 1 for true, as C has it.
+pub fn flag(b: bool) -> u32
     ensures { λ r. ⌜ r ≡ cond b 1 0 ⌝ }
 {
     if b {

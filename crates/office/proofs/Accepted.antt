@@ -15,7 +15,6 @@ use Rattle.frame.specs.Tokens.{rowsOf}
 use Rattle.frame.specs.declared.entry.Frame.{Frame}
 use Rattle.store.specs.Offices.{Office, made, reveal}
 use Rattle.office.specs.Calls.{Result, allNoneOver, entryCode, given, jointCode, jointOn, onward, ownCode, plotsOk, readCode, readOn, receiveCode, receiveOn, writeCode, writeOn, writeSends}
-use Rattle.office.proofs.Cases.{Cases}
 
 -- ---- the code of a call
 

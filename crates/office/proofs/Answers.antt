@@ -10,7 +10,7 @@ use lib.Seq.{getD-set-same, getD-set-other}
 use borrow.Author.Tests.{ltb-true}
 use Rattle.causal.specs.Lists.{tab}
 use Rattle.causal.proofs.Codes.{check-none}
-use Rattle.causal.proofs.Lists.{tab-length, tab-more}
+use Rattle.causal.proofs.Lists.{tab-more}
 use Rattle.frame.specs.declared.entry.Entry.{Entry}
 use Rattle.frame.specs.declared.entry.Frame.{Frame}
 use Rattle.frame.specs.declared.session.Session.{Session}

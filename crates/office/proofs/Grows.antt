@@ -14,7 +14,6 @@ use Rattle.frame.specs.declared.entry.Frame.{Frame}
 use Rattle.frame.proofs.Ids.{inserted-keeps}
 use Rattle.store.specs.Offices.{Office, hold, reveal}
 use Rattle.office.specs.Calls.{Result, given, holdAll, holdNew, jointCode, jointOn, readCode, readOn, receiveCode, receiveOn, receivedBy, sentOf, writeCode, writeOn}
-use Rattle.office.proofs.Cases.{Cases}
 
 abbrev pub Grows : Office → Office → Type 0
 Grows O O′ = (k : ℕ) → has (O .held) k ≡ 1 → has (O′ .held) k ≡ 1

@@ -1,21 +1,20 @@
 -- The holds of a write and of a receive, on words: they leave the words of the office that Calls says. Assumes nothing.
-use Prim.Native.Nat.{ℕ, zero, suc, _+_, _*_, _<_, _≤_}
+use Prim.Native.Nat.{ℕ, _+_, _≤_}
 use mathlib.Core.Path.{_≡_, refl, sym, ap, _∙_}
 use mathlib.Core.Bool.{Bool, true, false, cond}
 use mathlib.Core.List.{List, List·Memᴰ, List·Memᴰ·head, List·Memᴰ·tail, [], _∷_, _++_}
-use native.Mathlib.Omega.{arith}
 use lib.ListN.{length}
-use Rattle.causal.specs.Lists.{tab, zeros}
-use Rattle.causal.specs.Sets.{IdSet, Within, has, inserted, isIn}
+use Rattle.causal.specs.Lists.{tab}
+use Rattle.causal.specs.Sets.{IdSet, Within, inserted, isIn}
 use Rattle.causal.proofs.Sets.{in-is, out-is}
 use Rattle.causal.proofs.Lists.{tab-more}
 use Rattle.frame.specs.declared.entry.Entry.{Entry}
-use Rattle.frame.specs.Entries.{idOf, entryOk}
+use Rattle.frame.specs.Entries.{idOf}
 use Rattle.frame.specs.Sessions.{ownOk}
 use Rattle.frame.proofs.Sessions.{OwnFacts, SaneEntry, own-facts}
 use Rattle.store.specs.Offices.{Office, need, storeWords, hold}
 use Rattle.store.specs.Slots.{holdWords}
-use Rattle.store.proofs.Keep.{Sound, Takes}
+use Rattle.store.proofs.Keep.{Sound}
 use Rattle.store.proofs.Changes.{hold-words}
 use Rattle.office.specs.Calls.{missing, holdAll}
 use Rattle.office.specs.Steps.{ownAt, ownTo, holdIf, holdsIn}
@@ -40,6 +39,9 @@ holds-snoc held (x ∷ es) e ws = holds-snoc held es e (holdIf (isIn held (idOf 
 pub holds-start : (held : List ℕ) (own : List Entry) (ws : List ℕ) → ws ≡ holdsIn held ws (ownTo own 0)
 unfolding holdsIn tab
 holds-start held own ws = refl
+
+pub holds-none : (held ws : List ℕ) (own : List Entry) (n : ℕ) → n ≡ 0 → ws ≡ holdsIn held ws (ownTo own n)
+holds-none held ws own n z = holds-start held own ws ∙ ap (λ (i : ℕ). holdsIn held ws (ownTo own i)) (sym z)
 
 pub holds-more : (held : List ℕ) (own : List Entry) (ws o z : List ℕ) (i : ℕ) → o ≡ holdsIn held ws (ownTo own i)
     → z ≡ holdIf (isIn held (idOf (ownAt own i))) o (ownAt own i) → z ≡ holdsIn held ws (ownTo own (i + 1))

@@ -15,10 +15,10 @@ use Rattle.causal.specs.Codes.{check, orElse}
 use Rattle.causal.specs.Lists.{part, tab}
 use Rattle.causal.specs.Sets.{IdSet, subsetOf}
 use Rattle.causal.specs.Rank.{ranksAbove}
-use Rattle.causal.proofs.Codes.{check-none, or-both, or-stops, or-goes, code-fails, code-passes}
+use Rattle.causal.proofs.Codes.{check-none, or-both, or-stops, or-goes}
 use Rattle.causal.proofs.Lists.{sets-append, sets-front}
 use Rattle.causal.proofs.Chain.{le-passes}
-use Rattle.causal.proofs.Tests.{all-more, all-fails, both-true, split, turn-done, both-one, both-assoc, all-front}
+use Rattle.causal.proofs.Tests.{all-more, all-fails, both-true, split, turn-done, both-one, both-assoc, all-front, all-intro}
 use Rattle.frame.specs.declared.entry.Entry.{Entry}
 use Rattle.frame.specs.declared.session.Session.{Session}
 use Rattle.frame.specs.declared.refusal.Status.{Status}
@@ -39,7 +39,8 @@ use Rattle.office.specs.declared.note.Seen.{Seen}
 use Rattle.office.proofs.KeepCalls.{readAll}
 use Rattle.office.proofs.Numbers.{start-facts, few-own, number-current, found-at, found-none, noted-with, with-own}
 
--- ---- a test at each number, from the front
+abbrev Res : Type 0
+Res = Result (List ℕ) (List ℕ)
 
 -- ---- plots in range
 
@@ -172,6 +173,13 @@ module _ (O : Office) where
   seen-all s (q ∷ qs) g x h =
       ap (withSeen s) (seen-cons g (length qs) x) ∙ seen-all s qs (λ j. g (suc j)) (notedSeen (g 0) x) (tail g q qs h)
       ∙ ap (notedAllIn O qs) (noted-with (g 0) s x ∙ ap (λ (f : Found). notedIn f (withSeen s x)) (h 0 (omega arith)))
+
+-- of no own writes none is over
+pub over-all-none : (ws : List ℕ) (own : List Entry) (n : ℕ) (plots ks : List ℕ) → n ≡ 0 → 0 ≡ check (overAll ws own n plots ks) 13 0
+unfolding overAll check
+over-all-none ws own n plots ks z =
+    let over : overAll ws own n plots ks ≡ true = all-intro _ (length plots) (λ j l. ap (noneOverTo own (getD plots j 0) (foundAmong ws ks j)) z ∙ over-start own (getD plots j 0) (foundAmong ws ks j)) in
+    sym (ap (λ (b : Bool). check b 13 0) over)
 
 -- ---- turns of the loops
 
@@ -315,7 +323,7 @@ module _ (ws : List ℕ) (s : Session) (plots : List ℕ) where
   unfolding overAll contentOf
   over-is v ks D = over-plots O (s .own) (s .count) (contentOf s) refl plots (foundAmong ws ks) (D .found)
 
-  -- the three ways out of `decide`
+  -- the two ways out of `decide`
   abbrev pub DecideSays : ℕ → ℕ → List ℕ → List ℕ → Type 0
   DecideSays room c v ks = (c ≡ jointRefusal ws (contentOf s) plots room) × (c ≡ 0 → Decides ws (s .read) plots v ks)
 
@@ -324,46 +332,46 @@ module _ (ws : List ℕ) (s : Session) (plots : List ℕ) where
     unfolding jointRefusal
     decide-first v ks h = (or-stops c (jointStart ws (contentOf s) plots room) _ e h, λ z. absurd (h z))
 
-    module _ (z : c ≡ 0) (r : Bool) (v ks : List ℕ) (D : Decides ws (s .read) plots v ks) (q : r ≡ overAll ws (s .own) (s .count) plots ks) where
-      pub decide-over : not r ≡ true → DecideSays room 13 v ks
-      unfolding jointRefusal contentOf
-      decide-over t = (or-goes 13 c (jointStart ws (contentOf s) plots room) _ e z (code-fails r _ 13 0 (q ∙ over-is v ks D) t), λ y. absurd (omega arith))
-
-      pub decide-none : not r ≡ false → DecideSays room 0 v ks
-      unfolding jointRefusal contentOf
-      decide-none t = (or-goes 0 c (jointStart ws (contentOf s) plots room) _ e z (code-passes 0 13 0 r _ (q ∙ over-is v ks D) t refl), λ y. D)
+    pub decide-last : (x : ℕ) (v ks : List ℕ) → c ≡ 0 → Decides ws (s .read) plots v ks → x ≡ check (overAll ws (s .own) (s .count) plots ks) 13 0 → DecideSays room x v ks
+    unfolding jointRefusal contentOf
+    decide-last x v ks z D q =
+        let over = q ∙ ap (λ (b : Bool). check b 13 0) (over-is v ks D) in
+        (or-goes x c (jointStart ws (contentOf s) plots room) _ e z over, λ y. D)
 
   module _ (row : List ℕ) where
-    abbrev R : Result (List ℕ) (List ℕ)
+    abbrev R : Res
     R = readJoint ws (contentOf s) plots row
 
-    -- what the call promises of its answer, the store and the row it leaves
-    abbrev pub JointSays : Status → Session → List ℕ → List ℕ → Type 0
-    JointSays status t left out = (codeOf status ≡ R .code) × (t ≡ readJointSession ws s plots row) × (left ≡ R .store) × (out ≡ R .row)
+    -- what the call promises of its answer, of what the session has seen, of the store and the row it leaves
+    abbrev pub JointSays : Status → Seen → List ℕ → List ℕ → Type 0
+    JointSays status x left out = (codeOf status ≡ R .code) × (withSeen s x ≡ readJointSession ws s plots row) × (left ≡ R .store) × (out ≡ R .row)
 
-    by-result : (c : ℕ) → c ≡ jointRefusal ws (contentOf s) plots (length row) → R ≡ jointResult ws (contentOf s) plots row c
-    by-result c e = joint-is ws (contentOf s) plots row ∙ ap (jointResult ws (contentOf s) plots row) (sym e)
+    by-result : (c : ℕ) → c ≡ jointRefusal ws (contentOf s) plots (length row) → jointResult ws (contentOf s) plots row c ≡ R
+    by-result c e = ap (jointResult ws (contentOf s) plots row) e ∙ sym (joint-is ws (contentOf s) plots row)
 
-    pub joint-refused : (c : ℕ) (status : Status) → c ≡ jointRefusal ws (contentOf s) plots (length row) → (c ≡ 0 → ⊥) → codeOf status ≡ c → JointSays status s ws row
+    pub joint-refused : (c : ℕ) (status : Status) → c ≡ jointRefusal ws (contentOf s) plots (length row) → (c ≡ 0 → ⊥) → codeOf status ≡ c → JointSays status (seenOf s) ws row
     unfolding readJointSession sessionIf
     joint-refused zero status q h k = absurd (h refl)
     joint-refused (suc c) status q h k =
         let r = by-result (suc c) q in (
-          k ∙ sym (ap (λ (x : Result (List ℕ) (List ℕ)). x .code) r),
-          sym (ap (λ (x : Result (List ℕ) (List ℕ)). sessionIf (x .code) s (notedAllIn O plots s)) r),
-          sym (ap (λ (x : Result (List ℕ) (List ℕ)). x .store) r),
-          sym (ap (λ (x : Result (List ℕ) (List ℕ)). x .row) r),
+          k ∙ ap (λ (x : Res). x .code) r,
+          with-own s ∙ ap (λ (x : Res). sessionIf (x .code) s (notedAllIn O plots s)) r,
+          ap (λ (x : Res). x .store) r,
+          ap (λ (x : Res). x .row) r,
         )
 
-    pub joint-accepted : (v ks : List ℕ) (status : Status) (t : Session) (left out : List ℕ) → jointRefusal ws (contentOf s) plots (length row) ≡ 0 → Decides ws (s .read) plots v ks → codeOf status ≡ 0
-        → t ≡ withSeen s (seenTo (foundAmong ws ks) (length plots) (seenOf s)) → left ≡ storeWords ws O → out ≡ sets row 0 (wordsTo (foundAmong ws ks) (length plots)) → JointSays status t left out
+    pub joint-accepted : (v ks : List ℕ) (status : Status) (seen : Seen) (left out : List ℕ) → jointRefusal ws (contentOf s) plots (length row) ≡ 0 → Decides ws (s .read) plots v ks → codeOf status ≡ 0
+        → seen ≡ seenTo (foundAmong ws ks) (length plots) (seenOf s) → left ≡ storeWords ws O → out ≡ sets row 0 (wordsTo (foundAmong ws ks) (length plots)) → JointSays status seen left out
     unfolding readJointSession sessionIf contentOf laid
-    joint-accepted v ks status t left out z D k a b d =
+    joint-accepted v ks status seen left out z D k a b d =
         let r = by-result 0 (sym z) in
-        let n : length (wordsTo (foundAmong ws ks) (length plots)) ≤ length row = omega (arith, words-length (foundAmong ws ks) (length plots), starts-none ws s plots (length row) z .room-for) in
-        let m : out ≡ laid (wordsTo (foundAmong ws ks) (length plots)) row = d ∙ sets-front row (wordsTo (foundAmong ws ks) (length plots)) n in (
-          k ∙ sym (ap (λ (x : Result (List ℕ) (List ℕ)). x .code) r),
-          a ∙ seen-all O s plots (foundAmong ws ks) (seenOf s) (D .found) ∙ ap (notedAllIn O plots) (with-own s) ∙ sym (ap (λ (x : Result (List ℕ) (List ℕ)). sessionIf (x .code) s (notedAllIn O plots s)) r),
-          b ∙ sym (ap (λ (x : Result (List ℕ) (List ℕ)). x .store) r),
-          m ∙ ap (λ (l : List ℕ). laid l row) (words-all O plots (foundAmong ws ks) (D .found)) ∙ sym (ap (λ (x : Result (List ℕ) (List ℕ)). x .row) r),
+        let g = foundAmong ws ks in
+        let words = wordsTo g (length plots) in
+        let n : length words ≤ length row = omega (arith, words-length g (length plots), starts-none ws s plots (length row) z .room-for) in
+        let m : out ≡ laid words row = d ∙ sets-front row words n in
+        let t : withSeen s seen ≡ notedAllIn O plots s = ap (withSeen s) a ∙ seen-all O s plots g (seenOf s) (D .found) ∙ ap (notedAllIn O plots) (with-own s) in (
+          k ∙ ap (λ (x : Res). x .code) r,
+          t ∙ ap (λ (x : Res). sessionIf (x .code) s (notedAllIn O plots s)) r,
+          b ∙ ap (λ (x : Res). x .store) r,
+          m ∙ ap (λ (l : List ℕ). laid l row) (words-all O plots g (D .found)) ∙ ap (λ (x : Res). x .row) r,
         )

@@ -27,7 +27,6 @@ use Rattle.frame.proofs.Sessions.{SaneContent, SaneEntry}
 use Rattle.store.specs.Offices.{Office, current, hold, reveal}
 use Rattle.store.proofs.Keep.{Sound, Takes, hold-sound, reveal-sound}
 use Rattle.office.specs.Calls.{Result, allNoneOver, answerWords, entryCode, given, handed, holdNew, jointCode, jointOn, noted, notedAll, onward, ownCode, plotsOk, readCode, readOn, receiveCode, receiveOn, receiveSends, receivedBy}
-use Rattle.office.proofs.Cases.{Cases}
 
 -- ---- reading
 

@@ -17,7 +17,6 @@ use Rattle.frame.proofs.Ids.{id-range, ids-of, ids-range, join-ok}
 use Rattle.frame.proofs.Sessions.{SaneEntry, facts-session, own-more, session-facts}
 use Rattle.store.specs.Offices.{Found, None, Some}
 use Rattle.office.specs.Calls.{noted}
-use Rattle.office.proofs.Cases.{Cases}
 
 pub noted-ok : (n p : ℕ) (f : Found) (s : Content) → n ≤ 8 → IdSet (s .read) → ((e : Entry) → List·Memᴰ e (s .own) → SaneEntry e)
     → ((h : Entry) → f ≡ Some h → entryOk n p h ≡ true) →

@@ -23,7 +23,6 @@ use Rattle.frame.proofs.Sessions.{ids-from, ids-new, ids-set}
 use Rattle.store.specs.Offices.{Office, clockOf, clockPlace, made, maxTo, visibleAt}
 use Rattle.store.proofs.Counts.{Counted, counted}
 use Rattle.office.specs.Calls.{newEntry}
-use Rattle.office.proofs.Cases.{Cases}
 
 -- ---- the office clock
 

@@ -14,7 +14,6 @@ use Rattle.frame.specs.declared.entry.Entry.{Entry}
 use Rattle.store.specs.Offices.{Found, None, Office, Some, current}
 use Rattle.store.proofs.Best.{Over}
 use Rattle.office.specs.Calls.{allNoneOver, noneOver}
-use Rattle.office.proofs.Cases.{Cases}
 
 module _ (plot : ℕ) where
   -- the test of a joint reading

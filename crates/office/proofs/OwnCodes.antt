@@ -1,5 +1,5 @@
 -- Refusals as code finds them: of one entry, of the own writes one after the other, and of a write before the room is known. Assumes nothing.
-use Prim.Native.Nat.{ℕ, zero, suc, _+_, _<_, _≤_}
+use Prim.Native.Nat.{ℕ, zero, suc, _≤_}
 use mathlib.Core.Path.{_≡_, refl, sym, ap, _∙_}
 use mathlib.Core.Bool.{Bool, true, false}
 use mathlib.Core.List.{List, [], _∷_, _++_}
@@ -11,13 +11,14 @@ use Rattle.causal.specs.Tests.{implies}
 use Rattle.causal.specs.Codes.{check, orElse, firstCode}
 use Rattle.causal.specs.Lists.{part, tab}
 use Rattle.causal.specs.Sets.{isIn, subsetOf}
-use Rattle.causal.proofs.Codes.{check-none, or-both}
+use Rattle.causal.proofs.Codes.{check-none, or-stops, or-goes}
 use Rattle.frame.specs.declared.entry.Entry.{Entry}
 use Rattle.frame.specs.Entries.{idOf, sameContent}
 use Rattle.frame.specs.Sessions.{Content, sessionOk}
 use Rattle.frame.specs.Tokens.{rowsOf}
-use Rattle.store.specs.Offices.{Office, entryAt, officeOf, made}
+use Rattle.store.specs.Offices.{Office, entryAt, officeOf, soundStore, made}
 use Rattle.office.specs.Calls.{entryCode, ownCode, writeCode, writeSends, receiveCode}
+use Rattle.office.specs.Decide.{startCode}
 use Rattle.office.specs.Steps.{firstCodes, secondCodes, earlyCode}
 
 -- ---- one entry
@@ -71,6 +72,10 @@ own-first O f zero = refl
 own-first O f (suc n) =
     ap (λ (c : ℕ). orElse c (entryCode O (f n))) (own-first O f n) ∙ sym (own-snoc O (tab n f) (f n))
 
+pub own-none : (O : Office) (f : ℕ → Entry) (n : ℕ) → n ≡ 0 → 0 ≡ ownCode O (tab n f)
+unfolding ownCode tab
+own-none O f n z = rw z refl
+
 -- ---- every number is one of the paper's
 
 check-le : (A : Bool) (k B : ℕ) → k ≤ 13 → B ≤ 13 → check A k B ≤ 13
@@ -123,6 +128,30 @@ write-code O s plot value room =
     go true true false d f h x y = refl
     go true false c d f h x y = refl
     go false b c d f h x y = refl
+
+-- its first refusals: those that a reading has too, then 4 and 5
+module _ (ws : List ℕ) (s : Content) (plot value c : ℕ) (e : c ≡ startCode ws s) where
+  abbrev Rest : ℕ
+  Rest = check (ltb plot (getD ws 2 0)) 4 (check (ltb value 268435456) 5 0)
+
+  abbrev First : ℕ
+  First = check (soundStore ws) 2 (firstCodes (getD ws 0 0) (getD ws 2 0) s plot value)
+
+  first-is : orElse (startCode ws s) Rest ≡ First
+  unfolding startCode firstCodes check orElse
+  first-is = go (soundStore ws) (sessionOk (getD ws 0 0) (getD ws 2 0) s) Rest
+    where
+      go : (a b : Bool) (x : ℕ) → orElse (check a 2 (check b 3 0)) x ≡ check a 2 (check b 3 x)
+      go true true x = refl
+      go true false x = refl
+      go false b x = refl
+
+  pub first-stops : (c ≡ 0 → ⊥) → c ≡ check (soundStore ws) 2 (firstCodes (getD ws 0 0) (getD ws 2 0) s plot value)
+  first-stops n = or-stops c (startCode ws s) Rest e n ∙ first-is
+
+  pub first-goes : (x : ℕ) → c ≡ 0 → x ≡ check (ltb plot (getD ws 2 0)) 4 (check (ltb value 268435456) 5 0)
+      → x ≡ check (soundStore ws) 2 (firstCodes (getD ws 0 0) (getD ws 2 0) s plot value)
+  first-goes x z q = or-goes x c (startCode ws s) Rest e z q ∙ first-is
 
 -- the code of write: what its parts say
 pub early-stops : (b : Bool) (O : Office) (s : Content) (plot value x : ℕ) → x ≡ check b 2 (firstCodes (O .offices) (O .plots) s plot value) → (x ≡ 0 → ⊥)

@@ -1,16 +1,17 @@
 -- To read one plot: what code decides and does is what Calls says. Assumes nothing.
-use Prim.Native.Nat.{ℕ, zero, suc, _+_, _≤_}
+use Prim.Native.Nat.{ℕ, zero, suc, _+_, _^_, _<_, _≤_}
 use mathlib.Core.Path.{_≡_, refl, sym, ap, _∙_}
 use mathlib.Core.Bool.{Bool, true, false, cond, not}
 use mathlib.Core.List.{List, [], _∷_, _++_}
 use native.Mathlib.Omega.{arith}
 use native.Mathlib.Numerals.{add-one}
 use lib.Dec.{ltb, eqb}
-use lib.ListN.{getD}
+use lib.ListN.{length, getD}
+use lib.Seq.{sets}
 use borrow.Author.Tests.{eq-eqb, ne-eqb, not-true, not-false}
 use Rattle.causal.specs.Codes.{check, orElse}
 use Rattle.causal.specs.Lists.{part, tab}
-use Rattle.causal.specs.Sets.{subsetOf}
+use Rattle.causal.specs.Sets.{IdSet, subsetOf}
 use Rattle.causal.proofs.Codes.{check-none, or-both}
 use Rattle.frame.specs.declared.entry.Entry.{Entry}
 use Rattle.frame.specs.declared.session.Session.{Session}
@@ -20,13 +21,17 @@ use Rattle.frame.specs.Entries.{outranks, blankEntry}
 use Rattle.frame.specs.Refusals.{codeOf}
 use Rattle.frame.specs.Sessions.{Content, contentOf, nobody, sessionOk}
 use Rattle.store.specs.Offices.{Office, officeOf, storeWords, soundStore, reveal, current, Found, None, Some, better, consider, bestOwn}
+use Rattle.store.specs.Current.{currentAt}
+use Rattle.store.specs.Reveal.{revealed}
+use Rattle.store.specs.declared.reveal.Revealed.{Revealed}
+use Rattle.store.proofs.SoundChanges.{reveal-store, reveal-held, reveal-ids, reveal-current}
 use Rattle.office.specs.Calls.{Result, refusal, given, worded, handed, noted, readCode, readOn, readPlot}
 use Rattle.office.specs.Answers.{anyFound, entryFound, sessionIf, notedIn, readPlotSession}
-use Rattle.office.specs.Decide.{startCode, readRefusal, foundIn, bestFrom, bestOf, bestAbove, bestTo, notedSeen, seenOf, withSeen}
+use Rattle.office.specs.Decide.{startCode, readRefusal, placeNumber, foundIn, Reaches, bestFrom, bestOf, bestAbove, bestTo, notedSeen, seenOf, withSeen}
 use Rattle.office.specs.declared.note.Seen.{Seen}
 use Rattle.office.specs.declared.read.Best.{Best}
 use Rattle.office.proofs.KeepCalls.{readOne}
-use Rattle.office.proofs.Numbers.{start-facts, few-own, noted-with, with-own}
+use Rattle.office.proofs.Numbers.{start-facts, few-own, number-current, noted-with, with-own}
 
 -- ---- the best of what was found and the own writes
 
@@ -50,6 +55,14 @@ module _ (own : List Entry) (plot : ℕ) (b : Best) where
   pub best-more : (i : ℕ) (x r : Best) → x ≡ bestTo own plot b i → getD own i nobody .plot ≡ plot → r ≡ bestAbove (getD own i nobody) x → r ≡ bestTo own plot b (i + 1)
   unfolding bestTo
   best-more i x r e h q = rw (add-one i, eq-eqb (getD own i nobody .plot) plot h) (q ∙ ap (bestAbove (getD own i nobody)) e)
+
+  -- the two ways out of `best_with`
+  pub with-none : (n : ℕ) (x : Best) → n ≡ 0 → x ≡ b → x ≡ bestTo own plot b n
+  unfolding bestTo
+  with-none n x z e = rw z e
+
+  pub with-own-writes : (n : ℕ) (x r : Best) → x ≡ b → r ≡ bestTo own plot x n → r ≡ bestTo own plot b n
+  with-own-writes n x r e q = q ∙ ap (λ (y : Best). bestTo own plot y n) e
 
 -- on lists
 own-last : (plot : ℕ) (e : Entry) (es : List Entry) (f : Found) → bestOwn plot f (es ++ (e ∷ [])) ≡ consider (eqb (e .plot) plot) e (bestOwn plot f es)
@@ -90,18 +103,15 @@ best-entry None = refl
 best-entry (Some e) = refl
 
 -- what a reading answers where number k is current
-pub answer-is : (ws : List ℕ) (s : Session) (plot k : ℕ) (first best : Best) (seen : Seen) (t : Session)
-    → first ≡ bestFrom (foundIn ws k) → best ≡ bestTo (s .own) plot first (s .count) → seen ≡ notedSeen (foundIn ws k) (seenOf s) → t ≡ withSeen s seen
+pub answer-is : (ws : List ℕ) (s : Session) (plot k : ℕ) (best : Best) (seen : Seen)
+    → best ≡ bestTo (s .own) plot (bestFrom (foundIn ws k)) (s .count) → seen ≡ notedSeen (foundIn ws k) (seenOf s)
     → (codeOf Accepted ≡ 0) × (best .found ≡ anyFound (bestOwn plot (foundIn ws k) (contentOf s .own) ∷ [])) × (best .entry ≡ entryFound (bestOwn plot (foundIn ws k) (contentOf s .own) ∷ []))
-    × (t ≡ notedIn (foundIn ws k) s)
+    × (seen ≡ notedSeen (foundIn ws k) (seenOf s))
 unfolding codeOf contentOf
-answer-is ws s plot k first best seen t a b c d =
-    let w : best ≡ bestFrom (bestOwn plot (foundIn ws k) (contentOf s .own)) = b ∙ ap (λ (x : Best). bestTo (s .own) plot x (s .count)) a ∙ best-all (s .own) plot (foundIn ws k) (s .count) in (
-      refl,
-      ap (λ (x : Best). x .found) w ∙ best-found (bestOwn plot (foundIn ws k) (contentOf s .own)),
-      ap (λ (x : Best). x .entry) w ∙ best-entry (bestOwn plot (foundIn ws k) (contentOf s .own)),
-      d ∙ ap (withSeen s) c ∙ noted-with (foundIn ws k) s (seenOf s) ∙ ap (notedIn (foundIn ws k)) (with-own s),
-    )
+answer-is ws s plot k best seen b d =
+    let f = bestOwn plot (foundIn ws k) (contentOf s .own) in
+    let w : best ≡ bestFrom f = b ∙ best-all (s .own) plot (foundIn ws k) (s .count) in
+    (refl, ap (λ (x : Best). x .found) w ∙ best-found f, ap (λ (x : Best). x .entry) w ∙ best-entry f, d)
 
 -- ---- the whole call
 
@@ -157,42 +167,66 @@ reads ws s plot h =
     let c = check-none (ltb plot (getD ws 2 0)) 4 (check (subsetOf (s .read) (part ws 3 8)) 12 0) (omega arith) (a .1) in
     record { sound = b .0; few = few-own (getD ws 0 0) (getD ws 2 0) s (b .1); held = check-none (subsetOf (s .read) (part ws 3 8)) 12 0 (omega arith) (c .1) .0 }
 
+-- what it finds: r is what becomes visible, k the number of what is current then
+module _ (ws : List ℕ) (words : (i : ℕ) → getD ws i 0 < 2 ^ 32) (s : Session) (ids : IdSet (s .read)) (q : Reads ws s) (r : Revealed)
+    (e : r ≡ revealed (λ k. officeOf ws .entry k .deps) (getD ws 0 0) (part ws 11 8) (s .read)) where
+  pub sees-held : subsetOf (r .visible) (part ws 3 8) ≡ true
+  sees-held = reveal-held ws words (q .sound) (s .read) ids (q .held) r e
+
+  pub sees-store : sets ws 11 (r .visible) ≡ storeWords ws (reveal (officeOf ws) (s .read))
+  sees-store = reveal-store ws words (q .sound) (s .read) ids (q .held) r e
+
+  pub sees-number : (plot k : ℕ) → k ≡ placeNumber (currentAt ws (r .visible) plot)
+      → Reaches (length ws) k × (current (reveal (officeOf ws) (s .read)) plot ≡ foundIn ws k)
+  sees-number plot k n =
+      let eight = reveal-ids ws words (q .sound) (s .read) ids (q .held) r e .eight in
+      let at = number-current ws (r .visible) plot k (q .sound) eight sees-held n in
+      (at .0, reveal-current ws words (q .sound) (s .read) ids (q .held) r e plot ∙ sym (at .1))
+
+abbrev Res : Type 0
+Res = Result (List ℕ) (List ℕ)
+
 module _ (ws : List ℕ) (s : Session) (plot : ℕ) where
-  abbrev R : Result (List ℕ) (List ℕ)
+  abbrev R : Res
   R = readPlot ws (contentOf s) plot
 
   abbrev O : Office
   O = reveal (officeOf ws) (s .read)
 
-  -- what the call promises of its answer and the store it leaves
-  abbrev pub ReadSays : Status → Bool → Entry → Session → List ℕ → Type 0
-  ReadSays status found e t left =
-      (codeOf status ≡ R .code) × (found ≡ anyFound (R .found)) × (e ≡ entryFound (R .found)) × (t ≡ readPlotSession ws s plot) × (left ≡ R .store)
+  -- what the call promises of its answer, of what the session has seen and of the store it leaves
+  abbrev pub ReadSays : Status → Bool → Entry → Seen → List ℕ → Type 0
+  ReadSays status found e x left =
+      (codeOf status ≡ R .code) × (found ≡ anyFound (R .found)) × (e ≡ entryFound (R .found)) × (withSeen s x ≡ readPlotSession ws s plot) × (left ≡ R .store)
 
-  by-result : (c : ℕ) → c ≡ readRefusal ws (contentOf s) plot → R ≡ readResult ws (contentOf s) plot c
-  by-result c e = read-is ws (contentOf s) plot ∙ ap (readResult ws (contentOf s) plot) (sym e)
+  by-result : (c : ℕ) → c ≡ readRefusal ws (contentOf s) plot → readResult ws (contentOf s) plot c ≡ R
+  by-result c e = ap (readResult ws (contentOf s) plot) e ∙ sym (read-is ws (contentOf s) plot)
 
-  pub read-refused : (c : ℕ) (status : Status) (e : Entry) → c ≡ readRefusal ws (contentOf s) plot → (c ≡ 0 → ⊥) → codeOf status ≡ c → e ≡ blankEntry → ReadSays status false e s ws
+  pub read-refused : (c : ℕ) (status : Status) (e : Entry) → c ≡ readRefusal ws (contentOf s) plot → (c ≡ 0 → ⊥) → codeOf status ≡ c → e ≡ blankEntry → ReadSays status false e (seenOf s) ws
   unfolding readPlotSession anyFound entryFound sessionIf
   read-refused zero status e q h k b = absurd (h refl)
   read-refused (suc c) status e q h k b =
       let r = by-result (suc c) q in (
-        k ∙ sym (ap (λ (x : Result (List ℕ) (List ℕ)). x .code) r),
-        sym (ap (λ (x : Result (List ℕ) (List ℕ)). anyFound (x .found)) r),
-        b ∙ sym (ap (λ (x : Result (List ℕ) (List ℕ)). entryFound (x .found)) r),
-        sym (ap (λ (x : Result (List ℕ) (List ℕ)). sessionIf (x .code) s (notedIn (current O plot) s)) r),
-        sym (ap (λ (x : Result (List ℕ) (List ℕ)). x .store) r),
+        k ∙ ap (λ (x : Res). x .code) r,
+        ap (λ (x : Res). anyFound (x .found)) r,
+        b ∙ ap (λ (x : Res). entryFound (x .found)) r,
+        with-own s ∙ ap (λ (x : Res). sessionIf (x .code) s (notedIn (current O plot) s)) r,
+        ap (λ (x : Res). x .store) r,
       )
 
-  pub read-accepted : (f : Found) (status : Status) (found : Bool) (e : Entry) (t : Session) (left : List ℕ) → readRefusal ws (contentOf s) plot ≡ 0 → current O plot ≡ f
-      → codeOf status ≡ 0 → found ≡ anyFound (bestOwn plot f (contentOf s .own) ∷ []) → e ≡ entryFound (bestOwn plot f (contentOf s .own) ∷ []) → t ≡ notedIn f s → left ≡ storeWords ws O
-      → ReadSays status found e t left
+  -- f: what is current
+  pub read-accepted : (f : Found) (status : Status) (found : Bool) (e : Entry) (seen : Seen) (left : List ℕ) → readRefusal ws (contentOf s) plot ≡ 0 → current O plot ≡ f
+      → codeOf status ≡ 0 → found ≡ anyFound (bestOwn plot f (contentOf s .own) ∷ []) → e ≡ entryFound (bestOwn plot f (contentOf s .own) ∷ []) → seen ≡ notedSeen f (seenOf s)
+      → left ≡ storeWords ws O → ReadSays status found e seen left
   unfolding readPlotSession handed contentOf sessionIf
-  read-accepted f status found e t left z g k a b d l =
-      let r = by-result 0 (sym z) in (
-        k ∙ sym (ap (λ (x : Result (List ℕ) (List ℕ)). x .code) r),
-        a ∙ ap (λ (x : Found). anyFound (bestOwn plot x (contentOf s .own) ∷ [])) (sym g) ∙ sym (ap (λ (x : Result (List ℕ) (List ℕ)). anyFound (x .found)) r),
-        b ∙ ap (λ (x : Found). entryFound (bestOwn plot x (contentOf s .own) ∷ [])) (sym g) ∙ sym (ap (λ (x : Result (List ℕ) (List ℕ)). entryFound (x .found)) r),
-        d ∙ ap (λ (x : Found). notedIn x s) (sym g) ∙ sym (ap (λ (x : Result (List ℕ) (List ℕ)). sessionIf (x .code) s (notedIn (current O plot) s)) r),
-        l ∙ sym (ap (λ (x : Result (List ℕ) (List ℕ)). x .store) r),
+  read-accepted f status found e seen left z g k a b d l =
+      let r = by-result 0 (sym z) in
+      let h : bestOwn plot f (contentOf s .own) ∷ [] ≡ handed O (contentOf s) plot ∷ [] = ap (λ (x : Found). bestOwn plot x (contentOf s .own) ∷ []) (sym g) in
+      let t : withSeen s seen ≡ notedIn (current O plot) s =
+      ap (withSeen s) d ∙ noted-with f s (seenOf s) ∙ ap (notedIn f) (with-own s) ∙ ap (λ (x : Found). notedIn x s) (sym g)
+      in (
+        k ∙ ap (λ (x : Res). x .code) r,
+        a ∙ ap anyFound h ∙ ap (λ (x : Res). anyFound (x .found)) r,
+        b ∙ ap entryFound h ∙ ap (λ (x : Res). entryFound (x .found)) r,
+        t ∙ ap (λ (x : Res). sessionIf (x .code) s (notedIn (current O plot) s)) r,
+        l ∙ ap (λ (x : Res). x .store) r,
       )

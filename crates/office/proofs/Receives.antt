@@ -1,26 +1,25 @@
 -- What `receive` answers and leaves, from what its parts do. Assumes nothing.
-use Prim.Native.Nat.{ℕ, zero, suc, _+_, _-_, _*_, _^_, _<_, _≤_}
+use Rattle.store.proofs.Rules.{laid as laid-of}
+use Prim.Native.Nat.{ℕ, zero, suc, _+_, _^_, _<_, _≤_}
 use mathlib.Core.Path.{_≡_, refl, sym, ap, ap₂, _∙_, subst}
 use mathlib.Core.Bool.{Bool, true, false, cond}
-use mathlib.Core.List.{List, [], _∷_, _++_, append-nil}
+use mathlib.Core.List.{List, append-nil}
 use native.Mathlib.Omega.{arith}
 use lib.Dec.{leb, eqb}
-use lib.ListN.{length, getD, drop}
+use lib.ListN.{length, getD}
 use lib.Seq.{sets}
 use borrow.Author.Tests.{eq-eqb, ne-eqb, leb-true}
-use Rattle.causal.specs.Codes.{check, orElse}
+use Rattle.causal.specs.Codes.{check}
 use Rattle.causal.specs.Lists.{part, zeros}
-use Rattle.causal.specs.Sets.{IdSet, inserted, isIn, subsetOf}
+use Rattle.causal.specs.Sets.{inserted, isIn, subsetOf}
 use Rattle.causal.specs.Tests.{either}
 use Rattle.causal.proofs.Codes.{check-none, or-both}
 use Rattle.causal.proofs.Sets.{subset-by}
 use Rattle.causal.proofs.Tests.{not-so}
-use Rattle.frame.specs.declared.entry.Entry.{Entry}
 use Rattle.frame.specs.declared.entry.Frame.{Frame}
 use Rattle.frame.specs.Entries.{idOf}
 use Rattle.frame.specs.Frames.{ringOk, frameOk, frameWords, frameOf, accepts}
 use Rattle.frame.specs.Refusals.{Reply}
-use Rattle.frame.specs.Sessions.{freshContent}
 use Rattle.frame.specs.Tokens.{rowsOf}
 use Rattle.frame.specs.Calls.{laid, readFrameCode, frameIf, readFrame, writeFrame, writeFrameRow}
 use Rattle.frame.proofs.Entries.{FrameFacts, frame-facts, facts-frame, frame-wider, facts-ring}
@@ -29,10 +28,9 @@ use Rattle.store.specs.Offices.{Office, need, slotAt, officeOf, storeWords, sou
 use Rattle.store.specs.Slots.{holdWords}
 use Rattle.store.proofs.Bridge.{store-same}
 use Rattle.store.proofs.StoreBack.{store-back}
-use Rattle.store.proofs.Rules.{laid as laid-of}
 use Rattle.store.proofs.Keep.{Sound, store-facts, sound-canon, sound-store}
 use Rattle.store.proofs.Changes.{held-words, hold-words, show-words}
-use Rattle.office.specs.Calls.{Result, stored, parsed, worded, entryCode, onward, receiveCode, holdNew, receivedBy, receiveSends, receiveOn, receive}
+use Rattle.office.specs.Calls.{stored, entryCode, onward, receiveCode, holdNew, receivedBy, receiveSends, receiveOn, receive}
 use Rattle.office.specs.Steps.{holdIf}
 use Rattle.office.proofs.KeepCalls.{Known, known, takes-new, kept, seed-set, seed-held}
 use Rattle.office.proofs.Sends.{reply-is, row-is}

@@ -9,7 +9,6 @@ use Rattle.frame.specs.Sessions.{Content, freshContent}
 use Rattle.frame.specs.declared.entry.Frame.{Frame}
 use Rattle.store.specs.Offices.{Office, officeOf, soundStore}
 use Rattle.office.specs.Calls.{Result, given, jointCode, jointOn, parsed, readCode, readJoint, readOn, readPlot, receive, receiveCode, receiveOn, refusal, stored, worded, write, writeCode, writeOn}
-use Rattle.office.proofs.Cases.{Cases}
 
 -- what a refused call leaves
 pub record Left {A B : Type 0} (a : A) (s : Content) (lent : List ℕ) (R : Result A B) : Type 0 where

@@ -1,16 +1,15 @@
 -- The frames of a write in the out row: one behind the other, each in the rest of the row lent to the frame writer. Assumes nothing.
-use Prim.Native.Nat.{ℕ, zero, suc, _+_, _-_, _*_, _<_, _≤_}
+use Prim.Native.Nat.{ℕ, zero, suc, _+_, _-_, _*_, _≤_}
 use mathlib.Core.Path.{_≡_, refl, sym, ap, _∙_, subst}
 use mathlib.Core.Bool.{Bool, true, false, cond}
 use mathlib.Core.List.{List, [], _∷_, _++_, map, append-assoc, append-nil}
 use native.Mathlib.Nat.{zero-add, add-zero, le-refl}
-use native.Mathlib.Numerals.{add-one}
 use native.Mathlib.Omega.{arith}
-use lib.ListN.{length, getD, take, drop, length-append, length-drop, drop-of-length-le}
+use lib.ListN.{length, take, drop, length-append, length-drop, drop-of-length-le}
 use lib.Seq.{sets, sets-eq, drop-drop, take-all}
 use Rattle.causal.specs.Lists.{tab}
 use Rattle.causal.specs.Sets.{isIn}
-use Rattle.causal.proofs.Lists.{sets-append, tab-more}
+use Rattle.causal.proofs.Lists.{sets-append, sets-front, tab-more}
 use Rattle.frame.specs.declared.entry.Entry.{Entry}
 use Rattle.frame.specs.declared.entry.Frame.{Frame}
 use Rattle.frame.specs.declared.refusal.Refusal.{Refusal}
@@ -18,10 +17,9 @@ use Rattle.frame.specs.declared.refusal.Refusal.the-variants.{Settings, Store, 
 use Rattle.frame.specs.declared.refusal.Written.the-variants.{Words, NotWritten}
 use Rattle.frame.specs.Refusals.{Reply, numberOf, replyOf, replied}
 use Rattle.frame.specs.Entries.{idOf}
-use Rattle.frame.specs.Words.{idWords}
 use Rattle.frame.specs.Frames.{framed, frameOk, frameWords}
 use Rattle.frame.specs.Tokens.{rowsOf}
-use Rattle.frame.specs.Calls.{laid, laidIf, writeFrameCode, writeFrame, writeFrameRow}
+use Rattle.frame.specs.Calls.{laid, laidIf, writeFrame, writeFrameRow}
 use Rattle.frame.proofs.Frames.{length-frame}
 use Rattle.frame.proofs.Tokens.{reads-le}
 use Rattle.frame.proofs.Turns.{write-code-0}
@@ -163,6 +161,19 @@ turn-sets o₀ o z a b ab at p q r s =
     ∙ ap (λ (i : ℕ). sets (sets o₀ 0 a) i b) (p ∙ sym (zero-add (length a)))
     ∙ sym (sets-append o₀ 0 a b)
     ∙ ap (λ (l : List ℕ). sets o₀ 0 l) (sym s)
+
+-- ---- the new entry alone, where there are no own writes
+
+module _ (held : List ℕ) (n : ℕ) (own : List Entry) (k : ℕ) (e : Entry) (z : k ≡ 0) (f : Frame) (g : f ≡ started n e) where
+  pub alone : frameWords f ≡ allFrames held n (ownTo own k) e
+  unfolding allFrames framesIn tab
+  alone = ap frameWords g ∙ rw z refl
+
+  pub put-alone : (o y : List ℕ) (r : ℕ) → length (allFrames held n (ownTo own k) e) ≤ length o → r ≡ 0 + length (frameWords f) → y ≡ sets o 0 (frameWords f)
+      → (r ≡ length (allFrames held n (ownTo own k) e)) × (y ≡ laid (allFrames held n (ownTo own k) e) o)
+  unfolding laid
+  put-alone o y r h a b =
+      (a ∙ zero-add (length (frameWords f)) ∙ ap length alone, b ∙ ap (sets o 0) alone ∙ sets-front o (allFrames held n (ownTo own k) e) h)
 
 -- ---- they are the frames that Calls says
 

@@ -1,6 +1,6 @@
 -- Every session and entry that a program has is sane: arrays of eight places, sets of words below 2 ^ 32. Assumes nothing.
 use Prim.Native.Nat.{ℕ, zero, suc, _<_, _≤_}
-use mathlib.Core.Path.{_≡_, refl, sym, ap, _∙_, subst}
+use mathlib.Core.Path.{_≡_, refl, sym, _∙_, subst}
 use mathlib.Core.List.{List, List·Memᴰ, List·Memᴰ·cases-cons, List·Memᴰ·head, List·Memᴰ·not-nil, List·Memᴰ·tail, Memᴰ·append-left, Memᴰ·append-right, [], _∷_, _++_, map, map-id}
 use mathlib.Core.Logic.{_⊎_, inl, inr, ⊎-elim}
 use native.Mathlib.Nat.{le-of-suc-le-suc}
@@ -11,7 +11,6 @@ use denote.Laws.{Is}
 use denote.Shadow.{shadow}
 use denote.Array.{each}
 use denote.Struct.Laws as LL
-use borrow.Author.Needs.{needs}
 use Rattle.causal.specs.Lists.{tab}
 use Rattle.causal.specs.Sets.{IdSet}
 use Rattle.causal.proofs.Array.{id-set}

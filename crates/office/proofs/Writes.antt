@@ -1,38 +1,37 @@
 -- What `write` answers and leaves, from what its parts do. Assumes nothing.
-use Prim.Native.Nat.{ℕ, zero, suc, _+_, _-_, _*_, _^_, _<_, _≤_}
+use Rattle.store.proofs.Rules.{laid as laid-of}
+use Prim.Native.Nat.{ℕ, zero, suc, _+_, _*_, _^_, _<_, _≤_}
 use mathlib.Core.Path.{_≡_, refl, sym, ap, ap₂, _∙_, subst}
 use mathlib.Core.Bool.{Bool, true, false}
-use mathlib.Core.List.{List, List·Memᴰ, [], _∷_, _++_, map}
+use mathlib.Core.List.{List}
 use native.Mathlib.Omega.{arith}
-use lib.Dec.{ltb, leb}
+use lib.Dec.{ltb}
 use lib.ListN.{length, getD}
 use borrow.Author.Tests.{ltb-true, le-leb, lt-leb}
-use Rattle.causal.specs.Codes.{check, orElse}
-use Rattle.causal.specs.Lists.{part, tab, zeros}
-use Rattle.causal.specs.Sets.{IdSet, Within, has, subsetOf}
+use Rattle.causal.specs.Codes.{check}
+use Rattle.causal.specs.Lists.{part, zeros}
+use Rattle.causal.specs.Sets.{Within, has, subsetOf}
 use Rattle.causal.proofs.Codes.{check-none, or-both, or-none, or-some}
 use Rattle.causal.proofs.Lists.{sum-le, tab-length}
 use Rattle.causal.proofs.Sets.{has-lt, subset-within}
 use Rattle.causal.proofs.Tests.{both-true}
 use Rattle.frame.specs.declared.entry.Entry.{Entry}
-use Rattle.frame.specs.declared.entry.Frame.{Frame}
 use Rattle.frame.specs.declared.session.Session.{Session}
 use Rattle.frame.specs.Entries.{idOf, entryOk}
 use Rattle.frame.specs.Frames.{ringOk, frameOk}
 use Rattle.frame.specs.Refusals.{Reply}
-use Rattle.frame.specs.Sessions.{Content, contentOf, sessionOk, idsOf}
+use Rattle.frame.specs.Sessions.{contentOf, sessionOk, idsOf}
 use Rattle.frame.specs.Tokens.{rowsOf}
 use Rattle.frame.specs.Calls.{laid}
 use Rattle.frame.proofs.Entries.{RingFacts, ring-facts, entry-facts, facts-frame, frame-wider}
 use Rattle.frame.proofs.Ids.{id-range}
-use Rattle.frame.proofs.Sessions.{SaneContent, SessionFacts, session-facts, own-ok}
+use Rattle.frame.proofs.Sessions.{SaneContent, session-facts, own-ok}
 use Rattle.store.specs.Offices.{Office, need, slotAt, officeOf, storeWords, settingsOk, soundStore, made}
-use Rattle.store.specs.Slots.{Laid, holdWords}
+use Rattle.store.specs.Slots.{holdWords}
 use Rattle.store.proofs.Bridge.{store-same}
-use Rattle.store.proofs.Rules.{laid as laid-of}
 use Rattle.store.proofs.Keep.{Sound, store-facts}
 use Rattle.store.proofs.Changes.{hold-words}
-use Rattle.office.specs.Calls.{Result, refusal, given, worded, newEntry, sentOf, writeSends, writeCode, holdAll, missing, ownCode, wroteSession, writeOn, write}
+use Rattle.office.specs.Calls.{Result, refusal, newEntry, sentOf, writeSends, writeCode, holdAll, missing, ownCode, writeOn, write}
 use Rattle.office.specs.Answers.{sessionIf, extendedBy, writeSession}
 use Rattle.office.specs.Steps.{ownAt, ownTo, firstCodes, secondCodes, earlyCode, started, allFrames, Framed, holdsIn, Slots}
 use Rattle.office.proofs.KeepCalls.{all-known}

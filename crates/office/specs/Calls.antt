@@ -17,7 +17,7 @@ use Rattle.frame.specs.Frames.{framed, frameWords, frameOf, accepts}
 use Rattle.frame.specs.Calls.{laid}
 use Rattle.frame.specs.Sessions.{Content, sessionOk, freshContent, idsOf}
 use Rattle.frame.specs.Tokens.{rowsOf}
-use Rattle.store.specs.Offices.{Office, emptyOffice, need, officeOf, storeWords, settingsOk, soundStore, made, clockOf, reveal, hold, Found, None, Some, consider, current, bestOwn}
+use Rattle.store.specs.Offices.{Office, emptyOffice, need, officeOf, storeWords, settingsOk, soundStore, made, clockOf, reveal, hold, Found, None, Some, current, bestOwn}
 
 -- "it names this office and was not made here" (10); "it is held with other content" (11)
 unfoldable pub entryCode : Office → Entry → ℕ

@@ -1,8 +1,8 @@
 -- The steps of a write and of a receive as code takes them, on words: the refusals before the room is known, the frames in the row, the
 -- holds in the store. proofs/Sends.antt, proofs/Holds.antt: they are what Calls says. Assumes nothing.
-use Prim.Native.Nat.{ℕ, zero, suc, _+_, _-_, _*_, _<_, _≤_}
+use Prim.Native.Nat.{ℕ, _+_, _-_, _<_, _≤_}
 use mathlib.Core.Path.{_≡_}
-use mathlib.Core.Bool.{Bool, true, false, cond}
+use mathlib.Core.Bool.{Bool, true, false}
 use mathlib.Core.List.{List, [], _∷_, _++_}
 use lib.Dec.{ltb}
 use lib.ListN.{length, getD}

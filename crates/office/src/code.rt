@@ -23,14 +23,24 @@ pub fn status_of(code: u32) -> Status
     Status::Refused(refusal)
 }
 
-// 2: store unsound. 3: session unsound for it.
+// 2: store unsound. 3: session unsound for it, asked in two steps: where it carries nothing, its own writes are not taken out.
 pub fn start_code(store: &[u32], s: Session) -> u32
     ensures { λ r. ⌜ r ≡ startCode (now (store .entry)) (contentOf s) ⌝ }
 {
     if !store::sound::is_sound(store) {
         return 2;
     }
-    if !frame::session::session_ok(s, store[0], store[2]) {
+    let count = s.count;
+    let clock = s.clock;
+    let read = s.read;
+    if !frame::session::head_ok(s.offices, count, clock, read, store[0]) {
+        return 3;
+    }
+    if count == 0 {
+        return 0;
+    }
+    let own = s.own;
+    if !frame::session::owns_ok(store[0], store[2], read, own, count) {
         return 3;
     }
     0

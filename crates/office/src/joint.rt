@@ -10,6 +10,7 @@ ghost use Prim.Native.Nat.{_+_, _*_, _<_, _≤_};
 ghost use lib.Dec.{leb};
 ghost use lib.ListN.{length, getD};
 ghost use lib.Seq.{sets};
+ghost use Rattle.causal.specs.Codes.{check};
 ghost use Rattle.causal.specs.Tests.{both, allBelow};
 ghost use Rattle.causal.specs.Lists.{part};
 ghost use Rattle.causal.specs.Sets.{subsetOf};
@@ -24,6 +25,12 @@ ghost use Rattle.office.specs.Decide.{jointStart, jointRefusal, foundIn,
 pub struct JointRead {
     pub status: Status,
     pub session: Session,
+}
+
+// What a joint reading answers, and what the session has seen then; on a refusal what it had seen.
+pub struct JointSeen {
+    pub status: Status,
+    pub seen: Seen,
 }
 
 // Up to 16 plots, each in range.
@@ -122,6 +129,22 @@ fn none_over_any(
     true
 }
 
+// 13: an own write is over what is current on its plot. The own writes are not looked at where there are none.
+fn over_code(store: &[u32], s: Session, plots: &[u32], places: [usize; 16]) -> u32
+    requires { ⌜ (s .count ≤ 16) × (length (now plots) ≤ 16) × AllReach (length (now store)) (length (now plots)) places ⌝ }
+    ensures { λ r. ⌜ r ≡ check (overAll (now (store .entry)) (s .own) (s .count) (now (plots .entry)) places) 13 0 ⌝ }
+{
+    let count = s.count;
+    if count == 0 {
+        return 0;
+    }
+    let own = s.own;
+    if !none_over_any(store, own, count, plots, places) {
+        return 13;
+    }
+    0
+}
+
 // The refusal number; where it is 0, the visible set to be and what is current on each plot.
 struct Decided {
     code: u32,
@@ -147,16 +170,9 @@ fn decide(store: &[u32], s: Session, plots: &[u32], room: usize) -> Decided
     let revealed = store::reveal::revealed_by(store, read);
     let visible = revealed.visible;
     let places = places_of(store, visible, plots);
-    let own = s.own;
-    if !none_over_any(store, own, s.count, plots, places) {
-        return Decided {
-            code: 13,
-            visible,
-            places,
-        };
-    }
+    let code = over_code(store, s, plots, places);
     Decided {
-        code: 0,
+        code,
         visible,
         places,
     }
@@ -188,19 +204,47 @@ fn put_answers(store: &[u32], places: [usize; 16], n: usize, answer: &mut [u32])
     }
 }
 
-// The session once it has noted what is current on each plot.
-fn note_all(store: &[u32], places: [usize; 16], n: usize, s: Session) -> Session
+// What is seen once what is current on each plot is noted.
+fn note_all(store: &[u32], places: [usize; 16], n: usize, first: Seen) -> Seen
     requires { ⌜ (n ≤ 16) × AllReach (length (now store)) n places ⌝ }
-    ensures { λ r. ⌜ r ≡ withSeen s (seenTo (foundAmong (now (store .entry)) places) n (seenOf s)) ⌝ }
+    ensures { λ r. ⌜ r ≡ seenTo (foundAmong (now (store .entry)) places) n first ⌝ }
 {
-    let clock = s.clock;
-    let read = s.read;
-    let mut seen = Seen { clock, read };
+    let mut seen = first;
     for i in 0..n {
         let next = crate::note::note(store, places[i], seen);
         seen = next;
     }
-    crate::note::with_seen(s, seen)
+    seen
+}
+
+// read_joint, but for the parts of the session that a reading leaves as they were.
+pub fn see_joint(store: &mut [u32], s: Session, plots: &[u32], answer: &mut [u32]) -> JointSeen
+    ensures { λ r. ⌜ (codeOf (r .status) ≡ readJoint (now (store .entry)) (contentOf s) (now (plots .entry)) (now (answer .entry)) .code)
+        × (withSeen s (r .seen) ≡ readJointSession (now (store .entry)) s (now (plots .entry)) (now (answer .entry)))
+        × (now (store .exit) ≡ readJoint (now (store .entry)) (contentOf s) (now (plots .entry)) (now (answer .entry)) .store)
+        × (now (answer .exit) ≡ readJoint (now (store .entry)) (contentOf s) (now (plots .entry)) (now (answer .entry)) .row) ⌝ }
+{
+    let decided = decide(store, s, plots, answer.len());
+    let code = decided.code;
+    let clock = s.clock;
+    let read = s.read;
+    let first = Seen { clock, read };
+    if code != 0 {
+        let status = crate::code::status_of(code);
+        return JointSeen {
+            status,
+            seen: first,
+        };
+    }
+    let visible = decided.visible;
+    let places = decided.places;
+    put_answers(store, places, plots.len(), &mut *answer);
+    let seen = note_all(store, places, plots.len(), first);
+    store::reveal::show(&mut *store, visible);
+    JointSeen {
+        status: Status::Accepted,
+        seen,
+    }
 }
 
 pub fn read_joint(store: &mut [u32], s: Session, plots: &[u32], answer: &mut [u32]) -> JointRead
@@ -209,19 +253,9 @@ pub fn read_joint(store: &mut [u32], s: Session, plots: &[u32], answer: &mut [u3
         × (now (store .exit) ≡ readJoint (now (store .entry)) (contentOf s) (now (plots .entry)) (now (answer .entry)) .store)
         × (now (answer .exit) ≡ readJoint (now (store .entry)) (contentOf s) (now (plots .entry)) (now (answer .entry)) .row) ⌝ }
 {
-    let decided = decide(store, s, plots, answer.len());
-    let code = decided.code;
-    if code != 0 {
-        let status = crate::code::status_of(code);
-        return JointRead { status, session: s };
-    }
-    let visible = decided.visible;
-    let places = decided.places;
-    put_answers(store, places, plots.len(), &mut *answer);
-    let session = note_all(store, places, plots.len(), s);
-    store::reveal::show(&mut *store, visible);
-    JointRead {
-        status: Status::Accepted,
-        session,
-    }
+    let done = see_joint(store, s, plots, answer);
+    let seen = done.seen;
+    let session = crate::note::with_seen(s, seen);
+    let status = done.status;
+    JointRead { status, session }
 }

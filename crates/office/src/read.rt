@@ -11,14 +11,22 @@ ghost use Rattle.frame.specs.Refusals.{codeOf};
 ghost use Rattle.frame.specs.Sessions.{contentOf};
 ghost use Rattle.store.specs.Offices.{bestOwn};
 ghost use Rattle.office.specs.Calls.{readPlot};
-ghost use Rattle.office.specs.Answers.{anyFound, entryFound, notedIn, readPlotSession};
-ghost use Rattle.office.specs.Decide.{readRefusal, foundIn, Reaches, bestFrom, bestAbove, bestTo};
+ghost use Rattle.office.specs.Answers.{anyFound, entryFound, readPlotSession};
+ghost use Rattle.office.specs.Decide.{readRefusal, foundIn, Reaches, bestFrom, bestAbove, bestTo, notedSeen, seenOf, withSeen};
 
 pub struct PlotRead {
     pub status: Status,
     pub found: bool,
     pub entry: Entry, // a blank where none is found
     pub session: Session,
+}
+
+// What a reading of one plot answers, and what the session has seen then; on a refusal what it had seen.
+pub struct PlotSeen {
+    pub status: Status,
+    pub found: bool,
+    pub entry: Entry, // a blank where none is found
+    pub seen: Seen,
 }
 
 // An entry, or a blank where none is found.
@@ -92,27 +100,68 @@ fn best_own(own: [Entry; 16], count: usize, plot: u32, first: Best) -> Best
     best
 }
 
+// The best of entry k and the own writes on the plot, which are not looked at where there are none.
+fn best_with(store: &[u32], s: Session, plot: u32, k: usize) -> Best
+    requires { ⌜ (s .count ≤ 16) × Reaches (length (now store)) k ⌝ }
+    ensures { λ r. ⌜ r ≡ bestTo (s .own) plot (bestFrom (foundIn (now (store .entry)) k)) (s .count) ⌝ }
+{
+    let first = best_at(store, k);
+    let count = s.count;
+    if count == 0 {
+        return first;
+    }
+    let own = s.own;
+    best_own(own, count, plot, first)
+}
+
 // What a reading answers where entry k is current.
-fn answer_at(store: &[u32], s: Session, plot: u32, k: usize) -> PlotRead
+fn answer_at(store: &[u32], s: Session, plot: u32, k: usize) -> PlotSeen
     requires { ⌜ (s .count ≤ 16) × Reaches (length (now store)) k ⌝ }
     ensures { λ r. ⌜ (codeOf (r .status) ≡ 0)
         × (r .found ≡ anyFound (bestOwn plot (foundIn (now (store .entry)) k) (contentOf s .own) ∷ []))
         × (r .entry ≡ entryFound (bestOwn plot (foundIn (now (store .entry)) k) (contentOf s .own) ∷ []))
-        × (r .session ≡ notedIn (foundIn (now (store .entry)) k) s) ⌝ }
+        × (r .seen ≡ notedSeen (foundIn (now (store .entry)) k) (seenOf s)) ⌝ }
 {
-    let own = s.own;
-    let best = best_own(own, s.count, plot, best_at(store, k));
+    let best = best_with(store, s, plot, k);
     let clock = s.clock;
     let read = s.read;
     let seen = crate::note::note(store, k, Seen { clock, read });
-    let session = crate::note::with_seen(s, seen);
     let entry = best.entry;
-    PlotRead {
+    PlotSeen {
         status: Status::Accepted,
         found: best.found,
         entry,
-        session,
+        seen,
     }
+}
+
+// read_plot, but for the parts of the session that a reading leaves as they were.
+pub fn see_plot(store: &mut [u32], s: Session, plot: u32) -> PlotSeen
+    ensures { λ r. ⌜ (codeOf (r .status) ≡ readPlot (now (store .entry)) (contentOf s) plot .code)
+        × (r .found ≡ anyFound (readPlot (now (store .entry)) (contentOf s) plot .found))
+        × (r .entry ≡ entryFound (readPlot (now (store .entry)) (contentOf s) plot .found))
+        × (withSeen s (r .seen) ≡ readPlotSession (now (store .entry)) s plot)
+        × (now (store .exit) ≡ readPlot (now (store .entry)) (contentOf s) plot .store) ⌝ }
+{
+    let code = read_code(store, s, plot);
+    let read = s.read;
+    if code != 0 {
+        let status = crate::code::status_of(code);
+        let entry = frame::entry::blank_entry();
+        let clock = s.clock;
+        return PlotSeen {
+            status,
+            found: false,
+            entry,
+            seen: Seen { clock, read },
+        };
+    }
+    let revealed = store::reveal::revealed_by(store, read);
+    let visible = revealed.visible;
+    let k = crate::note::place_number(store::current::current(store, visible, plot));
+    let answer = answer_at(store, s, plot, k);
+    store::reveal::show(&mut *store, visible);
+    answer
 }
 
 pub fn read_plot(store: &mut [u32], s: Session, plot: u32) -> PlotRead
@@ -122,22 +171,15 @@ pub fn read_plot(store: &mut [u32], s: Session, plot: u32) -> PlotRead
         × (r .session ≡ readPlotSession (now (store .entry)) s plot)
         × (now (store .exit) ≡ readPlot (now (store .entry)) (contentOf s) plot .store) ⌝ }
 {
-    let code = read_code(store, s, plot);
-    if code != 0 {
-        let status = crate::code::status_of(code);
-        let entry = frame::entry::blank_entry();
-        return PlotRead {
-            status,
-            found: false,
-            entry,
-            session: s,
-        };
+    let done = see_plot(store, s, plot);
+    let seen = done.seen;
+    let session = crate::note::with_seen(s, seen);
+    let status = done.status;
+    let entry = done.entry;
+    PlotRead {
+        status,
+        found: done.found,
+        entry,
+        session,
     }
-    let read = s.read;
-    let revealed = store::reveal::revealed_by(store, read);
-    let visible = revealed.visible;
-    let k = crate::note::place_number(store::current::current(store, visible, plot));
-    let answer = answer_at(store, s, plot, k);
-    store::reveal::show(&mut *store, visible);
-    answer
 }

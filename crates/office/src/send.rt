@@ -2,6 +2,7 @@
 use frame::entry::Entry;
 use frame::entry::Frame;
 use frame::refusal::Written;
+use frame::session::Session;
 ghost use mathlib.Core.Path.{_≡_};
 ghost use mathlib.Core.Bool.{true};
 ghost use Prim.Native.Nat.{_+_, _-_, _≤_};
@@ -50,12 +51,18 @@ fn own_words(held: [u32; 8], n: u32, own: [Entry; 16], count: usize) -> usize
     words
 }
 
-pub fn all_words(held: [u32; 8], n: u32, own: [Entry; 16], count: usize, e: Entry) -> usize
-    requires { ⌜ (count ≤ 16) × (2 ≤ n) × (n ≤ 8) ⌝ }
-    ensures { λ r. ⌜ r ≡ length (allFrames held n (ownTo own count) e) ⌝ }
+// Here and in put_all: own writes are not looked at where there are none.
+pub fn all_words(held: [u32; 8], n: u32, s: Session, e: Entry) -> usize
+    requires { ⌜ (s .count ≤ 16) × (2 ≤ n) × (n ≤ 8) ⌝ }
+    ensures { λ r. ⌜ r ≡ length (allFrames held n (ownTo (s .own) (s .count)) e) ⌝ }
 {
-    let words = own_words(held, n, own, count);
-    words + frame::writer::words_of(started(n, e))
+    let last = frame::writer::words_of(started(n, e));
+    let count = s.count;
+    if count == 0 {
+        return last;
+    }
+    let own = s.own;
+    own_words(held, n, own, count) + last
 }
 
 // ---- the words
@@ -96,17 +103,16 @@ fn put_own(held: [u32; 8], n: u32, own: [Entry; 16], count: usize, out: &mut [u3
 }
 
 // Each next frame right behind the one before; gives the number of words.
-pub fn put_all(
-    held: [u32; 8],
-    n: u32,
-    own: [Entry; 16],
-    count: usize,
-    e: Entry,
-    out: &mut [u32],
-) -> usize
-    requires { ⌜ (count ≤ 16) × Framed n own count × (frameOk n 64 (startedOf n e) ≡ true) × (length (allFrames held n (ownTo own count) e) ≤ length (now out)) ⌝ }
-    ensures { λ r. ⌜ (r ≡ length (allFrames held n (ownTo own count) e)) × (now (out .exit) ≡ laid (allFrames held n (ownTo own count) e) (now (out .entry))) ⌝ }
+pub fn put_all(held: [u32; 8], n: u32, s: Session, e: Entry, out: &mut [u32]) -> usize
+    requires { ⌜ (s .count ≤ 16) × Framed n (s .own) (s .count) × (frameOk n 64 (startedOf n e) ≡ true) × (length (allFrames held n (ownTo (s .own) (s .count)) e) ≤ length (now out)) ⌝ }
+    ensures { λ r. ⌜ (r ≡ length (allFrames held n (ownTo (s .own) (s .count)) e)) × (now (out .exit) ≡ laid (allFrames held n (ownTo (s .own) (s .count)) e) (now (out .entry))) ⌝ }
 {
+    let last = started(n, e);
+    let count = s.count;
+    if count == 0 {
+        return put_frame(last, &mut *out, 0);
+    }
+    let own = s.own;
     let at = put_own(held, n, own, count, &mut *out);
-    put_frame(started(n, e), &mut *out, at)
+    put_frame(last, &mut *out, at)
 }

@@ -30,11 +30,9 @@ pub struct Wrote {
 fn first_codes(store: &[u32], s: Session, plot: u32, value: u32) -> u32
     ensures { λ r. ⌜ r ≡ check (soundStore (now (store .entry))) 2 (firstCodes (getD (now (store .entry)) 0 0) (getD (now (store .entry)) 2 0) (contentOf s) plot value) ⌝ }
 {
-    if !store::sound::is_sound(store) {
-        return 2;
-    }
-    if !frame::session::session_ok(s, store[0], store[2]) {
-        return 3;
+    let start = crate::code::start_code(store, s);
+    if start != 0 {
+        return start;
     }
     if plot >= store[2] {
         return 4;
@@ -76,11 +74,14 @@ fn early_code(store: &[u32], s: Session, plot: u32, value: u32) -> u32
     if second != 0 {
         return second;
     }
+    if count == 0 {
+        return 0;
+    }
     let own = s.own;
     crate::entries::own_code(store, held, store[1], own, count)
 }
 
-// ---- what a write makes and leaves
+// ---- what a write makes and leaves: own writes are not looked at where there are none
 
 fn new_entry(store: &[u32], s: Session, plot: u32, value: u32) -> Entry
     requires { ⌜ (soundStore (now store) ≡ true) × (s .count ≤ 16) ⌝ }
@@ -107,10 +108,16 @@ fn new_entry(store: &[u32], s: Session, plot: u32, value: u32) -> Entry
 }
 
 // The own writes that are not held, then the new entry.
-fn hold_all(store: &mut [u32], held: [u32; 8], own: [Entry; 16], count: usize, e: Entry)
-    requires { ⌜ (count ≤ 16) × Slots own count (length (now store)) × (slotAt (idOf e) + 18 ≤ length (now store)) ⌝ }
-    ensures { λ _. ⌜ now (store .exit) ≡ holdWords (holdsIn held (now (store .entry)) (ownTo own count)) e ⌝ }
+fn hold_all(store: &mut [u32], held: [u32; 8], s: Session, e: Entry)
+    requires { ⌜ (s .count ≤ 16) × Slots (s .own) (s .count) (length (now store)) × (slotAt (idOf e) + 18 ≤ length (now store)) ⌝ }
+    ensures { λ _. ⌜ now (store .exit) ≡ holdWords (holdsIn held (now (store .entry)) (ownTo (s .own) (s .count))) e ⌝ }
 {
+    let count = s.count;
+    if count == 0 {
+        store::hold::hold(&mut *store, e);
+        return;
+    }
+    let own = s.own;
     crate::entries::hold_own(&mut *store, held, own, count);
     store::hold::hold(&mut *store, e);
 }
@@ -148,16 +155,14 @@ pub fn write(store: &mut [u32], s: Session, plot: u32, value: u32, out: &mut [u3
     let e = new_entry(store, s, plot, value);
     let n = store[0];
     let held = store::layout::set_at(store, 3);
-    let own = s.own;
-    let count = s.count;
-    if crate::send::all_words(held, n, own, count, e) > out.len() {
+    if crate::send::all_words(held, n, s, e) > out.len() {
         return Wrote {
             written: Written::NotWritten(Refusal::Room),
             session: s,
         };
     }
-    let words = crate::send::put_all(held, n, own, count, e, out);
-    hold_all(&mut *store, held, own, count, e);
+    let words = crate::send::put_all(held, n, s, e, out);
+    hold_all(&mut *store, held, s, e);
     let session = extended(s, e);
     Wrote {
         written: Written::Words(words),

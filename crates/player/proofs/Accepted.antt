@@ -1,23 +1,22 @@
 -- What holds of accepted calls on a store of a ring of three with 64 plots, and that 8 is never refused where the out row has 1751 words.
 -- Assumes nothing.
-use Prim.Native.Nat.{ℕ, suc, zero, _*_, _+_, _-_, _<_, _≤_}
+use Prim.Native.Nat.{ℕ, suc, zero, _+_, _-_, _<_, _≤_}
 use mathlib.Core.Bool.{Bool, cond, false, true}
 use mathlib.Core.List.{List, List·Memᴰ, List·Memᴰ·append-cases, List·Memᴰ·cases-cons, List·Memᴰ·eq-of-singleton, List·Memᴰ·head, List·Memᴰ·not-nil, List·Memᴰ·tail, Memᴰ·of-map, [], _++_, _∷_, append-nil, map}
 use mathlib.Core.Logic.{⊎-elim}
-use mathlib.Core.Path.{_∙_, _≡_, ap, refl, sym}
+use mathlib.Core.Path.{_∙_, _≡_, ap, refl}
 use native.Mathlib.Omega.{arith}
 use lib.Bits.{bitOr}
-use lib.Dec.{eqb, leb, ltb}
+use lib.Dec.{eqb, leb}
 use lib.ListN.{getD, length, length-append}
-use borrow.Author.Tests.{le-leb, leb-true, ltb-true}
-use Rattle.causal.specs.Codes.{check, orElse}
+use borrow.Author.Tests.{leb-true, ltb-true}
 use Rattle.causal.specs.Lists.{zeros}
-use Rattle.causal.specs.Sets.{has, inserted, isIn, subsetOf, unite}
-use Rattle.causal.specs.Tests.{either, implies}
+use Rattle.causal.specs.Sets.{inserted, isIn, unite}
+use Rattle.causal.specs.Tests.{either}
 use Rattle.causal.proofs.Codes.{check-none, or-both}
 use Rattle.causal.proofs.Lists.{zip8-at}
 use Rattle.frame.specs.Calls.{laid}
-use Rattle.frame.specs.Entries.{entryOk, idOf, idsOk, sameContent}
+use Rattle.frame.specs.Entries.{idOf, idsOk}
 use Rattle.frame.specs.Frames.{accepts, frameOf, frameOk, frameWords, framed}
 use Rattle.frame.specs.Sessions.{Content, freshContent, idsOf, sessionOk}
 use Rattle.frame.specs.Tokens.{rowsOf}
@@ -27,9 +26,9 @@ use Rattle.frame.proofs.Back.{accepted-ok}
 use Rattle.frame.proofs.Entries.{EntryFacts, entry-facts, facts-ids, frame-facts, ids-facts}
 use Rattle.frame.proofs.Ids.{id-range, ids-of}
 use Rattle.frame.proofs.Sessions.{SessionFacts, ids-from, ids-set, own-ok, session-facts}
-use Rattle.store.specs.Offices.{Office, hold, made, officeOf, reveal, soundStore, storeWords}
-use Rattle.office.specs.Calls.{Result, entryCode, given, holdAll, holdNew, missing, newEntry, onward, ownCode, parsed, readCode, readOn, readPlot, receive, receiveCode, receiveOn, receiveSends, receivedBy, refusal, sentOf, stored, worded, write, writeCode, writeOn, writeSends}
-use Rattle.player.proofs.Room.{Fit3, frame-room, rows-bound}
+use Rattle.store.specs.Offices.{Office, hold, officeOf, reveal, soundStore, storeWords}
+use Rattle.office.specs.Calls.{Result, entryCode, given, holdAll, holdNew, missing, newEntry, onward, ownCode, parsed, readCode, readOn, readPlot, receive, receiveCode, receiveOn, receiveSends, receivedBy, sentOf, worded, write, writeCode, writeOn, writeSends}
+use Rattle.player.proofs.Room.{Fit3}
 
 -- ---- what a call sends
 

@@ -9,8 +9,8 @@ use lib.ListN.{getD, length, set}
 use lib.Seq.{sets}
 use Rattle.causal.specs.Lists.{part}
 use Rattle.causal.proofs.Lists.{part-add, part-cons, part-length, sets-append}
-use Rattle.causal.proofs.Tests.{lt-or-le, split}
-use Rattle.player.specs.Desks.{Cut, frameLen, lengthAt, pushed, slotAt, startOf}
+use Rattle.causal.proofs.Tests.{lt-or-le}
+use Rattle.player.specs.Desks.{Cut, frameLen, pushed, slotAt, startOf}
 
 -- ---- copying
 

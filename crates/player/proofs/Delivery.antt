@@ -1,5 +1,5 @@
 -- What a call wrote, delivered or not. Assumes nothing.
-use Prim.Native.Nat.{ℕ, suc, zero, _*_, _+_, _-_, _<_, _≤_}
+use Prim.Native.Nat.{ℕ, _*_, _+_, _-_, _<_, _≤_}
 use mathlib.Core.Bool.{false, true}
 use mathlib.Core.List.{List, _++_, append-assoc, append-nil}
 use mathlib.Core.Path.{_∙_, _≡_, ap, refl, sym}
@@ -8,7 +8,7 @@ use lib.ListN.{drop, drop-of-length-le, getD, length, take}
 use lib.Seq.{drop-drop, sets, sets-eq, take-all}
 use Rattle.causal.specs.Lists.{part}
 use Rattle.causal.proofs.Lists.{part-length, sets-front}
-use Rattle.frame.specs.Refusals.{Reply, codeOf, replyOf}
+use Rattle.frame.specs.Refusals.{codeOf, replyOf}
 use Rattle.frame.specs.Sessions.{contentOf}
 use Rattle.frame.specs.declared.refusal.Written.{Written}
 use Rattle.frame.specs.declared.session.Session.{Session}
@@ -18,7 +18,7 @@ use Rattle.office.specs.declared.read.PlotRead.{PlotRead}
 use Rattle.office.specs.declared.write.Wrote.{Wrote}
 use Rattle.ring.specs.Run.{nextOf}
 use Rattle.player.specs.declared.desk.Desk.{Desk}
-use Rattle.player.specs.Desks.{Cut, countAt, firstAt, frameLen, pushed, startOf, withFrames}
+use Rattle.player.specs.Desks.{Cut, countAt, frameLen, pushed, startOf, withFrames}
 use Rattle.player.specs.Steps.{Delivers, ReadsAt, ReceivesAt, WritesAt}
 
 pub part-all : (ws : List ℕ) (n : ℕ) → length ws ≡ n → part ws 0 n ≡ ws

@@ -1,17 +1,16 @@
 -- "its rows are long enough that it never prints refusal 8". Assumes nothing.
-use Prim.Native.Nat.{ℕ, suc, zero, _*_, _+_, _<_, _≤_}
+use Prim.Native.Nat.{ℕ, suc, zero, _<_}
 use mathlib.Core.Bool.{Bool, cond, false, true}
-use mathlib.Core.List.{List, [], _++_, _∷_}
-use mathlib.Core.Path.{_∙_, _≡_, ap, refl, subst, sym}
+use mathlib.Core.List.{List, [], _∷_}
+use mathlib.Core.Path.{_≡_, ap, refl}
 use native.Mathlib.Omega.{arith}
 use lib.Dec.{eqb, leb, ltb}
 use lib.ListN.{getD, length}
 use borrow.Author.Tests.{eqb-false, le-leb, ltb-true}
 use Rattle.causal.specs.Codes.{check, orElse}
-use Rattle.causal.specs.Sets.{isIn, subsetOf}
-use Rattle.causal.specs.Tests.{both, either, implies}
+use Rattle.causal.specs.Sets.{subsetOf}
+use Rattle.causal.specs.Tests.{both, either}
 use Rattle.causal.proofs.Tests.{false-true}
-use Rattle.frame.specs.Entries.{idOf, sameContent}
 use Rattle.frame.specs.Frames.{accepts, frameOf, frameOk, frameWords}
 use Rattle.frame.specs.Sessions.{Content, freshContent, sessionOk}
 use Rattle.frame.specs.Tokens.{rowsOf}

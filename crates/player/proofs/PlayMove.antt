@@ -1,20 +1,18 @@
 -- A move of a script, played; and lines that are none. Assumes nothing.
-use Prim.Native.Nat.{ℕ, suc, zero, _<_, _≤_}
-use mathlib.Core.Bool.{cond, false, true}
-use mathlib.Core.List.{List, []}
+use Prim.Native.Nat.{ℕ, _<_, _≤_}
+use mathlib.Core.List.{List}
 use mathlib.Core.Logic.{⊎-elim}
-use mathlib.Core.Path.{_∙_, _≡_, ap, refl, subst, sym}
+use mathlib.Core.Path.{_∙_, _≡_, ap, refl}
 use native.Mathlib.Omega.{arith}
-use lib.ListN.{getD, length, length-set, set}
+use lib.ListN.{length-set, set}
 use lib.Seq.{getD-set-other, getD-set-same}
 use borrow.Author.Tests.{le-ltb, lt-ltb}
 use Rattle.causal.specs.Tests.{both}
 use Rattle.causal.proofs.Tests.{eq-or-ne}
-use Rattle.script.specs.declared.line.Line.{Line}
 use Rattle.script.specs.declared.line.Line.the-variants.{Move, Other, Read, Receive, Write}
 use Rattle.script.specs.declared.reply.Reply.the-variants.{Moved, Odd}
 use Rattle.player.specs.declared.desk.Desk.{Desk}
-use Rattle.player.specs.Desks.{placeAt, withPlace}
+use Rattle.player.specs.Desks.{withPlace}
 use Rattle.player.specs.Play.{Scene, moved, play}
 use Rattle.player.specs.Shows.{Shows}
 use Rattle.player.specs.Steps.{Plays}

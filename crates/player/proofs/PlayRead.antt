@@ -1,39 +1,26 @@
 -- A reading of a script, played. Assumes nothing.
-use Prim.Native.Nat.{ℕ, suc, zero, _%_, _*_, _+_, _-_, _<_, _≤_}
-use mathlib.Core.Bool.{Bool, cond, false, true}
-use mathlib.Core.List.{List, List·Memᴰ, [], _++_, _∷_, map}
-use mathlib.Core.Logic.{_≢_, ⊎-elim}
-use mathlib.Core.Path.{_∙_, _≡_, ap, refl, subst, sym}
+use Prim.Native.Nat.{ℕ, suc, _*_, _<_}
+use mathlib.Core.Bool.{Bool, cond, false}
+use mathlib.Core.List.{List, [], _∷_}
+use mathlib.Core.Path.{_∙_, _≡_, ap}
 use native.Mathlib.Omega.{arith}
-use lib.ListN.{drop, getD, length, length-append, length-set, set}
-use lib.Seq.{getD-set-other, getD-set-same, length-sets, sets}
+use lib.ListN.{getD, length, length-set}
+use lib.Seq.{length-sets, sets}
 use borrow.Author.Tests.{lt-ltb}
 use Rattle.causal.specs.Lists.{part}
-use Rattle.causal.proofs.Tests.{eq-or-ne}
-use Rattle.frame.specs.Calls.{laid}
-use Rattle.frame.specs.Frames.{frameWords}
-use Rattle.frame.specs.Sessions.{Content, contentOf}
-use Rattle.frame.specs.Tokens.{rowsOf}
-use Rattle.frame.specs.declared.entry.Frame.{Frame}
+use Rattle.frame.specs.Sessions.{contentOf}
 use Rattle.frame.specs.declared.session.Session.{Session}
-use Rattle.office.specs.Calls.{Result, readPlot, receive, write}
-use Rattle.office.proofs.Refused.{read-words-refused, receive-words-refused, write-words-refused}
-use Rattle.ring.specs.Run.{Call, Event, State, Tracked, at, eventOf, gained, lastOf, nextOf, onWords, readIn, reading, received, receiving, refusedBy, step, together, turnedBy, upd, writing, wrote}
-use Rattle.ring.proofs.Fit.{upd-case, upd-other, upd-same}
-use Rattle.script.specs.declared.line.Line.{Line}
-use Rattle.script.specs.declared.line.Line.the-variants.{Read, Receive, Write}
-use Rattle.script.specs.declared.reply.Reply.{Reply}
-use Rattle.script.specs.declared.reply.Reply.the-variants.{Full, NoFrame, Received, Refused}
+use Rattle.office.specs.Calls.{Result, readPlot}
+use Rattle.office.proofs.Refused.{read-words-refused}
+use Rattle.ring.specs.Run.{Call, Tracked, onWords, readIn, reading, refusedBy, step}
+use Rattle.script.specs.declared.line.Line.the-variants.{Read}
+use Rattle.script.specs.declared.reply.Reply.the-variants.{Full, Refused}
 use Rattle.player.specs.declared.desk.Desk.{Desk}
-use Rattle.player.specs.declared.desk.Played.{Played}
-use Rattle.player.specs.Desks.{countAt, firstAt, newestReply, placeAt, pushed, sessionAt, slotAt, withFrames, withSession, withoutOldest}
-use Rattle.player.specs.Play.{Ring, Scene, called, crowded, play, playRead, playReceive, playWrite, readReply, settled, wroteReply}
-use Rattle.player.specs.Shows.{Queue, Session-is, Shows}
+use Rattle.player.specs.Desks.{placeAt, sessionAt, withSession}
+use Rattle.player.specs.Play.{Scene, called, crowded, play, playRead, readReply, settled}
+use Rattle.player.specs.Shows.{Shows}
 use Rattle.player.specs.Steps.{Plays}
-use Rattle.player.proofs.Accepted.{Reads, Receives, Writes}
-use Rattle.player.proofs.Room.{Fit3}
-use Rattle.player.proofs.Scenes.{calm, jammed, line-few, next-low, next-ne, refused-shows, session-in, store-in, store-same, turned-shows, word-in}
-use Rattle.player.proofs.Waiting.{pushed-length, pushed-other, pushed-queue, taken}
+use Rattle.player.proofs.Scenes.{calm, line-few, refused-shows, session-in, store-in, word-in}
 use Rattle.player.proofs.PlayWrite.{plays-by}
 
 module _ (g : Scene) (d : Desk) (stores lines : List ℕ) (S : Shows g d stores lines) (i : ℕ) (il : i < 4) (plot : ℕ) (row : List ℕ) where

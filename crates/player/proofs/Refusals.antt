@@ -1,5 +1,5 @@
 -- Answers by cases: a refusal's number, or the words. Assumes nothing.
-use Prim.Native.Nat.{ℕ, suc, zero}
+use Prim.Native.Nat.{ℕ, suc}
 use mathlib.Core.Path.{_∙_, _≡_, ap, refl, subst, sym}
 use Rattle.frame.specs.Refusals.{Reply, codeOf, numberOf, replyOf}
 use Rattle.frame.specs.declared.refusal.Refusal.{Refusal}

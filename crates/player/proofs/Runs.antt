@@ -1,5 +1,5 @@
 -- Lines played are a run: the third demand holds of the ring of every scene that lines of a script lead to. Assumes nothing.
-use Prim.Native.Nat.{ℕ, suc, zero, _*_, _<_, _≤_}
+use Prim.Native.Nat.{ℕ, suc, zero, _<_, _≤_}
 use mathlib.Core.Bool.{Bool, cond, false, true}
 use mathlib.Core.List.{List, [], _++_, _∷_}
 use mathlib.Core.Path.{_∙_, _≡_, ap, refl, subst, sym}
@@ -7,7 +7,6 @@ use native.Mathlib.Omega.{arith}
 use lib.Dec.{ltb}
 use lib.ListN.{length}
 use Rattle.causal.specs.Tests.{both}
-use Rattle.store.specs.Offices.{need}
 use Rattle.ring.specs.Holds.{Holds}
 use Rattle.ring.specs.Lines.{starts}
 use Rattle.ring.specs.Run.{Call, Tracked, at, contentsRun, onWords, run, step, wordsRun}
@@ -15,8 +14,8 @@ use Rattle.ring.proofs.Theorem.{demand3}
 use Rattle.script.specs.declared.line.Line.{Line}
 use Rattle.script.specs.declared.line.Line.the-variants.{Move, Other, Read, Receive, Write}
 use Rattle.script.specs.declared.reply.Reply.{Reply}
-use Rattle.script.specs.declared.reply.Reply.the-variants.{Full, Moved, Odd}
-use Rattle.player.specs.Play.{Ring, Scene, called, crowded, moved, opening, placeOf, play, playAll, playRead, playReceive, playWrite, settled}
+use Rattle.script.specs.declared.reply.Reply.the-variants.{Full, Odd}
+use Rattle.player.specs.Play.{Ring, Scene, called, crowded, opening, placeOf, play, playAll, playRead, playReceive, playWrite, settled}
 
 -- the ring h is the ring g after some calls
 abbrev pub After : Ring → Ring → Type 0

@@ -1,28 +1,27 @@
 -- When the desk and its buffers show a scene: what a change of a store, of a session, of a line leaves; over 32 frames at one office.
 -- Assumes nothing.
-use Prim.Native.Nat.{ℕ, suc, zero, _%_, _*_, _+_, _-_, _<_, _≤_}
-use mathlib.Core.Bool.{Bool, cond, false, not, true}
-use mathlib.Core.List.{List, [], _++_, _∷_, map}
+use Prim.Native.Nat.{ℕ, suc, zero, _*_, _+_, _<_, _≤_}
+use mathlib.Core.Bool.{false, not, true}
+use mathlib.Core.List.{List, [], _++_, _∷_}
 use mathlib.Core.Logic.{_≢_, ⊎-elim}
 use mathlib.Core.Path.{_∙_, _≡_, ap, refl, subst, sym}
 use native.Mathlib.Omega.{arith}
-use lib.Dec.{leb, ltb}
-use lib.ListN.{drop, getD, length, length-append, length-set, set, take, take-append-drop}
-use lib.Seq.{getD-set-other, getD-set-same, length-sets, set-getD, sets, sets-eq, take-add}
-use borrow.Author.Tests.{le-leb, le-ltb, lt-leb, lt-ltb}
+use lib.Dec.{leb}
+use lib.ListN.{drop, getD, length, set, take, take-append-drop}
+use lib.Seq.{getD-set-other, getD-set-same, set-getD, sets, sets-eq, take-add}
+use borrow.Author.Tests.{le-leb, lt-leb}
 use Rattle.causal.specs.Lists.{part}
-use Rattle.causal.specs.Tests.{allBelow}
 use Rattle.causal.proofs.Lists.{part-length, part-sets-after, part-sets-before, part-sets-whole}
 use Rattle.causal.proofs.Tests.{all-fails, all-intro, eq-or-ne, lt-or-le}
 use Rattle.frame.specs.Sessions.{contentOf}
 use Rattle.frame.specs.declared.session.Session.{Session}
 use Rattle.office.specs.Calls.{Result}
-use Rattle.ring.specs.Run.{State, Tracked, at, nextOf, onWords, refusedBy, turnedBy, upd}
-use Rattle.ring.proofs.Fit.{next-other, next-step, next-wrap, upd-case, upd-other, upd-same}
+use Rattle.ring.specs.Run.{Tracked, at, nextOf, onWords, refusedBy, turnedBy, upd}
+use Rattle.ring.proofs.Fit.{next-other, next-step, next-wrap, upd-case}
 use Rattle.player.specs.declared.desk.Desk.{Desk}
-use Rattle.player.specs.Desks.{countAt, firstAt, noSession, placeAt, sessionAt}
+use Rattle.player.specs.Desks.{noSession, sessionAt}
 use Rattle.player.specs.Play.{Ring, Scene, crowded}
-use Rattle.player.specs.Shows.{Queue, Session-is, Shows}
+use Rattle.player.specs.Shows.{Session-is, Shows}
 
 -- ---- the next office
 

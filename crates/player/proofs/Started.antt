@@ -1,10 +1,8 @@
 -- The start shows the opened ring with four fresh sessions. Assumes nothing.
 use Prim.Native.Nat.{ℕ, suc, zero, _*_, _+_, _-_, _<_, _≤_}
-use mathlib.Core.Bool.{cond, true}
 use mathlib.Core.List.{List, [], _++_, _∷_}
 use mathlib.Core.Path.{_∙_, _≡_, ap, refl, subst, sym}
 use native.Mathlib.Omega.{arith}
-use lib.Dec.{eqb, leb, ltb}
 use lib.ListN.{drop, getD, getD-replicate, length, replicate, take}
 use lib.Seq.{length-sets, sets}
 use borrow.Author.Tests.{le-leb, lt-ltb}
@@ -13,14 +11,14 @@ use Rattle.causal.specs.Lists.{part}
 use Rattle.causal.specs.Tests.{both}
 use Rattle.causal.proofs.Lists.{part-length, part-sets-after, part-sets-before, part-sets-whole}
 use Rattle.frame.specs.Frames.{ringOk}
-use Rattle.frame.specs.Sessions.{contentOf, filled, freshContent, sessionOf}
+use Rattle.frame.specs.Sessions.{filled, freshContent, sessionOf}
 use Rattle.frame.specs.declared.session.Session.{Session}
 use Rattle.frame.proofs.OwnTurns.{content-back}
-use Rattle.store.specs.Offices.{emptyOffice, need, settingsOk, storeWords}
+use Rattle.store.specs.Offices.{emptyOffice, settingsOk, storeWords}
 use Rattle.office.specs.Answers.{freshBy}
 use Rattle.office.specs.Calls.{freshCode, openOffice}
 use Rattle.ring.specs.Lines.{starts}
-use Rattle.ring.specs.Run.{Tracked, at, onWords, run, step, wordsRun}
+use Rattle.ring.specs.Run.{Tracked, at, run, step, wordsRun}
 use Rattle.player.specs.declared.desk.Desk.{Desk}
 use Rattle.player.specs.Desks.{countAt, firstAt, noSession, sessionAt}
 use Rattle.player.specs.Play.{opening}

@@ -1,6 +1,5 @@
 -- The table of paper 01, "The ring program": the eleven replies by computing, over stores and rows of zeros. Assumes nothing.
-use Prim.Native.Nat.{ℕ}
-use mathlib.Core.List.{List, [], _++_, _∷_, map}
+use mathlib.Core.List.{List, [], _∷_, map}
 use mathlib.Core.Path.{_≡_, refl}
 use lib.Count.{trailingZeros}
 use lib.ListN.{replicate}

@@ -1,12 +1,11 @@
 -- The lines of waiting frames: a frame put behind, frames put behind, the oldest taken. Assumes nothing.
 use Prim.Native.Nat.{ℕ, suc, zero, _%_, _*_, _+_, _-_, _<_, _≤_}
 use mathlib.Core.List.{List, List·Memᴰ, [], _++_, _∷_, append-assoc, append-nil, map}
-use mathlib.Core.Logic.{_⊎_, inl, inr, ⊎-elim}
+use mathlib.Core.Logic.{⊎-elim}
 use mathlib.Core.Path.{_∙_, _≡_, ap, refl, subst, sym}
 use native.Mathlib.Nat.{add-assoc, add-zero}
-use native.Mathlib.Numerals.{add-one}
 use native.Mathlib.Omega.{arith}
-use lib.ListN.{List·getD-append, drop, getD, length, length-append, take}
+use lib.ListN.{List·getD-append, getD, length, length-append, take}
 use lib.Seq.{getD-append-seam, length-sets, sets, take-length, take-suc}
 use Rattle.causal.specs.Lists.{part}
 use Rattle.causal.proofs.Lists.{part-sets-after, part-sets-before, part-sets-whole}

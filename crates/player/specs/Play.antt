@@ -1,7 +1,7 @@
 -- What a line of a script does to a ring of three offices with 64 plots, and what it is replied. Paper 01, "The ring program". Assumes nothing.
 use Prim.Native.Nat.{ℕ, suc, zero}
 use mathlib.Core.Bool.{Bool, cond, not}
-use mathlib.Core.List.{List, [], _++_, _∷_}
+use mathlib.Core.List.{List, [], _∷_}
 use lib.Dec.{leb, ltb}
 use lib.ListN.{getD, length, set}
 use Rattle.causal.specs.Tests.{allBelow, both}

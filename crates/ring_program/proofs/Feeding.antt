@@ -1,13 +1,13 @@
 -- Bytes fed one after another. Assumes nothing.
-use Prim.Native.Nat.{ℕ, suc, zero, _+_, _-_, _<_, _≤_}
+use Prim.Native.Nat.{ℕ, suc, _+_, _-_, _<_, _≤_}
 use mathlib.Core.List.{List, [], _++_, _∷_, append-assoc, append-nil}
 use mathlib.Core.Path.{_∙_, _≡_, ap, refl, subst, sym}
-use mathlib.Core.Bool.{Bool, true, false}
+use mathlib.Core.Bool.{true, false}
 use borrow.Author.Tests.{eqb-false, eqb-true}
 use native.Mathlib.Nat.{add-zero, zero-add}
 use native.Mathlib.Omega.{arith}
 use lib.ListN.{drop, getD, length, length-append, take}
-use lib.Seq.{length-sets, sets, take-length}
+use lib.Seq.{sets, take-length}
 use Rattle.causal.specs.Lists.{part}
 use Rattle.causal.proofs.Lists.{part-add, part-cons, sets-append}
 use Rattle.script.specs.Lines.{lineOf}

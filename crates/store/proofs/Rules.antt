@@ -7,12 +7,12 @@ use mathlib.Core.List.{List}
 use native.Mathlib.Omega.{arith}
 use lib.Dec.{ltb, leb, eqb}
 use lib.ListN.{length, getD}
-use borrow.Author.Tests.{ltb-true, leb-true, lt-leb, not-true, not-false}
+use borrow.Author.Tests.{eqb-true, ltb-true, leb-true, lt-leb, not-true, not-false}
 use Rattle.causal.specs.Tests.{both, implies, allBelow}
 use Rattle.causal.specs.Lists.{part}
-use Rattle.causal.specs.Sets.{bit, has, isIn, subsetOf}
-use Rattle.causal.proofs.Tests.{not-so, false-true, both-false, both-true, all-none, all-more, all-fails, all-at, all-ext, all-intro, implies-elim, both-one}
-use Rattle.causal.proofs.Sets.{is-in, has-in, has-lt, subset-sound}
+use Rattle.causal.specs.Sets.{bit, has, isEmpty, isIn, subsetOf}
+use Rattle.causal.proofs.Tests.{not-so, false-true, both-false, both-intro, both-true, all-none, all-more, all-fails, all-at, all-ext, all-intro, implies-elim, both-one}
+use Rattle.causal.proofs.Sets.{empty-out, is-in, has-in, has-lt, subset-sound}
 use Rattle.causal.proofs.Lists.{part-length}
 use Rattle.causal.proofs.Walk.{Passed, Next, fold-next, fold-end, has-word}
 use Rattle.frame.specs.declared.entry.Entry.{Entry}
@@ -128,6 +128,20 @@ content-is ws held visible h v x e =
   where
     whole : both (subsetOf (part ws 11 8) (part ws 3 8)) (both (allBelow 256 (heldOk (officeOf ws))) (allBelow 31 (gapless (officeOf ws)))) ≡ soundOffice (officeOf ws)
     whole = refl
+
+-- a store that holds nothing keeps the rules of held slots and of own serials
+pub empty-content : (ws held visible : List ℕ) → getD ws 1 0 < 8 → isEmpty held ≡ true → subsetOf visible held ≡ true
+    → true ≡ both (subsetOf visible held) (both (allBelow 256 (slotOk ws (getD ws 0 0) (getD ws 2 0) held visible)) (noGap (getD held (getD ws 1 0) 0)))
+unfolding slotOk implies isEmpty noGap allBelow both bit
+empty-content ws held visible l e part-of = sym (both-intro _ _ part-of (both-intro _ _ slots gap))
+  where
+    slots : allBelow 256 (slotOk ws (getD ws 0 0) (getD ws 2 0) held visible) ≡ true
+    slots =
+        all-intro (slotOk ws (getD ws 0 0) (getD ws 2 0) held visible) 256
+        (λ k m. ap (λ (b : Bool). implies b (both (ltb k (32 * getD ws 0 0)) (fits (getD ws 0 0) (getD ws 2 0) (entryAt ws k) k held visible))) (empty-out held e k m))
+
+    gap : noGap (getD held (getD ws 1 0) 0) ≡ true
+    gap = ap noGap (eqb-true (getD held (getD ws 1 0) 0) 0 (all-at (λ i. eqb (getD held i 0) 0) 8 e (getD ws 1 0) l))
 
 -- ---- the store
 

@@ -75,7 +75,7 @@ fn slots_ok(store: &[u32], n: u32, p: u32, held: [u32; 8], visible: [u32; 8]) ->
     true
 }
 
-// What is visible is held, the held slots keep the rules, and the own serials have no gap.
+// What is visible is held, the held slots keep the rules, and the own serials have no gap. Nothing held, nothing to ask.
 fn content_ok(store: &[u32]) -> bool
     requires { ⌜ Laid (now store) ⌝ }
     ensures { λ r. ⌜ r ≡ soundOffice (officeOf (now (store .entry))) ⌝ }
@@ -84,6 +84,9 @@ fn content_ok(store: &[u32]) -> bool
     let visible = layout::set_at(store, 11);
     if !causal::set::subset(visible, held) {
         return false;
+    }
+    if causal::set::is_empty(held) {
+        return true;
     }
     if !slots_ok(store, store[0], store[2], held, visible) {
         return false;

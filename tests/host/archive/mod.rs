@@ -2,5 +2,6 @@
 #![allow(dead_code)]
 
 pub mod frames;
+pub mod lent;
 pub mod office;
 pub mod tokens;

@@ -1,6 +1,6 @@
+use mathlib.Core.Path.{ap, _∙_}
+use Rattle.causal.specs.Sets.{isEmpty}
 use Rattle.causal.proofs.Sets.{subset-left}
-use mathlib.Core.Path.{refl}
-use Rattle.causal.specs.Sets.{subsetOf, minus}
 use borrow.Author.Needs.{needs}
 use Rattle.causal.proofs.set.subset.Statement.{statement}
 use Rattle.causal.proofs.set.subset.Tie as tie
@@ -8,44 +8,13 @@ use Rattle.causal.proofs.set.subset.Tie as tie
 without-requires : tie.Need-without-requires
 without-requires c κs = search needs
 
-array-read-result : tie.Need-array-read-result
-array-read-result c = search needs
-
-array-read-result-2 : tie.Need-array-read-result-2
-array-read-result-2 c = search needs
-
-array-read-result-3 : tie.Need-array-read-result-3
-array-read-result-3 c = search needs
-
-array-read-result-4 : tie.Need-array-read-result-4
-array-read-result-4 c = search needs
-
-array-read-result-5 : tie.Need-array-read-result-5
-array-read-result-5 c = search needs
-
-array-read-result-6 : tie.Need-array-read-result-6
-array-read-result-6 c = search needs
-
-array-read-result-7 : tie.Need-array-read-result-7
-array-read-result-7 c = search needs
-
-array-read-result-8 : tie.Need-array-read-result-8
-array-read-result-8 c = search needs
+is-empty-requires : tie.Need-is-empty-requires
+is-empty-requires c κs = search needs
 
 returns : tie.Need-returns
-returns c = subset-left (c .before .args .a) (c .before .args .b) (c .without .result) (c .without .ensures)
+returns c = c .is-empty .ensures ∙ ap isEmpty (c .before .without .ensures) ∙ subset-left (c .before .before .args .a) (c .before .before .args .b)
 
 pub subset-spec : {M : Type 1} → statement M
 subset-spec =
     tie.close
-    (tie.spec
-    without-requires
-    array-read-result
-    array-read-result-2
-    array-read-result-3
-    array-read-result-4
-    array-read-result-5
-    array-read-result-6
-    array-read-result-7
-    array-read-result-8
-    returns)
+    (tie.spec without-requires is-empty-requires returns)

@@ -1,7 +1,6 @@
 use native.Mathlib.Omega.{arith}
 use Rattle.causal.proofs.Chain.{chain}
 use Rattle.frame.specs.Entries.{boundsOk}
-use borrow.Author.Needs.{needs}
 use Rattle.frame.proofs.entry.bounds_ok.Statement.{statement}
 use Rattle.frame.proofs.entry.bounds_ok.Tie as tie
 

@@ -1,7 +1,6 @@
 use native.Mathlib.Omega.{arith}
 use Rattle.causal.proofs.Chain.{chain}
 use Rattle.frame.specs.Frames.{ringOk}
-use borrow.Author.Needs.{needs}
 use Rattle.frame.proofs.entry.ring_ok.Statement.{statement}
 use Rattle.frame.proofs.entry.ring_ok.Tie as tie
 

@@ -1,7 +1,5 @@
-use Prim.Native.Nat.{ℕ, _+_, _-_, _*_, _/_, _%_, _≤_, _<_}
+use Prim.Native.Nat.{_/_, _%_}
 use Rattle.frame.specs.Words.{payAt}
-use native.Mathlib.Omega.{arith}
-use mathlib.Core.Path.{_≡_, refl, sym, ap, _∙_}
 use Rattle.frame.specs.Reading.{frameAt}
 use borrow.Author.Needs.{needs}
 use Rattle.frame.proofs.reader.frame_of.Statement.{statement}

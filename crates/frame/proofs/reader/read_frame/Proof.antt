@@ -10,8 +10,8 @@ use Rattle.frame.specs.Reading.{ascends, sumOk}
 use Rattle.frame.proofs.Entries.{ring-facts}
 use Rattle.frame.proofs.Reading.{shape-facts, deps-between, frame-at, read-refused, settings-refused, shape-refused, kinds-refused, ids-refused, content-refused, accepted}
 use native.Mathlib.Omega.{arith}
-use Prim.Native.Nat.{ℕ, _+_, _-_, _*_, _/_, _%_, _≤_, _<_}
-use mathlib.Core.Path.{_≡_, refl, sym, ap, _∙_}
+use Prim.Native.Nat.{_+_, _-_, _≤_}
+use mathlib.Core.Path.{sym, ap, _∙_}
 use borrow.Author.Needs.{needs}
 use Rattle.frame.proofs.reader.read_frame.Statement.{statement}
 use Rattle.frame.proofs.reader.read_frame.Tie as tie

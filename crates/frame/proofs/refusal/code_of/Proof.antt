@@ -1,4 +1,4 @@
-use mathlib.Core.Path.{_≡_, refl, sym, ap, _∙_}
+use mathlib.Core.Path.{sym, ap, _∙_}
 use Rattle.frame.specs.Refusals.{codeOf}
 use borrow.Author.Needs.{needs}
 use Rattle.frame.proofs.refusal.code_of.Statement.{statement}

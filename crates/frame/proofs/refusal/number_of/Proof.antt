@@ -1,5 +1,4 @@
-use mathlib.Core.Path.{_≡_, refl, sym, ap, _∙_}
-use native.Mathlib.Omega.{arith}
+use mathlib.Core.Path.{sym, ap}
 use Rattle.frame.specs.Refusals.{numberOf}
 use borrow.Author.Needs.{needs}
 use Rattle.frame.proofs.refusal.number_of.Statement.{statement}

@@ -1,8 +1,7 @@
-use Prim.Native.Nat.{ℕ, _+_, _-_, _*_, _/_, _%_, _≤_, _<_}
-use mathlib.Core.Path.{_≡_, refl, sym, ap, _∙_}
+use Prim.Native.Nat.{_≤_}
+use mathlib.Core.Path.{sym}
 use native.Mathlib.Omega.{arith}
 use Rattle.frame.specs.Refusals.{numberOf}
-use borrow.Author.Needs.{needs}
 use Rattle.frame.proofs.refusal.refusal_of.Statement.{statement}
 use Rattle.frame.proofs.refusal.refusal_of.Tie as tie
 

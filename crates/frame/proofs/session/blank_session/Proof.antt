@@ -1,4 +1,3 @@
-use Prim.Native.Nat.{_-_}
 use Rattle.causal.specs.Lists.{zeros}
 use Rattle.frame.specs.Sessions.{sessionOf, filled}
 use lib.ListN.{replicate}

@@ -1,5 +1,4 @@
 use native.Mathlib.Omega.{arith}
-use Prim.Native.Nat.{_-_}
 use mathlib.Core.Path.{ap, _∙_}
 use Rattle.causal.proofs.Chain.{chain}
 use Rattle.causal.specs.Sets.{isIn, subsetOf}

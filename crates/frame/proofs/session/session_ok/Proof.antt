@@ -1,55 +1,35 @@
-use native.Mathlib.Omega.{arith}
-use Prim.Native.Nat.{_-_}
-use mathlib.Core.Path.{_≡_, _∙_}
-use mathlib.Core.Bool.{true, false}
-use Rattle.causal.proofs.Chain.{chain}
-use Rattle.causal.specs.Tests.{both}
-use Rattle.causal.specs.Lists.{tab, zeros}
-use Rattle.frame.specs.Sessions.{ownOk}
+use mathlib.Core.Path.{_∙_, sym}
+use borrow.Author.Tests.{not-false, not-true}
 use Rattle.frame.proofs.OwnTurns as T
-use lib.Dec.{leb, eqb}
-use Rattle.frame.specs.Entries.{clockOk, idsOk}
 use borrow.Author.Needs.{needs}
 use Rattle.frame.proofs.session.session_ok.Statement.{statement}
 use Rattle.frame.proofs.session.session_ok.Tie as tie
 
+head-ok-requires : tie.Need-head-ok-requires
+head-ok-requires c κs = search needs
+
 returns : tie.Need-returns
-returns c = let z = c .before .before .args in let x = z .s in let g : false ≡ both (eqb (x .offices) (z .offices)) (both (leb (x .count) 16) (both (clockOk (z .offices) (x .clock)) (both (idsOk (z .offices) (x .read)) (ownOk (z .offices) (z .plots) (x .read) zeros (tab (x .count) (T.ownsOf (x .own))))))) = search (chain, arith) depth 9 in g ∙ T.session-is (z .offices) (z .plots) x
+returns c =
+    let z = c .before .before .before .before .args in
+    sym (T.head-refused (z .offices) (z .plots) (z .s) (sym (c .before .head-ok .ensures) ∙ not-true _ (c .if1 .taken)))
 
 returns-2 : tie.Need-returns-2
-returns-2 c = let z = c .before .before .before .args in let x = z .s in let g : false ≡ both (eqb (x .offices) (z .offices)) (both (leb (x .count) 16) (both (clockOk (z .offices) (x .clock)) (both (idsOk (z .offices) (x .read)) (ownOk (z .offices) (z .plots) (x .read) zeros (tab (x .count) (T.ownsOf (x .own))))))) = search (chain, arith) depth 9 in g ∙ T.session-is (z .offices) (z .plots) x
-
-clock-ok-requires : tie.Need-clock-ok-requires
-clock-ok-requires c κs = search needs
-
-returns-3 : tie.Need-returns-3
-returns-3 c = let z = c .before .before .before .before .before .before .args in let x = z .s in let g : false ≡ both (eqb (x .offices) (z .offices)) (both (leb (x .count) 16) (both (clockOk (z .offices) (x .clock)) (both (idsOk (z .offices) (x .read)) (ownOk (z .offices) (z .plots) (x .read) zeros (tab (x .count) (T.ownsOf (x .own))))))) = search (chain, arith) depth 9 in g ∙ T.session-is (z .offices) (z .plots) x
-
-ids-ok-requires : tie.Need-ids-ok-requires
-ids-ok-requires c κs = search needs
-
-returns-4 : tie.Need-returns-4
-returns-4 c = let z = c .before .before .before .before .before .before .before .before .before .args in let x = z .s in let g : false ≡ both (eqb (x .offices) (z .offices)) (both (leb (x .count) 16) (both (clockOk (z .offices) (x .clock)) (both (idsOk (z .offices) (x .read)) (ownOk (z .offices) (z .plots) (x .read) zeros (tab (x .count) (T.ownsOf (x .own))))))) = search (chain, arith) depth 9 in g ∙ T.session-is (z .offices) (z .plots) x
-
-returns-5 : tie.Need-returns-5
-returns-5 c = let z = c .before .before .before .before .before .before .before .before .before .before .args in let x = z .s in let k = T.none-ok (z .offices) (z .plots) (x .read) (T.ownsOf (x .own)) (x .count) (c .if5 .taken) in let g : true ≡ both (eqb (x .offices) (z .offices)) (both (leb (x .count) 16) (both (clockOk (z .offices) (x .clock)) (both (idsOk (z .offices) (x .read)) (ownOk (z .offices) (z .plots) (x .read) zeros (tab (x .count) (T.ownsOf (x .own))))))) = search (chain, arith) depth 9 in g ∙ T.session-is (z .offices) (z .plots) x
+returns-2 c =
+    let z = c .before .before .before .before .before .args in
+    let x = z .s in
+    T.head-then (z .offices) (z .plots) x _ (sym (c .before .before .head-ok .ensures) ∙ not-false _ (c .before .if1 .left))
+    (T.none-ok (z .offices) (z .plots) (x .read) (T.ownsOf (x .own)) (x .count) (c .if2 .taken))
 
 owns-ok-requires : tie.Need-owns-ok-requires
-owns-ok-requires c κs = search needs
+owns-ok-requires c κs =
+    let z = c .before .before .before .before .before .before in
+    (z .pre, T.head-few _ _ _ _ _ (sym (c .before .before .before .head-ok .ensures) ∙ not-false _ (c .before .before .if1 .left)))
 
-returns-6 : tie.Need-returns-6
-returns-6 c = let z = c .before .before .before .before .before .before .before .before .before .before .before .before .args in let x = z .s in let g : c .owns-ok .result ≡ both (eqb (x .offices) (z .offices)) (both (leb (x .count) 16) (both (clockOk (z .offices) (x .clock)) (both (idsOk (z .offices) (x .read)) (ownOk (z .offices) (z .plots) (x .read) zeros (tab (x .count) (T.ownsOf (x .own))))))) = search (chain, arith) depth 9 in g ∙ T.session-is (z .offices) (z .plots) x
+returns-3 : tie.Need-returns-3
+returns-3 c =
+    let z = c .before .before .before .before .before .before .before .args in
+    T.head-then (z .offices) (z .plots) (z .s) _ (sym (c .before .before .before .before .head-ok .ensures) ∙ not-false _ (c .before .before .before .if1 .left)) (c .owns-ok .ensures)
 
 pub session-ok-spec : {M : Type 1} → statement M
 session-ok-spec =
-    tie.close
-    (tie.spec
-    returns
-    returns-2
-    clock-ok-requires
-    returns-3
-    ids-ok-requires
-    returns-4
-    returns-5
-    owns-ok-requires
-    returns-6)
+    tie.close (tie.spec head-ok-requires returns returns-2 owns-ok-requires returns-3)

@@ -3,13 +3,9 @@ use mathlib.Core.Path.{_≡_, sym, ap, _∙_}
 use lib.ListN.{length}
 use Rattle.frame.specs.Frames.{frameWords}
 use Rattle.frame.specs.Tokens.{ownRows}
-use Prim.Native.Nat.{_-_, _≤_}
-use mathlib.Core.Path.{_≡_, sym, ap}
 use native.Mathlib.Omega.{arith}
-use lib.ListN.{length}
 use Rattle.causal.specs.Lists.{tab}
 use Rattle.frame.specs.declared.entry.Frame.{Frame}
-use Rattle.frame.specs.Tokens.{ownRows}
 use Rattle.frame.proofs.OwnTurns.{ownsOf}
 use Rattle.frame.proofs.TokenTurns as T
 use borrow.Author.Needs.{needs}

@@ -6,15 +6,9 @@ use lib.ListN.{take, drop}
 use Rattle.frame.specs.Tokens.{frameLength}
 use Rattle.frame.specs.TokenReading.{ownFrameOk}
 use Rattle.frame.specs.Frames.{frameOf}
-use Prim.Native.Nat.{_-_}
-use mathlib.Core.Path.{_≡_, sym, ap, _∙_}
-use mathlib.Core.Bool.{true}
 use native.Mathlib.Omega.{arith}
-use lib.ListN.{drop}
 use borrow.Author.Tests.{not-true, not-false}
 use Rattle.causal.proofs.Tests.{false-true}
-use Rattle.frame.specs.Tokens.{frameLength}
-use Rattle.frame.specs.TokenReading.{ownFrameOk}
 use Rattle.frame.proofs.TokenTurns as T
 use borrow.Author.Needs.{needs}
 use Rattle.frame.proofs.token.owns_from.Statement.{statement}

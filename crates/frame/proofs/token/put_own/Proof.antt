@@ -7,8 +7,6 @@ use Rattle.frame.specs.Refusals.{replyOf}
 use Rattle.frame.specs.Frames.{framed}
 use Rattle.frame.proofs.TokenTurns as T
 use Rattle.frame.specs.Calls.{writeFrame, writeFrameRow}
-use Prim.Native.Nat.{_-_}
-use Rattle.frame.specs.Frames.{framed}
 use borrow.Author.Needs.{needs}
 use Rattle.frame.proofs.token.put_own.Statement.{statement}
 use Rattle.frame.proofs.token.put_own.Tie as tie

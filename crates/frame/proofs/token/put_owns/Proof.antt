@@ -8,12 +8,7 @@ use lib.Seq.{sets, length-sets}
 use Rattle.frame.specs.Frames.{framed, frameWords}
 use Rattle.frame.specs.Tokens.{ownRows}
 use Rattle.frame.proofs.TokenTurns as T
-use Prim.Native.Nat.{_+_, _-_, _≤_}
-use mathlib.Core.Path.{_≡_}
-use lib.ListN.{length}
-use lib.Seq.{sets}
 use Rattle.causal.specs.Lists.{tab}
-use Rattle.frame.specs.Tokens.{ownRows}
 use Rattle.frame.proofs.OwnTurns.{ownsOf}
 use borrow.Author.Needs.{needs}
 use Rattle.frame.proofs.token.put_owns.Statement.{statement}

@@ -1,4 +1,3 @@
-use Prim.Native.Nat.{_-_}
 use mathlib.Core.Path.{refl}
 use Rattle.frame.specs.Refusals.{codeOf}
 use borrow.Author.Needs.{needs}

@@ -1,15 +1,9 @@
-use Prim.Native.Nat.{_-_}
 use mathlib.Core.Path.{sym, _∙_}
 use Rattle.frame.specs.Refusals.{numberOf, replyOf}
 use Rattle.frame.specs.Sessions.{contentOf}
 use Rattle.frame.proofs.Entries.{ring-facts}
-use Prim.Native.Nat.{_-_}
-use mathlib.Core.Path.{sym, _∙_}
 use native.Mathlib.Omega.{arith}
 use borrow.Author.Tests.{not-true, not-false}
-use Rattle.frame.specs.Refusals.{numberOf, replyOf}
-use Rattle.frame.specs.Sessions.{contentOf}
-use Rattle.frame.proofs.Entries.{ring-facts}
 use Rattle.frame.proofs.TokenTurns as T
 use borrow.Author.Needs.{needs}
 use Rattle.frame.proofs.token.write_token.Statement.{statement}

@@ -1,14 +1,11 @@
 use lib.ListN.{length, getD, take}
 use Rattle.frame.proofs.Words.{total-take, wrapped}
-use lib.ListN.{length, take}
 use lib.Seq.{take-all}
 use mathlib.Core.List.{List}
 use native.Mathlib.Omega.{arith}
-use Prim.Native.Nat.{ℕ, _+_, _-_, _*_, _/_, _%_, _≤_, _<_}
+use Prim.Native.Nat.{ℕ, _-_, _%_, _≤_}
 use mathlib.Core.Path.{_≡_, refl, sym, ap, _∙_}
-use lib.ListN.{length, getD, take, drop, set}
 use Rattle.frame.specs.Words.{total}
-use Rattle.frame.proofs.Words.{total-take}
 use borrow.Author.Needs.{needs}
 use Rattle.frame.proofs.word.check_sum.Statement.{statement}
 use Rattle.frame.proofs.word.check_sum.Tie as tie

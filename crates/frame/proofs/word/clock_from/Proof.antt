@@ -3,9 +3,8 @@ use mathlib.Core.List.{List}
 use native.Mathlib.Nat.{zero-add}
 use Rattle.frame.proofs.Turns.{clock-whole}
 use native.Mathlib.Omega.{arith}
-use Prim.Native.Nat.{ℕ, _+_, _-_, _*_, _/_, _%_, _≤_, _<_}
+use Prim.Native.Nat.{ℕ, _+_, _-_, _≤_}
 use mathlib.Core.Path.{_≡_, refl, sym, ap, _∙_}
-use lib.ListN.{length, getD, take, drop, set}
 use lib.Seq.{sets}
 use Rattle.causal.specs.Lists.{tab, zeros}
 use Rattle.causal.proofs.Lists.{sets-tab}

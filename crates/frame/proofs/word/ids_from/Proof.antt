@@ -5,9 +5,8 @@ use Rattle.causal.proofs.Tests.{false-true}
 use Rattle.frame.proofs.Words.{id-facts}
 use Rattle.frame.proofs.Turns.{ascends-next, ascends-stops, ascends-ends, ids-next}
 use native.Mathlib.Omega.{arith}
-use Prim.Native.Nat.{ℕ, _+_, _-_, _*_, _/_, _%_, _≤_, _<_}
+use Prim.Native.Nat.{_-_, _≤_}
 use mathlib.Core.Path.{_≡_, refl, sym, ap, _∙_}
-use lib.ListN.{length, getD, take, drop, set}
 use Rattle.frame.specs.Words.{idsFrom}
 use Rattle.frame.specs.Reading.{ascends}
 use borrow.Author.Needs.{needs}

@@ -1,13 +1,10 @@
 use mathlib.Core.Logic.{_⊎_, inl, inr, ⊎-elim}
-use mathlib.Core.Path.{_≡_, refl, sym, ap, _∙_}
-use Prim.Native.Nat.{ℕ, _+_, _-_, _*_, _/_, _%_, _≤_, _<_}
-use mathlib.Core.Logic.{inl, inr, ⊎-elim}
+use mathlib.Core.Path.{_≡_, refl}
+use Prim.Native.Nat.{_/_}
 use Rattle.frame.specs.Words.{isKind}
 use Rattle.frame.proofs.Words.{only-kind, field-kind, no-kind}
 use native.Mathlib.Omega.{arith}
-use Rattle.frame.specs.Words.{kindIs, isKind}
 use Rattle.causal.specs.Tests.{both, either}
-use borrow.Author.Needs.{needs}
 use Rattle.frame.proofs.word.kind_is.Statement.{statement}
 use Rattle.frame.proofs.word.kind_is.Tie as tie
 

@@ -2,10 +2,8 @@ use lib.ListN.{length, set, length-set}
 use lib.Seq.{sets}
 use mathlib.Core.List.{List}
 use native.Mathlib.Omega.{arith}
-use Prim.Native.Nat.{ℕ, _+_, _-_, _*_, _/_, _%_, _≤_, _<_}
-use mathlib.Core.Path.{_≡_, refl, sym, ap, _∙_}
-use lib.ListN.{length, getD, take, drop, set}
-use lib.Seq.{sets, length-sets}
+use Prim.Native.Nat.{ℕ, _+_, _-_, _≤_}
+use mathlib.Core.Path.{_≡_, refl, ap, _∙_}
 use Rattle.causal.specs.Lists.{tab}
 use Rattle.causal.proofs.Lists.{sets-tab}
 use Rattle.frame.specs.Words.{clockWord, clockWords}

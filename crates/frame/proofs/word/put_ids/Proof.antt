@@ -4,9 +4,8 @@ use native.Mathlib.Nat.{add-zero}
 use Rattle.causal.proofs.Lists.{sets-append}
 use Rattle.frame.proofs.Turns.{ids-word, words-room}
 use native.Mathlib.Omega.{arith}
-use Prim.Native.Nat.{ℕ, _+_, _-_, _*_, _/_, _%_, _≤_, _<_}
+use Prim.Native.Nat.{ℕ, _+_, _-_, _*_, _≤_}
 use mathlib.Core.Path.{_≡_, refl, sym, ap, _∙_}
-use lib.ListN.{length, getD, take, drop, set}
 use lib.Seq.{sets, length-sets}
 use Rattle.frame.specs.Words.{idWordsTo, idWords, idWordsIn}
 use borrow.Author.Needs.{needs}

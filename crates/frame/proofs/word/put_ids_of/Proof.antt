@@ -6,11 +6,9 @@ use native.Mathlib.Nat.{add-zero}
 use Rattle.causal.proofs.Lists.{sets-append}
 use Rattle.frame.proofs.Turns.{ids-step, ids-room, ids-end}
 use native.Mathlib.Omega.{arith}
-use Prim.Native.Nat.{ℕ, _+_, _-_, _*_, _/_, _%_, _≤_, _<_}
+use Prim.Native.Nat.{ℕ, _+_, _*_}
 use mathlib.Core.Path.{_≡_, refl, sym, ap, _∙_}
-use lib.ListN.{length, getD, take, drop, set}
-use lib.Seq.{sets, length-sets}
-use Rattle.causal.proofs.Walk.{Passed, Next, next, passed-none}
+use Rattle.causal.proofs.Walk.{Passed, next, passed-none}
 use Rattle.frame.specs.Words.{idWordsIn}
 use borrow.Author.Needs.{needs}
 use Rattle.frame.proofs.word.put_ids_of.Statement.{statement}

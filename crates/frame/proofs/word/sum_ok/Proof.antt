@@ -1,4 +1,4 @@
-use Prim.Native.Nat.{ℕ, _+_, _-_, _*_, _/_, _%_, _≤_, _<_}
+use Prim.Native.Nat.{_-_}
 use lib.Dec.{eqb}
 use lib.ListN.{length, getD}
 use lib.Seq.{length-take-le}
@@ -7,7 +7,7 @@ use Rattle.causal.specs.Tests.{both}
 use Rattle.frame.specs.Words.{payload}
 use native.Mathlib.Omega.{arith}
 use Rattle.causal.proofs.Chain.{chain}
-use mathlib.Core.Path.{_≡_, refl, sym, ap, _∙_}
+use mathlib.Core.Path.{sym, ap, _∙_}
 use Rattle.frame.specs.Reading.{sumOk}
 use borrow.Author.Needs.{needs}
 use Rattle.frame.proofs.word.sum_ok.Statement.{statement}

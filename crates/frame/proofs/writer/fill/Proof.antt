@@ -3,8 +3,8 @@ use Rattle.frame.proofs.Turns.{frame-filled}
 use Rattle.frame.specs.Words.{idWords}
 use Rattle.frame.specs.Frames.{headWord}
 use native.Mathlib.Omega.{arith}
-use Prim.Native.Nat.{ℕ, _+_, _-_, _*_, _/_, _%_, _≤_, _<_}
-use mathlib.Core.Path.{_≡_, refl, sym, ap, _∙_}
+use Prim.Native.Nat.{_-_}
+use mathlib.Core.Path.{_≡_, ap, _∙_}
 use Rattle.frame.proofs.Entries.{frame-facts, entry-facts, clock-facts}
 use Rattle.frame.proofs.Frames.{head-fits, length-frame}
 use borrow.Author.Needs.{needs}

@@ -1,5 +1,5 @@
-use mathlib.Core.Path.{_≡_, refl, sym, ap, _∙_}
-use Rattle.frame.specs.Refusals.{Reply, replyOf}
+use mathlib.Core.Path.{sym, ap, _∙_}
+use Rattle.frame.specs.Refusals.{replyOf}
 use Rattle.frame.specs.declared.refusal.Written.{Written}
 use borrow.Author.Needs.{needs}
 use Rattle.host.proofs.answer.words_answer.Statement.{statement}

@@ -1,8 +1,7 @@
 use borrow.Author.Tests.{not-true, not-false}
 use Rattle.host.proofs.Bytes.{bytes-1, bytes-odd, bytes-long, bytes-words}
 use native.Mathlib.Omega.{arith}
-use Prim.Native.Nat.{ℕ, _+_, _-_, _*_, _/_, _%_, _≤_, _<_}
-use mathlib.Core.Path.{_≡_, refl, sym, ap, _∙_}
+use mathlib.Core.Path.{sym, _∙_}
 use borrow.Author.Needs.{needs}
 use Rattle.host.proofs.frames.burial_check_frame.Statement.{statement}
 use Rattle.host.proofs.frames.burial_check_frame.Tie as tie

@@ -1,7 +1,5 @@
 use Rattle.frame.specs.Refusals.{Reply}
-use native.Mathlib.Omega.{arith}
-use Prim.Native.Nat.{ℕ, _+_, _-_, _*_, _/_, _%_, _≤_, _<_}
-use mathlib.Core.Path.{_≡_, refl, sym, ap, _∙_}
+use mathlib.Core.Path.{ap, _∙_}
 use borrow.Author.Needs.{needs}
 use Rattle.host.proofs.frames.burial_write_frame.Statement.{statement}
 use Rattle.host.proofs.frames.burial_write_frame.Tie as tie

@@ -6,10 +6,8 @@ use Rattle.causal.proofs.Lists.{sets-tab}
 use Rattle.frame.specs.Calls.{readFrameCode}
 use Rattle.host.proofs.Bytes.{filled}
 use native.Mathlib.Omega.{arith}
-use Prim.Native.Nat.{ℕ, _+_, _-_, _*_, _/_, _%_, _≤_, _<_}
+use Prim.Native.Nat.{ℕ, _-_, _≤_}
 use mathlib.Core.Path.{_≡_, refl, sym, ap, _∙_}
-use lib.ListN.{replicate}
-use lib.Seq.{sets}
 use Rattle.causal.specs.Lists.{tab}
 use Rattle.host.specs.Bytes.{wordAt}
 use borrow.Author.Needs.{needs}

@@ -1,4 +1,4 @@
-use mathlib.Core.Path.{_≡_, refl, sym, ap, _∙_}
+use mathlib.Core.Path.{ap, _∙_}
 use Rattle.frame.specs.Refusals.{Reply}
 use borrow.Author.Needs.{needs}
 use Rattle.host.proofs.offices.burial_store_need.Statement.{statement}

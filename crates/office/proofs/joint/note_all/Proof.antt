@@ -1,17 +1,17 @@
 use native.Mathlib.Omega.{arith}
 use mathlib.Core.Path.{_≡_, refl, ap, _∙_}
 use Prim.Native.Nat.{ℕ, _-_, _≤_}
-use Rattle.office.specs.Decide.{foundAmong, withSeen, seenOf, seenTo}
+use Rattle.office.specs.Decide.{foundAmong, seenTo}
 use Rattle.office.proofs.JointReads.{seen-more}
 use borrow.Author.Needs.{needs}
 use Rattle.office.proofs.joint.note_all.Statement.{statement}
 use Rattle.office.proofs.joint.note_all.Tie as tie
 
 abbrev Inv-loop : tie.InvT-loop
-Inv-loop store n s places seen₀ i₀ seen i = (i ≤ n) × (seen ≡ seenTo (foundAmong store places) i seen₀)
+Inv-loop store n places seen₀ i₀ seen i = (i ≤ n) × (seen ≡ seenTo (foundAmong store places) i seen₀)
 
 abbrev μ-loop : tie.MeasureT-loop
-μ-loop store n s places seen₀ i₀ seen i = n - i
+μ-loop store n places seen₀ i₀ seen i = n - i
 
 loop-holds : tie.Need-loop-holds Inv-loop μ-loop
 unfolding seenTo
@@ -24,7 +24,7 @@ array-read-note : tie.Need-array-read-note Inv-loop μ-loop
 array-read-note c = search needs
 
 note-requires : tie.Need-note-requires Inv-loop μ-loop
-note-requires c κs = c .before .before .before .before .before .pre .1 (c .before .loop .i) (c .loop-test .taken)
+note-requires c κs = c .before .before .before .pre .1 (c .before .loop .i) (c .loop-test .taken)
 
 add-i : tie.Need-add-i Inv-loop μ-loop
 add-i c = search needs
@@ -35,17 +35,15 @@ loop-less c = search needs
 loop-again : tie.Need-loop-again Inv-loop μ-loop
 unfolding foundAmong
 loop-again c = let l = c .before .before in
-    let z = c .before .before .before .before .before .before in
+    let z = l .before .before in
     (omega arith, seen-more (foundAmong (z .args .store .now) (z .args .t2)) _ _ _ (l .loop .i) (l .loop .inv .1) (c .note .ensures))
 
-with-seen-requires : tie.Need-with-seen-requires Inv-loop μ-loop
-with-seen-requires c κs = search needs
-
 returns : tie.Need-returns Inv-loop μ-loop
-returns c = let l = c .before .before in
-    let z = c .before .before .before .before .before .before in
+returns c =
+    let l = c .before in
+    let z = l .before .before in
     let q : l .loop .i ≡ z .args .n = omega arith in
-    c .with-seen .ensures ∙ ap (withSeen (z .args .s)) (l .loop .inv .1 ∙ ap (λ (i : ℕ). seenTo (foundAmong (z .args .store .now) (z .args .t2)) i (seenOf (z .args .s))) q)
+    l .loop .inv .1 ∙ ap (λ (i : ℕ). seenTo (foundAmong (z .args .store .now) (z .args .t2)) i (z .args .first)) q
 
 pub note-all-spec : {M : Type 1} → statement M
 note-all-spec =
@@ -60,5 +58,4 @@ note-all-spec =
     add-i
     loop-less
     loop-again
-    with-seen-requires
     returns)

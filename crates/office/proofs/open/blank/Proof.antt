@@ -1,15 +1,6 @@
 use Rattle.frame.specs.Sessions.{sessionOf}
-use native.Mathlib.Omega.{arith}
-use Prim.Native.Nat.{ℕ, zero, suc, _+_, _-_, _*_, _^_, _<_, _≤_}
-use mathlib.Core.Path.{_≡_, refl, sym, ap, ap₂, _∙_, subst}
-use mathlib.Core.Bool.{Bool, true, false}
-use mathlib.Core.List.{List, [], _∷_, _++_}
-use lib.ListN.{length, getD, set, take, drop}
-use lib.Seq.{sets, length-sets}
-use borrow.Author.Tests.{not-true, not-false, eq-eqb, ne-eqb, le-leb, lt-leb}
+use mathlib.Core.Path.{ap}
 use Rattle.frame.specs.declared.session.Session.{Session}
-use Rattle.frame.specs.Sessions.{contentOf, sessionOf, filled}
-use Rattle.causal.specs.Lists.{tab}
 use borrow.Author.Needs.{needs}
 use Rattle.office.proofs.open.blank.Statement.{statement}
 use Rattle.office.proofs.open.blank.Tie as tie

@@ -1,61 +1,95 @@
-use Prim.Native.Nat.{ℕ, zero, suc, _+_, _-_, _*_, _^_, _<_, _≤_}
 use native.Mathlib.Omega.{arith}
-use Prim.Native.Nat.{ℕ, zero, suc, _+_, _-_, _*_, _<_, _≤_}
-use mathlib.Core.Path.{_≡_, refl, sym, ap, ap₂, _∙_, subst}
-use mathlib.Core.Bool.{Bool, true, false}
-use mathlib.Core.List.{List, [], _∷_, _++_}
-use lib.ListN.{length, getD, set, take, drop}
+use mathlib.Core.Path.{_≡_, refl, sym, ap, _∙_, subst}
+use mathlib.Core.Bool.{true}
+use mathlib.Core.List.{_++_}
+use lib.ListN.{length, length-append}
 use lib.Seq.{sets, length-sets}
-use borrow.Author.Tests.{not-true, not-false, eq-eqb, ne-eqb}
-use Rattle.office.specs.Steps.{ownAt, ownTo, firstCodes, secondCodes, earlyCode, started, frameIf, framesIn, allFrames, Framed, holdIf, holdsIn, Slots}
-use lib.ListN.{length-append}
 use Rattle.frame.specs.declared.entry.Frame.{Frame}
 use Rattle.frame.specs.Frames.{frameWords, frameOk}
 use Rattle.frame.specs.Calls.{laid}
 use Rattle.frame.proofs.Entries.{frame-facts}
 use Rattle.causal.proofs.Lists.{sets-front}
-use Rattle.office.proofs.Sends.{turn-sets}
+use Rattle.office.specs.Steps.{ownTo, started, framesIn, allFrames}
+use Rattle.office.proofs.Sends.{turn-sets, alone, put-alone}
 use borrow.Author.Needs.{needs}
 use Rattle.office.proofs.send.put_all.Statement.{statement}
 use Rattle.office.proofs.send.put_all.Tie as tie
 
-put-own-requires : tie.Need-put-own-requires
-unfolding allFrames
-put-own-requires c κs = let s = c .before .before in
-    (s .pre .0, s .pre .1, omega (arith, s .pre .3, length-append (framesIn (s .args .held) (s .args .n) (ownTo (s .args .own) (s .args .count))) (frameWords (started (s .args .n) (s .args .e)))))
+-- z: at the start; f: the frame of the new entry is known, g: what it is; a: the frames of the own writes are put
 
 started-requires : tie.Need-started-requires
-started-requires c κs = let s = c .before .before .before .before .before in
-    frame-facts (s .args .n) 64 (started (s .args .n) (s .args .e)) (s .pre .2) .low
+started-requires c κs =
+    let z = c .before in frame-facts (z .args .n) 64 (started (z .args .n) (z .args .e)) (z .pre .2) .low
 
 put-frame-requires : tie.Need-put-frame-requires
-unfolding allFrames
-put-frame-requires c κs = let s = c .before .before .before .before .before .before .before in
-    let z = c .before .before .before .before .put-own .ensures in
-    let g = c .before .started .ensures in
-    let w : length (frameWords (c .before .started .result)) ≡ length (frameWords (started (s .args .n) (s .args .e))) = ap (λ (f : Frame). length (frameWords f)) g in
-    let k : length (c .before .before .before .before .put-own .last .1 .1 .1 .1 .0) ≡ length (s .args .out .now) = ap length (z .1) ∙ simp length-sets in (
-      subst (λ (f : Frame). frameOk (f .offices) 64 f ≡ true) (sym g) (s .pre .2),
-      omega (arith, z .0, s .pre .3, length-append (framesIn (s .args .held) (s .args .n) (ownTo (s .args .own) (s .args .count))) (frameWords (started (s .args .n) (s .args .e)))),
-    )
+put-frame-requires c κs =
+    let f = c .before .before in
+    let z = f .before .before in
+    let g = f .started .ensures in
+    let w = alone (z .args .held) (z .args .n) (z .args .s .own) (z .args .s .count) (z .args .e) (c .before .if1 .taken) (f .started .result) g in
+    (subst (λ (x : Frame). frameOk (x .offices) 64 x ≡ true) (sym g) (z .pre .2), omega (arith, ap length w, z .pre .3))
 
 same-length : tie.Need-same-length
 same-length c = search needs
 
 returns : tie.Need-returns
+returns c =
+    let t = c .before .before .before .before in
+    let f = t .before in
+    let z = f .before .before in
+    let said = c .before .before .put-frame .ensures in
+    put-alone (z .args .held) (z .args .n) (z .args .s .own) (z .args .s .count) (z .args .e) (t .if1 .taken) (f .started .result) (f .started .ensures) (z .args .out .now) _ _ (z .pre .3) (said .0) (said .1)
+
+put-own-requires : tie.Need-put-own-requires
+unfolding allFrames
+put-own-requires c κs =
+    let z = c .before .before .before .before .before in
+    let fs = framesIn (z .args .held) (z .args .n) (ownTo (z .args .s .own) (z .args .s .count)) in
+    (z .pre .0, z .pre .1, omega (arith, z .pre .3, length-append fs (frameWords (started (z .args .n) (z .args .e)))))
+
+put-frame-requires-2 : tie.Need-put-frame-requires-2
+unfolding allFrames
+put-frame-requires-2 c κs =
+    let a = c .before .before .before in
+    let f = a .before .before .before .before in
+    let z = f .before .before in
+    let said = a .put-own .ensures in
+    let g = f .started .ensures in
+    let fs = framesIn (z .args .held) (z .args .n) (ownTo (z .args .s .own) (z .args .s .count)) in
+    let fw = frameWords (started (z .args .n) (z .args .e)) in
+    let w : length (frameWords (f .started .result)) ≡ length fw = ap (λ (x : Frame). length (frameWords x)) g in
+    let k : length (a .put-own .last .1 .1 .1 .1 .0) ≡ length (z .args .out .now) = ap length (said .1) ∙ simp length-sets in
+    (subst (λ (x : Frame). frameOk (x .offices) 64 x ≡ true) (sym g) (z .pre .2), omega (arith, said .0, z .pre .3, length-append fs fw))
+
+same-length-2 : tie.Need-same-length-2
+same-length-2 c = search needs
+
+returns-2 : tie.Need-returns-2
 unfolding allFrames laid
-returns c = let s = c .before .before .before .before .before .before .before .before .before .before in
-    let y = c .before .before .put-frame .ensures in
-    let z = c .before .before .before .before .before .before .before .put-own .ensures in
-    let g = c .before .before .before .before .started .ensures in
-    let fs = framesIn (s .args .held) (s .args .n) (ownTo (s .args .own) (s .args .count)) in
-    let fw = frameWords (started (s .args .n) (s .args .e)) in
-    let w = ap frameWords g in (
-      omega (arith, y .0, z .0, ap length w, length-append fs fw),
-      turn-sets (s .args .out .now) _ _ fs fw (fs ++ fw) _ (z .0) (z .1) (y .1 ∙ ap (λ (l : List ℕ). sets (c .before .before .before .before .before .before .before .put-own .last .1 .1 .1 .1 .0) (c .before .before .before .before .before .before .before .put-own .result) l) w) refl
-          ∙ sets-front (s .args .out .now) (fs ++ fw) (s .pre .3),
+returns-2 c =
+    let a = c .before .before .before .before .before .before in
+    let f = a .before .before .before .before in
+    let z = f .before .before in
+    let out = z .args .out .now in
+    let y = c .before .before .put-frame2 .ensures in
+    let own = a .put-own .ensures in
+    let fs = framesIn (z .args .held) (z .args .n) (ownTo (z .args .s .own) (z .args .s .count)) in
+    let fw = frameWords (started (z .args .n) (z .args .e)) in
+    let w = ap frameWords (f .started .ensures) in
+    let put = y .1 ∙ ap (sets (a .put-own .last .1 .1 .1 .1 .0) (a .put-own .result)) w in (
+      omega (arith, y .0, own .0, ap length w, length-append fs fw),
+      turn-sets out _ _ fs fw (fs ++ fw) _ (own .0) (own .1) put refl ∙ sets-front out (fs ++ fw) (z .pre .3),
     )
 
 pub put-all-spec : {M : Type 1} → statement M
 put-all-spec =
-    tie.close (tie.spec put-own-requires started-requires put-frame-requires same-length returns)
+    tie.close
+    (tie.spec
+    started-requires
+    put-frame-requires
+    same-length
+    returns
+    put-own-requires
+    put-frame-requires-2
+    same-length-2
+    returns-2)

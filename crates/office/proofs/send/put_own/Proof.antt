@@ -1,16 +1,12 @@
-use Prim.Native.Nat.{ℕ, zero, suc, _+_, _-_, _*_, _^_, _<_, _≤_}
-use mathlib.Core.Path.{_≡_, refl, sym, ap, ap₂, _∙_, subst}
-use borrow.Author.Tests.{not-true, not-false, eq-eqb, ne-eqb}
+use Prim.Native.Nat.{ℕ, _+_, _-_, _≤_}
+use mathlib.Core.Path.{_≡_, sym, ap, _∙_}
 use Rattle.causal.specs.Sets.{isIn}
 use Rattle.frame.specs.Entries.{idOf}
 use native.Mathlib.Omega.{arith}
-use Prim.Native.Nat.{ℕ, zero, suc, _+_, _-_, _*_, _<_, _≤_}
-use mathlib.Core.Path.{_≡_, refl, sym, ap, _∙_}
-use mathlib.Core.Bool.{Bool, true, false}
-use mathlib.Core.List.{List, [], _∷_, _++_}
-use lib.ListN.{length, getD, set, take, drop}
+use mathlib.Core.List.{List}
+use lib.ListN.{length}
 use lib.Seq.{sets, length-sets}
-use Rattle.office.specs.Steps.{ownAt, ownTo, firstCodes, secondCodes, earlyCode, started, frameIf, framesIn, allFrames, Framed, holdIf, holdsIn, Slots}
+use Rattle.office.specs.Steps.{ownAt, ownTo, frameIf, framesIn}
 use Rattle.office.proofs.Sends.{frames-more, length-more, frames-mono, frames-start, turn-sets}
 use borrow.Author.Needs.{needs}
 use Rattle.office.proofs.send.put_own.Statement.{statement}

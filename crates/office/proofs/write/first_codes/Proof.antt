@@ -1,73 +1,65 @@
-use Prim.Native.Nat.{ℕ, zero, suc, _+_, _-_, _*_, _^_, _<_, _≤_}
 use native.Mathlib.Omega.{arith}
-use Prim.Native.Nat.{ℕ, zero, suc, _+_, _-_, _*_, _<_, _≤_}
-use mathlib.Core.Path.{_≡_, refl, sym, ap, ap₂, _∙_, subst}
-use mathlib.Core.Bool.{Bool, true, false}
-use mathlib.Core.List.{List, [], _∷_, _++_}
-use lib.ListN.{length, getD, set, take, drop}
-use lib.Seq.{sets, length-sets}
-use borrow.Author.Tests.{not-true, not-false, eq-eqb, ne-eqb}
-use Rattle.office.specs.Steps.{ownAt, ownTo, firstCodes, secondCodes, earlyCode, started, frameIf, framesIn, allFrames, Framed, holdIf, holdsIn, Slots}
-use Rattle.causal.proofs.Codes.{codes}
+use mathlib.Core.Path.{refl, sym, _∙_}
+use lib.ListN.{getD}
+use Rattle.causal.proofs.Codes.{lt-code-fails, lt-code-passes}
+use Rattle.frame.specs.Sessions.{contentOf}
 use Rattle.store.proofs.Rules.{laid}
+use Rattle.office.proofs.Numbers.{start-facts}
+use Rattle.office.proofs.OwnCodes.{first-stops, first-goes}
 use borrow.Author.Needs.{needs}
 use Rattle.office.proofs.write.first_codes.Statement.{statement}
 use Rattle.office.proofs.write.first_codes.Tie as tie
 
-is-sound-requires : tie.Need-is-sound-requires
-is-sound-requires c κs = search needs
+-- k: the number of start_code is known; z: at the start
+
+start-code-requires : tie.Need-start-code-requires
+start-code-requires c κs = search needs
 
 returns : tie.Need-returns
-unfolding firstCodes
-returns c = search (codes, arith) depth 9
+returns c =
+    let k = c .before in
+    let z = k .before .before in
+    first-stops (z .args .store .now) (contentOf (z .args .s)) (z .args .plot) (z .args .value) _ (k .start-code .ensures) (c .if1 .taken)
 
-shared-slice-read-session-ok : tie.Need-shared-slice-read-session-ok
-shared-slice-read-session-ok c = let t = sym (c .before .before .is-sound .ensures) ∙ not-false _ (c .before .if1 .left) in
-    let q = laid (c .before .before .before .before .args .store .now) t in
-    omega (arith, q .long)
-
-shared-slice-read-session-ok-2 : tie.Need-shared-slice-read-session-ok-2
-shared-slice-read-session-ok-2 c = let t = sym (c .before .before .before .is-sound .ensures) ∙ not-false _ (c .before .before .if1 .left) in
-    let q = laid (c .before .before .before .before .before .args .store .now) t in
-    omega (arith, q .long)
-
-session-ok-requires : tie.Need-session-ok-requires
-session-ok-requires c κs = let t = sym (c .before .before .before .is-sound .ensures) ∙ not-false _ (c .before .before .if1 .left) in
-    let q = laid (c .before .before .before .before .before .args .store .now) t in
-    q .few
+shared-slice-read-if2 : tie.Need-shared-slice-read-if2
+shared-slice-read-if2 c =
+    let t = c .before in
+    let k = t .before in
+    let z = k .before .before in
+    let ws = z .args .store .now in
+    let f = start-facts ws (contentOf (z .args .s)) (sym (k .start-code .ensures) ∙ t .if1 .left) in
+    omega (arith, laid ws (f .0) .long)
 
 returns-2 : tie.Need-returns-2
-unfolding firstCodes
-returns-2 c = search (codes, arith) depth 9
-
-shared-slice-read-if3 : tie.Need-shared-slice-read-if3
-shared-slice-read-if3 c = let t = sym (c .before .before .before .before .before .before .is-sound .ensures) ∙ not-false _ (c .before .before .before .before .before .if1 .left) in
-    let q = laid (c .before .before .before .before .before .before .before .before .args .store .now) t in
-    omega (arith, q .long)
+returns-2 c =
+    let t = c .before .before in
+    let k = t .before in
+    let z = k .before .before in
+    let ws = z .args .store .now in
+    let four = lt-code-fails (z .args .plot) (getD ws 2 0) 4 _ (c .if2 .taken) in
+    first-goes ws (contentOf (z .args .s)) (z .args .plot) (z .args .value) _ (k .start-code .ensures) 4 (t .if1 .left) four
 
 returns-3 : tie.Need-returns-3
-unfolding firstCodes
-returns-3 c = search (codes, arith) depth 9
+returns-3 c =
+    let t = c .before .before .before in
+    let k = t .before in
+    let z = k .before .before in
+    let ws = z .args .store .now in
+    let five = lt-code-fails (z .args .value) 268435456 5 0 (c .if3 .taken) in
+    first-goes ws (contentOf (z .args .s)) (z .args .plot) (z .args .value) _ (k .start-code .ensures) 5 (t .if1 .left)
+    (lt-code-passes 5 (z .args .plot) (getD ws 2 0) 4 _ (c .before .if2 .left) five)
 
 returns-4 : tie.Need-returns-4
-unfolding firstCodes
-returns-4 c = search (codes, arith) depth 9
-
-returns-5 : tie.Need-returns-5
-unfolding firstCodes
-returns-5 c = search (codes, arith) depth 9
+returns-4 c =
+    let t = c .before .before .before in
+    let k = t .before in
+    let z = k .before .before in
+    let ws = z .args .store .now in
+    let none = lt-code-passes 0 (z .args .value) 268435456 5 0 (c .if3 .left) refl in
+    first-goes ws (contentOf (z .args .s)) (z .args .plot) (z .args .value) _ (k .start-code .ensures) 0 (t .if1 .left)
+    (lt-code-passes 0 (z .args .plot) (getD ws 2 0) 4 _ (c .before .if2 .left) none)
 
 pub first-codes-spec : {M : Type 1} → statement M
 first-codes-spec =
     tie.close
-    (tie.spec
-    is-sound-requires
-    returns
-    shared-slice-read-session-ok
-    shared-slice-read-session-ok-2
-    session-ok-requires
-    returns-2
-    shared-slice-read-if3
-    returns-3
-    returns-4
-    returns-5)
+    (tie.spec start-code-requires returns shared-slice-read-if2 returns-2 returns-3 returns-4)

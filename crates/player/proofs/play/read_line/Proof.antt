@@ -1,21 +1,4 @@
 use Rattle.player.proofs.LineRead as rd
-use Rattle.player.specs.declared.desk.Desk.{Desk}
-use Rattle.frame.specs.Sessions.{contentOf}
-use Rattle.office.specs.Calls.{readPlot}
-use Prim.Native.Nat.{ℕ, suc, zero, _%_, _*_, _+_, _-_, _<_, _≤_}
-use mathlib.Core.List.{List, [], _∷_}
-use mathlib.Core.Path.{_∙_, _≡_, ap, refl, sym}
-use native.Mathlib.Omega.{arith}
-use lib.ListN.{getD, length, length-set}
-use lib.Seq.{length-sets, sets}
-use Rattle.causal.specs.Lists.{part}
-use Rattle.ring.specs.Run.{nextOf}
-use Rattle.player.specs.Desks.{Cut, countAt, firstAt, frameLen, lengthAt, placeAt, pushed, sessionAt, slotAt, startOf, withFrames}
-use Rattle.player.specs.Play.{Scene}
-use Rattle.player.specs.Shows.{Shows}
-use Rattle.player.proofs.Cuts as cuts
-use Rattle.player.proofs.Delivery as dl
-use Rattle.player.proofs.Scenes.{next-low}
 use borrow.Author.Needs.{needs}
 use Rattle.player.proofs.play.read_line.Statement.{statement}
 use Rattle.player.proofs.play.read_line.Tie as tie

@@ -1,23 +1,16 @@
-use Prim.Native.Nat.{ℕ, suc, zero, _%_, _*_, _+_, _-_, _<_, _≤_}
-use mathlib.Core.List.{List, [], _∷_}
-use mathlib.Core.Path.{_∙_, _≡_, ap, refl, sym}
+use Prim.Native.Nat.{_*_, _<_}
+use mathlib.Core.Path.{_∙_, _≡_}
 use native.Mathlib.Omega.{arith}
-use lib.ListN.{getD, length, length-set}
-use lib.Seq.{length-sets, sets}
+use lib.ListN.{length}
 use Rattle.causal.specs.Lists.{part}
 use Rattle.ring.specs.Run.{nextOf}
-use Rattle.player.specs.Desks.{Cut, countAt, firstAt, frameLen, lengthAt, placeAt, pushed, sessionAt, slotAt, startOf, withFrames}
-use Rattle.player.specs.Play.{Scene}
-use Rattle.player.specs.Shows.{Shows}
-use Rattle.player.proofs.Cuts as cuts
+use Rattle.player.specs.Desks.{placeAt, sessionAt}
 use Rattle.player.proofs.Delivery as dl
 use Rattle.player.proofs.Scenes.{next-low}
 use Rattle.player.proofs.LineWrite as lw
-use Rattle.player.specs.declared.desk.Desk.{Desk}
 use Rattle.store.specs.Offices.{officeOf}
 use Rattle.frame.specs.Sessions.{contentOf}
-use Rattle.office.specs.Calls.{writeSends, receiveSends}
-use Rattle.frame.specs.Frames.{frameOf}
+use Rattle.office.specs.Calls.{writeSends}
 use borrow.Author.Needs.{needs}
 use Rattle.player.proofs.play.write_line.Statement.{statement}
 use Rattle.player.proofs.play.write_line.Tie as tie

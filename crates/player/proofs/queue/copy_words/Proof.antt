@@ -1,12 +1,11 @@
 use lib.ListN.{set}
-use Prim.Native.Nat.{ℕ, suc, zero, _%_, _*_, _+_, _-_, _<_, _≤_}
-use mathlib.Core.List.{List, [], _∷_}
-use mathlib.Core.Path.{_∙_, _≡_, ap, refl, sym}
+use Prim.Native.Nat.{ℕ, _+_, _-_, _≤_}
+use mathlib.Core.List.{List}
+use mathlib.Core.Path.{_∙_, _≡_, ap, refl}
 use native.Mathlib.Omega.{arith}
 use lib.ListN.{getD, length, length-set}
-use lib.Seq.{length-sets, sets}
+use lib.Seq.{sets}
 use Rattle.causal.specs.Lists.{part}
-use Rattle.player.specs.Desks.{Cut, frameLen, lengthAt, pushed, slotAt, startOf}
 use Rattle.player.proofs.Cuts as cuts
 use borrow.Author.Needs.{needs}
 use Rattle.player.proofs.queue.copy_words.Statement.{statement}

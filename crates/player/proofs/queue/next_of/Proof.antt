@@ -1,6 +1,5 @@
-use Rattle.ring.specs.Run.{nextOf}
 use Rattle.ring.proofs.Fit.{next-step, next-wrap}
-use mathlib.Core.Path.{_∙_, _≡_, ap, refl, sym}
+use mathlib.Core.Path.{_∙_, sym}
 use native.Mathlib.Omega.{arith}
 use native.Mathlib.Numerals.{add-one}
 use borrow.Author.Needs.{needs}

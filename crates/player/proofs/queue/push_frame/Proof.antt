@@ -1,11 +1,6 @@
-use Prim.Native.Nat.{ℕ, suc, zero, _%_, _*_, _+_, _-_, _<_, _≤_}
-use mathlib.Core.List.{List, [], _∷_}
-use mathlib.Core.Path.{_∙_, _≡_, ap, refl, sym}
+use mathlib.Core.Path.{_∙_}
 use native.Mathlib.Omega.{arith}
-use lib.ListN.{getD, length, length-set}
-use lib.Seq.{length-sets, sets}
-use Rattle.causal.specs.Lists.{part}
-use Rattle.player.specs.Desks.{Cut, frameLen, lengthAt, pushed, slotAt, startOf}
+use lib.ListN.{length-set}
 use Rattle.player.proofs.Cuts as cuts
 use borrow.Author.Needs.{needs}
 use Rattle.player.proofs.queue.push_frame.Statement.{statement}

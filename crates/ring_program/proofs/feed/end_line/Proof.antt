@@ -1,18 +1,7 @@
-use Prim.Native.Nat.{ℕ, suc, zero, _+_, _-_, _<_, _≤_}
-use mathlib.Core.List.{List, [], _∷_}
-use mathlib.Core.Path.{_∙_, _≡_, ap, refl, subst, sym}
-use native.Mathlib.Omega.{arith}
-use lib.ListN.{getD, length}
-use lib.Seq.{length-sets, sets}
-use Rattle.causal.specs.Lists.{part}
-use Rattle.script.specs.Pendings.{pendingOf}
+use mathlib.Core.Path.{_∙_, ap}
 use Rattle.script.proofs.Pendings.{parse-whole}
-use Rattle.player.specs.Play.{Scene}
-use Rattle.player.specs.Shows.{Shown, Shows}
-use Rattle.ring_program.specs.Fed.{Ended, Fed, Follows}
 use Rattle.ring_program.proofs.Feeding as fd
 use Rattle.script.specs.Pendings.{parsed}
-use Rattle.script.specs.declared.pending.Pending.{Pending}
 use borrow.Author.Needs.{needs}
 use Rattle.ring_program.proofs.feed.end_line.Statement.{statement}
 use Rattle.ring_program.proofs.feed.end_line.Tie as tie

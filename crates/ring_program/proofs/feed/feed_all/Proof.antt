@@ -1,18 +1,13 @@
-use Prim.Native.Nat.{ℕ, suc, zero, _+_, _-_, _<_, _≤_}
-use mathlib.Core.List.{List, [], _∷_}
-use mathlib.Core.Path.{_∙_, _≡_, ap, refl, subst, sym}
+use Prim.Native.Nat.{ℕ, _-_, _≤_}
+use mathlib.Core.List.{List}
+use mathlib.Core.Path.{_∙_, _≡_, refl, sym}
 use native.Mathlib.Omega.{arith}
-use lib.ListN.{getD, length}
-use lib.Seq.{length-sets, sets}
+use lib.ListN.{length}
 use Rattle.causal.specs.Lists.{part}
 use Rattle.script.specs.Pendings.{pendingOf}
-use Rattle.script.proofs.Pendings.{parse-whole}
 use Rattle.player.specs.Play.{Scene}
-use Rattle.player.specs.Shows.{Shown, Shows}
-use Rattle.ring_program.specs.Fed.{Ended, Fed, Follows}
+use Rattle.player.specs.Shows.{Shows}
 use Rattle.ring_program.proofs.Feeding as fd
-use Rattle.script.specs.Pendings.{parsed}
-use Rattle.script.specs.declared.pending.Pending.{Pending}
 use lib.Seq.{length-take-le}
 use Rattle.ring_program.specs.Fed.{Leads}
 use borrow.Author.Needs.{needs}
