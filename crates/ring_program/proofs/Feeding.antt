@@ -1,6 +1,7 @@
 -- Bytes fed one after another. Assumes nothing.
 use Prim.Native.Nat.{ℕ, suc, _+_, _-_, _<_, _≤_}
 use mathlib.Core.List.{List, [], _++_, _∷_, append-assoc, append-nil}
+use mathlib.Core.Logic.{⊎-elim}
 use mathlib.Core.Path.{_∙_, _≡_, ap, refl, subst, sym}
 use mathlib.Core.Bool.{true, false}
 use borrow.Author.Tests.{eqb-false, eqb-true}
@@ -9,6 +10,7 @@ use native.Mathlib.Omega.{arith}
 use lib.ListN.{drop, getD, length, length-append, take}
 use lib.Seq.{sets, take-length}
 use Rattle.causal.specs.Lists.{part}
+use Rattle.causal.proofs.Tests.{lt-or-le}
 use Rattle.causal.proofs.Lists.{part-add, part-cons, sets-append}
 use Rattle.script.specs.Lines.{lineOf}
 use Rattle.script.specs.Pendings.{isEmpty, pendingOf, pushed}
@@ -123,18 +125,55 @@ one-more bytes from i h k g l at text r stores lines text′ A q stores′ lines
     subst (λ (x : List ℕ). Follows g l x at text q stores′ lines′ text″) (part-next bytes from i h k)
     (follows-then g l (part bytes from (i - from)) at text r stores lines text′ A (getD bytes i 0 ∷ []) q stores′ lines′ text″ B)
 
-pub first-then : (bytes : List ℕ) (from i : ℕ) → from + 1 ≤ i → i ≤ length bytes → (g : Scene) (l : List ℕ) (at : ℕ) (text : List ℕ) (r : Stage) (stores lines text′ : List ℕ)
-    (A : Follows g l (getD bytes from 0 ∷ []) at text r stores lines text′) (q : Stage) (stores′ lines′ text″ : List ℕ)
-    → Follows (A .scene) (A .rest) (part bytes (from + 1) (i - (from + 1))) (r .at) text′ q stores′ lines′ text″ → Follows g l (part bytes from (i - from)) at text q stores′ lines′ text″
-first-then bytes from i h k g l at text r stores lines text′ A q stores′ lines′ text″ B =
-    subst (λ (x : List ℕ). Follows g l x at text q stores′ lines′ text″) whole
-    (follows-then g l (getD bytes from 0 ∷ []) at text r stores lines text′ A (part bytes (from + 1) (i - (from + 1))) q stores′ lines′ text″ B)
-  where
-    whole : getD bytes from 0 ∷ part bytes (from + 1) (i - (from + 1)) ≡ part bytes from (i - from)
-    whole =
-        let e : i - from ≡ suc (i - (from + 1)) = omega arith in
-        let f : from + 1 ≡ suc from = omega arith in
-        ap (λ (x : ℕ). getD bytes from 0 ∷ part bytes x (i - (from + 1))) f ∙ sym (part-cons bytes from (i - (from + 1)) (omega arith)) ∙ ap (part bytes from) (sym e)
+-- a turn that ends at once, short of room, is none at the first byte
+pub moved : (from i at room : ℕ) → from ≤ i → room - at < 40 → at ≤ room → (i ≡ from → at + 40 ≤ room) → from < i
+moved from i at room h short near first = ⊎-elim (λ (l : from < i). l) (λ (l : i ≤ from). absurd (omega (arith, first (omega arith), short, near))) (lt-or-le from i)
+
+-- what one byte does to the stage and the lent rows
+pub record Turn (b : ℕ) (cur : Stage) (stores lines scratch out text : List ℕ) (cur′ : Stage) (stores′ lines′ scratch′ out′ text′ : List ℕ) : Type 0 where
+  pub stores-same : length stores′ ≡ length stores
+  pub lines-same : length lines′ ≡ length lines
+  pub scratch-same : length scratch′ ≡ length scratch
+  pub out-same : length out′ ≡ length out
+  pub text-same : length text′ ≡ length text
+  pub near : cur′ .at ≤ cur .at + 40
+  pub fed : (g : Scene) (l : List ℕ) → Shows g (cur .desk) stores lines → cur .pending ≡ pendingOf l → Follows g l (b ∷ []) (cur .at) text cur′ stores′ lines′ text′
+
+module _ (b : ℕ) (cur : Stage) (stores lines scratch out text : List ℕ) where
+  -- a newline: the line is played
+  pub turn-ended : (r : Stage) (s₁ l₁ c₁ o₁ t₁ : List ℕ) → b ≡ 10 → length out ≡ 1751 → length s₁ ≡ length stores → length l₁ ≡ length lines → length c₁ ≡ length scratch → length o₁ ≡ length out → length t₁ ≡ length text
+      → r .at ≤ cur .at + 40 → ((g : Scene) (l : List ℕ) → Shows g (cur .desk) stores lines → cur .pending ≡ pendingOf l → Ended out g l (cur .at) text r s₁ l₁ t₁)
+      → (cur′ : Stage) (stores′ lines′ scratch′ out′ text′ : List ℕ) → stores′ ≡ s₁ → lines′ ≡ l₁ → scratch′ ≡ c₁ → out′ ≡ o₁ → text′ ≡ t₁ → cur′ ≡ r
+      → Turn b cur stores lines scratch out text cur′ stores′ lines′ scratch′ out′ text′
+  turn-ended r s₁ l₁ c₁ o₁ t₁ is room hs hl hc ho ht near E cur′ stores′ lines′ scratch′ out′ text′ es el ec eo et er =
+      record {
+        stores-same = ap length es ∙ hs;
+        lines-same = ap length el ∙ hl;
+        scratch-same = ap length ec ∙ hc;
+        out-same = ap length eo ∙ ho;
+        text-same = ap length et ∙ ht;
+        near = omega (arith, near, ap (λ (x : Stage). x .at) er);
+        fed = λ g l S e.
+            subst (λ (p : Stage × List ℕ × List ℕ × List ℕ). Follows g l (b ∷ []) (cur .at) text (p .0) (p .1) (p .2) (p .3)) (λ i. (sym er i, sym es i, sym el i, sym et i))
+            (ended-follows out g l (cur .at) text r s₁ l₁ t₁ room b is (E g l S e));
+      }
+
+  -- any other byte waits for the line's end
+  pub turn-pushed : (q : Pending) → (b ≡ 10 → ⊥) → q ≡ pushed (cur .pending) b
+      → (cur′ : Stage) (stores′ lines′ scratch′ out′ text′ : List ℕ) → stores′ ≡ stores → lines′ ≡ lines → scratch′ ≡ scratch → out′ ≡ out → text′ ≡ text → cur′ ≡ record { desk = cur .desk; pending = q; at = cur .at }
+      → Turn b cur stores lines scratch out text cur′ stores′ lines′ scratch′ out′ text′
+  turn-pushed q ne h cur′ stores′ lines′ scratch′ out′ text′ es el ec eo et er =
+      record {
+        stores-same = ap length es;
+        lines-same = ap length el;
+        scratch-same = ap length ec;
+        out-same = ap length eo;
+        text-same = ap length et;
+        near = omega (arith, ap (λ (x : Stage). x .at) er);
+        fed = λ g l S e.
+            subst (λ (p : Stage × List ℕ × List ℕ × List ℕ). Follows g l (b ∷ []) (cur .at) text (p .0) (p .1) (p .2) (p .3)) (λ i. (sym er i, sym es i, sym el i, sym et i))
+            (byte-follows g l (cur .at) text (cur .desk) (cur .pending) q stores lines b ne S e h);
+      }
 
 -- ---- the loop over a chunk
 

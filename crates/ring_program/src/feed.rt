@@ -51,38 +51,13 @@ pub fn end_line(
     }
 }
 
-// One byte.
-pub fn feed(
-    stage: Stage,
-    b: u8,
-    stores: &mut [u32],
-    lines: &mut [u32],
-    scratch: &mut [u32],
-    out: &mut [u32],
-    text: &mut [u8],
-) -> Stage
-    requires { ⌜ (length (now scratch) ≡ 1747) × (length (now out) ≡ 1751) × (stage .at + 40 ≤ length (now text)) × Shown (stage .desk) (now stores) (now lines) ⌝ }
-    ensures { λ r. ⌜ (r .at ≤ stage .at + 40) × ((g : Scene) (l : List ℕ) → Shows g (stage .desk) (now (stores .entry)) (now (lines .entry)) → stage .pending ≡ pendingOf l → Follows g l (b ∷ []) (stage .at) (now (text .entry)) r (now (stores .exit)) (now (lines .exit)) (now (text .exit))) ⌝ }
-{
-    if b == 10 {
-        return end_line(stage, stores, lines, scratch, out, text);
-    }
-    let desk = stage.desk;
-    let pending = stage.pending;
-    let more = push(pending, b);
-    Stage {
-        desk,
-        pending: more,
-        at: stage.at,
-    }
-}
-
 pub struct Reached {
     pub stage: Stage,
     pub next: usize,
 }
 
-// The bytes from `from` on, up to the end or to where the text has less than 40 bytes of room.
+// The bytes from `from` on, up to the end or to where the text has less than 40 bytes of room. The desk is large: a byte within a line leaves it
+// in its place.
 pub fn feed_some(
     stage: Stage,
     bytes: &[u8],
@@ -96,17 +71,8 @@ pub fn feed_some(
     requires { ⌜ (length (now scratch) ≡ 1747) × (length (now out) ≡ 1751) × (stage .at + 40 ≤ length (now text)) × (from < length (now bytes)) × Staged stage (now stores) (now lines) ⌝ }
     ensures { λ r. ⌜ (from < r .next) × (r .next ≤ length (now (bytes .entry))) × (r .stage .at ≤ length (now (text .entry))) × ((g : Scene) (l : List ℕ) → Shows g (stage .desk) (now (stores .entry)) (now (lines .entry)) → stage .pending ≡ pendingOf l → Follows g l (part (now (bytes .entry)) from (r .next - from)) (stage .at) (now (text .entry)) (r .stage) (now (stores .exit)) (now (lines .exit)) (now (text .exit))) ⌝ }
 {
-    let first = feed(
-        stage,
-        bytes[from],
-        &mut *stores,
-        &mut *lines,
-        &mut *scratch,
-        &mut *out,
-        &mut *text,
-    );
-    let mut cur = first;
-    let mut i = from + 1;
+    let mut cur = stage;
+    let mut i = from;
     while i < bytes.len() {
         let at = cur.at;
         if text.len() - at < 40 {
@@ -115,16 +81,21 @@ pub fn feed_some(
                 next: i,
             };
         }
-        let next = feed(
-            cur,
-            bytes[i],
-            &mut *stores,
-            &mut *lines,
-            &mut *scratch,
-            &mut *out,
-            &mut *text,
-        );
-        cur = next;
+        if bytes[i] == 10 {
+            let next = end_line(
+                cur,
+                &mut *stores,
+                &mut *lines,
+                &mut *scratch,
+                &mut *out,
+                &mut *text,
+            );
+            cur = next;
+        } else {
+            let pending = cur.pending;
+            let more = push(pending, bytes[i]);
+            cur.pending = more;
+        }
         i += 1;
     }
     Reached {
