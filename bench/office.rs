@@ -201,8 +201,8 @@ fn print_row(name: &str, offices: u32, store: &str, (archive, model): (f64, f64)
 }
 
 const TIMED: &str = "
-Timed: whole calls through the C interface. In the archive's numbers a session crosses by value, there and
-back (1,360 bytes each way); the model takes it by reference. Both check store and session at every call.
+Timed: whole calls through the C interface, with the session lent, as the model takes it, and by value, there and
+back (1,360 bytes each way). Both sides check store and session at every call.
 Not timed: setting store, session and row back, which is done for a whole round before its clock starts.
 Empty: an office that holds nothing, a fresh session. Full: 32 entries of each office held and visible, less
 the one that a write or a frame brings; each depends on all before it; the session has read them all and

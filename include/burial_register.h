@@ -177,8 +177,9 @@ struct burial_wrote burial_write(uint32_t *store, size_t store_len,
                                  struct burial_session session, uint32_t plot, uint32_t value,
                                  uint32_t *out, size_t out_len);
 
-/* The three calls of a session with the session lent: it holds its new state afterwards, and
- * stays as it was on refusal. The session overlaps no row of the call. */
+/* The same three calls with the session lent: it holds its new state afterwards, and stays as
+ * it was on refusal. The session overlaps no row of the call. Use these where speed counts:
+ * 1,360 bytes less are copied back. */
 struct burial_plot_found {
     uint32_t refusal;
     uint32_t found; /* 1, or 0 where the plot has no entry */

@@ -5,8 +5,8 @@ use mathlib.Core.Bool.{Bool, true, false, not}
 use mathlib.Core.Logic.{⊎-elim}
 use native.Mathlib.Omega.{arith}
 use native.Mathlib.Numerals.{add-one}
-use lib.Dec.{ltb}
-use borrow.Author.Tests.{lt-ltb, le-ltb, not-true, not-false}
+use lib.Dec.{leb, ltb}
+use borrow.Author.Tests.{lt-ltb, le-ltb, le-leb, lt-leb, not-true, not-false}
 use Rattle.causal.specs.Codes.{check, orElse, firstCode}
 use Rattle.causal.proofs.Tests.{split}
 
@@ -59,6 +59,14 @@ pub lt-code-passes : (x m n k B : ℕ) → m < n → x ≡ B → x ≡ check (lt
 unfolding check
 lt-code-passes x m n k B h e = rw (lt-ltb m n h) e
 
+pub le-code-fails : (m n k B : ℕ) → n < m → k ≡ check (leb m n) k B
+unfolding check
+le-code-fails m n k B h = rw (lt-leb m n h)
+
+pub le-code-passes : (x m n k B : ℕ) → m ≤ n → x ≡ B → x ≡ check (leb m n) k B
+unfolding check
+le-code-passes x m n k B h e = rw (le-leb m n h) e
+
 -- of a call's result
 pub lt-code-fails-of : (r m n k B : ℕ) → r ≡ m → n ≤ r → k ≡ check (ltb m n) k B
 lt-code-fails-of r m n k B e h = lt-code-fails m n k B (rw e at h)
@@ -72,7 +80,7 @@ or-stops r A B e z = e ∙ sym (or-some A B (λ q. z (e ∙ q)))
 pub or-goes : (x r A B : ℕ) → r ≡ A → r ≡ 0 → x ≡ B → x ≡ orElse A B
 or-goes x r A B e z h = h ∙ sym (or-none A B (sym e ∙ z))
 
-pub ruleset codes = (code-fails, code-passes, lt-code-fails, lt-code-passes, lt-code-fails-of, lt-code-passes-of, or-stops, or-goes)
+pub ruleset codes = (code-fails, code-passes, lt-code-fails, lt-code-passes, le-code-fails, le-code-passes, lt-code-fails-of, lt-code-passes-of, or-stops, or-goes)
 
 -- what a passed chain says
 pub check-none : (A : Bool) (k B : ℕ) → 0 < k → check A k B ≡ 0 → (A ≡ true) × (B ≡ 0)

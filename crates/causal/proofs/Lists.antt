@@ -11,7 +11,7 @@ use native.Mathlib.Omega.{arith}
 use lib.Dec.{eqb}
 use borrow.Author.Tests.{eq-eqb, eqb-true}
 use lib.ListN.{length, getD, take, drop, set, length-append, length-take, length-drop, length-set, List·getD-append}
-use lib.Seq.{sets, take-suc, take-add, drop-drop, drop-cons, drop-set-add, drop-set-lt, take-set-le, take-set-lt, getD-take, getD-drop, sets-eq, take-at, drop-at, getD-at, length-take-le, take-nil, take-take, getD-set-same, getD-set-other, take-append-seam}
+use lib.Seq.{sets, take-suc, take-add, drop-drop, drop-cons, drop-set-add, drop-set-lt, take-set-le, getD-take, getD-drop, sets-eq, take-at, drop-at, getD-at, length-take-le, take-nil, take-take, getD-set-same, getD-set-other, take-append-seam}
 use Rattle.causal.specs.Tests.{both}
 use Rattle.causal.specs.Lists.{part, tab, sumBelow, zip8, eqWords}
 use Rattle.causal.proofs.Tests.{split, both-true}
@@ -53,10 +53,6 @@ pub part-set-after : (ws : List ℕ) (a n i x : ℕ) → i < a → part (set ws 
 unfolding part
 part-set-after ws a n i x h = ap (take n) (drop-set-lt a ws i x h)
 
-pub part-set-in : (ws : List ℕ) (a n i x : ℕ) → i < n → part (set ws (a + i) x) a n ≡ set (part ws a n) i x
-unfolding part
-part-set-in ws a n i x h = ap (take n) (drop-set-add a ws i x) ∙ take-set-lt n (drop a ws) i x h
-
 pub part-set-before : (ws : List ℕ) (a n i x : ℕ) → a + n ≤ i → part (set ws i x) a n ≡ part ws a n
 unfolding part
 part-set-before ws a n i x h =
@@ -87,9 +83,6 @@ sets-append l i [] ys = rw (add-zero i)
 sets-append l i (x ∷ xs) ys = rw (add-suc i (length xs), ← suc-add i (length xs)) (sets-append (set l i x) (suc i) xs ys)
 
 -- a turn of the loop that stores xs from at on
-pub sets-none : (l : List ℕ) (at : ℕ) (xs : List ℕ) → l ≡ sets l at (take 0 xs)
-sets-none l at xs = refl
-
 pub sets-more : (l : List ℕ) (at : ℕ) (xs : List ℕ) (j : ℕ) → j < length xs
     → set (sets l at (take j xs)) (at + j) (getD xs j 0) ≡ sets l at (take (j + 1) xs)
 sets-more l at xs j h =

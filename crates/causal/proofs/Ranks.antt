@@ -108,10 +108,6 @@ pub above-trans : (a b c : List ℕ) (o p q : ℕ) → ranksAbove a o b p ≡ tr
 unfolding ranksAbove
 above-trans a b c o p q = higher-trans (rankOf a o) (rankOf b p) (rankOf c q)
 
-pub above-cotrans : (a b c : List ℕ) (o p q : ℕ) → ranksAbove a o c q ≡ true → (ranksAbove a o b p ≡ true) ⊎ (ranksAbove b p c q ≡ true)
-unfolding ranksAbove
-above-cotrans a b c o p q = higher-cotrans (rankOf a o) (rankOf b p) (rankOf c q)
-
 -- neither outranks the other: the same clock and the same office
 pub above-total : (c d : List ℕ) (o p : ℕ) → length c ≡ length d → ranksAbove c o d p ≡ false → ranksAbove d p c o ≡ false → (c ≡ d) × (o ≡ p)
 unfolding ranksAbove

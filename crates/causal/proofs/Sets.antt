@@ -29,9 +29,6 @@ pub has-none : (k : ℕ) → has [] k ≡ 0
 unfolding has
 has-none k = bit-zero-word (k % 32)
 
-pub has-one : (s : List ℕ) (k : ℕ) → 0 < has s k → has s k ≡ 1
-has-one s k h = omega (arith, has-lt s k)
-
 -- past the eight words there is no member
 pub has-in : (s : List ℕ) (k : ℕ) → length s ≤ 8 → has s k ≡ 1 → k < 256
 unfolding has

@@ -2,7 +2,7 @@
 use Prim.Native.Nat.{ℕ, _-_, _<_, _≤_}
 use mathlib.Core.Path.{_≡_, refl, sym, ap, _∙_}
 use mathlib.Core.Bool.{true, false, cond, not}
-use mathlib.Core.Logic.{_⊎_, ⊎-elim}
+use mathlib.Core.Logic.{⊎-elim}
 use mathlib.Core.List.{List}
 use native.Mathlib.Omega.{arith}
 use lib.Dec.{leb, ltb, eqb}
@@ -11,7 +11,7 @@ use borrow.Author.Tests.{ltb-true, leb-true, eqb-true, lt-ltb, le-ltb, le-leb, e
 use Rattle.causal.specs.Tests.{both, either}
 use Rattle.causal.specs.Sets.{isIn}
 use Rattle.causal.proofs.Tests.{both-true, all-at, all-intro, lt-or-le}
-use Rattle.causal.proofs.Ranks.{above-irrefl, above-trans, above-cotrans, above-total}
+use Rattle.causal.proofs.Ranks.{above-irrefl, above-trans, above-total}
 use Rattle.frame.specs.declared.entry.Entry.{Entry}
 use Rattle.frame.specs.declared.entry.Frame.{Frame}
 use Rattle.frame.specs.Entries.{idOf, clockPlaceOk, clockOk, idsPlaceOk, idsOk, boundsOk, entryOk, outranks}
@@ -204,10 +204,6 @@ outranks-irrefl e = above-irrefl (e .clock) (e .office)
 pub outranks-trans : (a b c : Entry) → outranks a b ≡ true → outranks b c ≡ true → outranks a c ≡ true
 unfolding outranks
 outranks-trans a b c = above-trans (a .clock) (b .clock) (c .clock) (a .office) (b .office) (c .office)
-
-pub outranks-cotrans : (a b c : Entry) → outranks a c ≡ true → (outranks a b ≡ true) ⊎ (outranks b c ≡ true)
-unfolding outranks
-outranks-cotrans a b c = above-cotrans (a .clock) (b .clock) (c .clock) (a .office) (b .office) (c .office)
 
 -- two entries that keep the rules, neither of which outranks the other, have the same id
 pub outranks-total : (n p m q : ℕ) (e f : Entry) → entryOk n p e ≡ true → entryOk m q f ≡ true → length (e .clock) ≡ length (f .clock)

@@ -2,12 +2,10 @@
 use Prim.Native.Nat.{ℕ, _+_, suc, zero}
 use mathlib.Core.List.{List, List·Memᴰ, List·Memᴰ·cases-cons, List·Memᴰ·not-nil}
 use mathlib.Core.Logic.{⊎-elim}
-use mathlib.Core.Path.{_≡_, refl}
+use mathlib.Core.Path.{_≡_}
 use lib.ListN.{drop, take}
 use Rattle.causal.specs.Lists.{part}
-use Rattle.causal.proofs.Sets.{ids-zeros}
 use Rattle.frame.specs.Frames.{countIn, frameOf, officesIn}
-use Rattle.frame.specs.Sessions.{freshContent}
 use Rattle.frame.specs.Tokens.{contentFrom, frameLength, ownFrom, tokenOffices, tokenOwns, tokenReads}
 use Rattle.frame.specs.declared.entry.Entry.{Entry}
 use Rattle.frame.proofs.Sessions.{SaneContent, SaneEntry}
@@ -32,6 +30,3 @@ token-sane ws =
       read = ids-from-set (part ws (1 + tokenOffices ws) (tokenReads ws));
       own = λ e m. owns-sane (tokenOwns ws) (tokenOffices ws) (drop (1 + tokenOffices ws + tokenReads ws) ws) e m;
     }
-
-pub fresh-sane : (n : ℕ) → SaneContent (freshContent n)
-fresh-sane n = record { clock8 = refl; read = ids-zeros; own = λ e m. absurd (List·Memᴰ·not-nil m) }

@@ -1,5 +1,5 @@
 -- What an accepted call says of its checks, all of them; and the code of each call is its refusal number. Assumes nothing.
-use Prim.Native.Nat.{ℕ, _*_, suc, zero}
+use Prim.Native.Nat.{ℕ, suc, zero}
 use mathlib.Core.Bool.{true}
 use mathlib.Core.List.{List, []}
 use mathlib.Core.Path.{_≡_, refl}
@@ -7,14 +7,14 @@ use native.Mathlib.Omega.{arith}
 use lib.Dec.{eqb, leb, ltb}
 use lib.ListN.{length}
 use Rattle.causal.specs.Sets.{subsetOf}
-use Rattle.causal.specs.Tests.{both, either}
+use Rattle.causal.specs.Tests.{either}
 use Rattle.causal.proofs.Codes.{check-none, or-both}
 use Rattle.frame.specs.Frames.{frameWords}
 use Rattle.frame.specs.Sessions.{Content, freshContent, sessionOk}
 use Rattle.frame.specs.Tokens.{rowsOf}
 use Rattle.frame.specs.declared.entry.Frame.{Frame}
-use Rattle.store.specs.Offices.{Office, made, reveal}
-use Rattle.office.specs.Calls.{Result, allNoneOver, entryCode, given, jointCode, jointOn, onward, ownCode, plotsOk, readCode, readOn, receiveCode, receiveOn, writeCode, writeOn, writeSends}
+use Rattle.store.specs.Offices.{Office, made}
+use Rattle.office.specs.Calls.{Result, entryCode, given, jointCode, jointOn, onward, ownCode, readCode, readOn, receiveCode, receiveOn, writeCode, writeOn, writeSends}
 
 -- ---- the code of a call
 
@@ -40,36 +40,6 @@ unfolding receiveOn
 receive-code O f row = given-code (receiveCode O f (length row)) O (freshContent 0) row _ refl
 
 -- ---- reading
-
-pub record ReadReady (O : Office) (s : Content) (plot : ℕ) : Type 0 where
-  pub session : sessionOk (O .offices) (O .plots) s ≡ true
-  pub plot-ok : ltb plot (O .plots) ≡ true
-  pub read-held : subsetOf (s .read) (O .held) ≡ true
-
-pub read-ready : (O : Office) (s : Content) (plot : ℕ) → readCode O s plot ≡ 0 → ReadReady O s plot
-unfolding readCode
-read-ready O s plot h =
-    let a = check-none (sessionOk (O .offices) (O .plots) s) 3 _ (omega arith) h in
-    let b = check-none (ltb plot (O .plots)) 4 _ (omega arith) (a .1) in
-    let c = check-none (subsetOf (s .read) (O .held)) 12 _ (omega arith) (b .1) in
-    record { session = a .0; plot-ok = b .0; read-held = c .0 }
-
-pub record JointReady (O : Office) (s : Content) (plots : List ℕ) (room : ℕ) : Type 0 where
-  pub session : sessionOk (O .offices) (O .plots) s ≡ true
-  pub plots-ok : both (leb (length plots) 16) (plotsOk (O .plots) plots) ≡ true
-  pub room-ok : leb (3 * length plots) room ≡ true
-  pub read-held : subsetOf (s .read) (O .held) ≡ true
-  pub none-over : allNoneOver (reveal O (s .read)) s plots ≡ true
-
-pub joint-ready : (O : Office) (s : Content) (plots : List ℕ) (room : ℕ) → jointCode O s plots room ≡ 0 → JointReady O s plots room
-unfolding jointCode
-joint-ready O s plots room h =
-    let a = check-none (sessionOk (O .offices) (O .plots) s) 3 _ (omega arith) h in
-    let b = check-none (both (leb (length plots) 16) (plotsOk (O .plots) plots)) 4 _ (omega arith) (a .1) in
-    let c = check-none (leb (3 * length plots) room) 8 _ (omega arith) (b .1) in
-    let d = check-none (subsetOf (s .read) (O .held)) 12 _ (omega arith) (c .1) in
-    let e = check-none (allNoneOver (reveal O (s .read)) s plots) 13 _ (omega arith) (d .1) in
-    record { session = a .0; plots-ok = b .0; room-ok = c .0; read-held = d .0; none-over = e .0 }
 
 -- ---- writing
 

@@ -9,7 +9,7 @@ use native.Mathlib.Numerals.{add-one}
 use lib.Dec.{leb, ltb, eqb}
 use lib.ListN.{length, getD, set, length-append}
 use lib.Seq.{sets, getD-set-same, getD-set-other}
-use borrow.Author.Tests.{eq-eqb, ne-eqb, le-ltb, lt-ltb, le-leb, lt-leb, leb-true}
+use borrow.Author.Tests.{eq-eqb, ne-eqb, le-ltb, lt-ltb, leb-true}
 use Rattle.causal.specs.Tests.{both, allBelow}
 use Rattle.causal.specs.Codes.{check, orElse}
 use Rattle.causal.specs.Lists.{part, tab}
@@ -61,15 +61,6 @@ module _ (p : ℕ) (qs : List ℕ) where
   pub plots-done : (i : ℕ) → length qs ≤ 16 → allBelow i (λ j. ltb (getD qs j 0) p) ≡ true → i ≤ length qs → length qs ≤ i → true ≡ both (leb (length qs) 16) (plotsOk p qs)
   plots-done i n h a b =
       le-passes true (length qs) 16 (plotsOk p qs) n (turn-done (λ j. ltb (getD qs j 0) p) (length qs) i h a b ∙ plots-below p qs)
-
--- links of a chain of checks
-pub le-code-fails : (m n k B : ℕ) → n < m → k ≡ check (leb m n) k B
-unfolding check
-le-code-fails m n k B h = rw (lt-leb m n h)
-
-pub le-code-passes : (x m n k B : ℕ) → m ≤ n → x ≡ B → x ≡ check (leb m n) k B
-unfolding check
-le-code-passes x m n k B h e = rw (le-leb m n h) e
 
 -- ---- what is current on each plot
 

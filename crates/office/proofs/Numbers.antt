@@ -2,26 +2,20 @@
 use Prim.Native.Nat.{ℕ, _*_, _<_, _≤_}
 use mathlib.Core.Path.{_≡_, refl, sym, ap, _∙_, subst}
 use mathlib.Core.Bool.{true}
-use mathlib.Core.List.{List, map-id}
+use mathlib.Core.List.{List}
 use native.Mathlib.Omega.{arith}
 use lib.ListN.{length, getD}
 use borrow.Author.Tests.{lt-ltb, le-ltb}
-use mir.Val.{Val}
-use denote.Laws.{Is}
-use denote.Struct.Laws as LL
 use Rattle.causal.specs.Codes.{check}
 use Rattle.causal.specs.Lists.{part}
-use Rattle.causal.specs.Sets.{IdSet, inserted, subsetOf}
+use Rattle.causal.specs.Sets.{inserted, subsetOf}
 use Rattle.causal.specs.Clocks.{join}
-use Rattle.causal.proofs.Array.{id-set}
 use Rattle.causal.proofs.Codes.{check-none}
 use Rattle.causal.proofs.Lists.{tab-length}
 use Rattle.frame.specs.declared.session.Session.{Session}
 use Rattle.frame.specs.Entries.{idOf}
 use Rattle.frame.specs.Sessions.{Content, contentOf, nobody, sessionOk}
 use Rattle.frame.proofs.Sessions.{session-facts}
-use Rattle.frame.proofs.session.Session as S
-use Rattle.frame.proofs.session.Session.Laws as S′
 use Rattle.store.specs.Offices.{entryAt, soundStore, Found, None, Some}
 use Rattle.store.specs.Current.{InSlots, currentAt, foundAt}
 use Rattle.store.specs.declared.current.Place.{Place}
@@ -101,8 +95,3 @@ noted-with (Some e) s x = refl
 pub with-own : (s : Session) → withSeen s (seenOf s) ≡ s
 unfolding withSeen
 with-own s = refl
-
--- ---- what a session of a program has read is a set of ids
-
-pub read-ids : (s : Session) {vs : List Val} → Is S.the-row s vs → IdSet (s .read)
-read-ids s {vs} g = subst (λ (l : List ℕ). IdSet l) (map-id (s .read)) (id-set _ (LL.owed S.the-type S′.the-laws s vs g .1 .1 .0))

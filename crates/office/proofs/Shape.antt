@@ -64,6 +64,10 @@ own-each own (suc k) i l =
     (λ (q : i ≡ k). subst (λ (j : ℕ). List·Memᴰ (ownAt own i) (ownTo own k ++ (ownAt own j ∷ []))) q (Memᴰ·append-right (ownTo own k) (List·Memᴰ·head refl)))
     (split i k l)
 
+-- what a session of a program has read is a set of ids
+pub read-ids : (s : Session) {vs : List Val} → Is S.the-row s vs → IdSet (s .read)
+read-ids s {vs} g = unmapped (s .read) (id-set _ (LL.owed S.the-type S′.the-laws s vs g .1 .1 .0))
+
 pub session-sane : (s : Session) (vs : List Val) → Is S.the-row s vs → s .count ≤ 16 → SaneContent (contentOf s)
 unfolding contentOf
 session-sane s vs g few =
@@ -72,6 +76,6 @@ session-sane s vs g few =
     let n : length (s .own) ≡ 16 = sym (length-map (s .own) (E.the-field .into)) ∙ w .1 .0 .1 in
     record {
       clock8 = unmapped (s .clock) (id-set _ (o .1 .0)) .eight;
-      read = unmapped (s .read) (id-set _ (o .1 .1 .0));
+      read = read-ids s g;
       own = own-all SaneEntry (s .own) (s .count) (λ i l. let x = elem (s .own) (w .0) (w .1 .1) i (omega arith) in entry-sane (ownAt (s .own) i) _ (x .1));
     }

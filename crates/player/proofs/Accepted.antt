@@ -259,11 +259,3 @@ module _ (ws : List ℕ) (n : getD ws 0 0 ≡ 3) (p : getD ws 2 0 ≡ 64) (frame
         offices = rw (z .0, z .1, z .2) (ring-is ws (receivedBy (officeOf ws) (frameOf frame)) .0 ∙ got-ring (officeOf ws) (frameOf frame) .0 ∙ office-ring ws .0 ∙ n);
         plots = rw (z .0, z .1, z .2) (ring-is ws (receivedBy (officeOf ws) (frameOf frame)) .1 ∙ got-ring (officeOf ws) (frameOf frame) .1 ∙ office-ring ws .1 ∙ p);
       }
-
-pub received-few : (f : Frame) → length (receiveSends f) ≤ 1
-unfolding receiveSends
-received-few f = go (eqb (f .hops) 0)
-  where
-    go : (t : Bool) → length (cond t [] (onward f ∷ [])) ≤ 1
-    go true = omega arith
-    go false = omega arith

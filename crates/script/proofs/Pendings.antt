@@ -19,10 +19,6 @@ use Rattle.script.proofs.Lengths.{long-line}
 row : List ℕ → List ℕ
 row l = sets (replicate 32 0) 0 l
 
-row-length : (l : List ℕ) → length (row l) ≡ 32
-unfolding row
-row-length l = length-sets (replicate 32 0) 0 l
-
 store : (l : List ℕ) (b : ℕ) → set (row l) (min (length l) 33) b ≡ row (l ++ (b ∷ []))
 unfolding row
 store l b = ⊎-elim short long (lt-or-le (length l) 33) ∙ sym (sets-append (replicate 32 0) 0 l (b ∷ []))

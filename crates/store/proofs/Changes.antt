@@ -106,10 +106,6 @@ module _ (ws : List ℕ) (O : Office) (S : Sound O) (long : need (O .offices) �
   unfolding officeOf
   held-words = ap (λ (o : Office). o .held) back
 
-  pub visible-words : part (storeWords ws O) 11 8 ≡ O .visible
-  unfolding officeOf
-  visible-words = ap (λ (o : Office). o .visible) back
-
   -- to hold
   pub hold-words : (e : Entry) → Takes O e → holdWords (storeWords ws O) e ≡ storeWords ws (hold O e)
   unfolding holdWords

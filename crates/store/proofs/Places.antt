@@ -8,17 +8,15 @@ use native.Mathlib.Nat.{add-suc, add-zero}
 use native.Mathlib.Numerals.{add-one}
 use native.Mathlib.Omega.{arith}
 use lib.Dec.{eqb}
-use lib.ListN.{length, getD}
+use lib.ListN.{getD}
 use borrow.Author.Tests.{eq-eqb, ne-eqb}
 use Rattle.causal.specs.Tests.{both}
-use Rattle.causal.specs.Lists.{part}
-use Rattle.causal.specs.Sets.{subsetOf, bit, has, isIn}
+use Rattle.causal.specs.Sets.{bit, has, isIn}
 use Rattle.causal.proofs.Sets.{in-is}
 use Rattle.causal.proofs.Walk.{Passed, Next, fold-next, fold-end, has-word}
 use Rattle.frame.specs.Entries.{outranks}
 use Rattle.store.specs.Offices.{Office, slotAt, entryAt, Some, better, consider, bestTo, current}
 use Rattle.store.specs.Current.{InSlots, betterAt, weighed, placeTo, placeIn, currentAt, foundAt}
-use Rattle.store.proofs.Rules.{Rules, Held, reaches}
 use Rattle.store.specs.declared.current.Place.{Place}
 use Rattle.store.specs.declared.current.Place.the-variants.{At, Nowhere}
 
@@ -167,7 +165,3 @@ place-visible ws v plot (suc k) j e = go (isIn v k) refl e (place-visible ws v p
         → (placeTo ws v plot k ≡ At j → has v j ≡ 1) → has v j ≡ 1
     go true o f ih = ⊎-elim (λ q. ap (has v) q ∙ in-is v k o) ih (weighed-from ws plot k j (placeTo ws v plot k) f)
     go false o f ih = ih f
-
-pub current-slot : (ws v : List ℕ) (plot k : ℕ) → Rules ws → length v ≡ 8 → subsetOf v (part ws 3 8) ≡ true → currentAt ws v plot ≡ At k → Held ws k
-unfolding currentAt
-current-slot ws v plot k r l s e = reaches ws v r l s k (place-visible ws v plot (32 * getD ws 0 0) k e)

@@ -87,12 +87,6 @@ module _ (P : ℕ → Bool) where
 
 -- ---- the content of a store
 
-abbrev HeldIn : List ℕ → List ℕ
-HeldIn ws = part ws 3 8
-
-abbrev VisibleIn : List ℕ → List ℕ
-VisibleIn ws = part ws 11 8
-
 pub slot-is : (ws : List ℕ) (k : ℕ) → heldOk (officeOf ws) k ≡ slotOk ws (getD ws 0 0) (getD ws 2 0) (part ws 3 8) (part ws 11 8) k
 unfolding heldOk officeOf slotOk fits implies
 slot-is ws k = go (isIn (part ws 3 8) k)
@@ -215,7 +209,3 @@ reaches ws v r e s k h =
 -- the same of one word of it
 pub reach-word : (ws v : List ℕ) → Rules ws → length v ≡ 8 → subsetOf v (part ws 3 8) ≡ true → (i b : ℕ) → b < 32 → bit (getD v i 0) b ≡ 1 → slotAt (32 * i + b) + 18 ≤ length ws
 reach-word ws v r e s i b l o = reaches ws v r e s (32 * i + b) (has-word v i b l ∙ o) .reach
-
--- the slot of an id of the ring lies in the store
-pub slot-reach : (ws : List ℕ) → Laid ws → (k : ℕ) → k < 32 * getD ws 0 0 → (k < 256) × (slotAt k + 18 ≤ length ws)
-slot-reach ws L k h = (omega (arith, L .few), omega (arith, L .long))

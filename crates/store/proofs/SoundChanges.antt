@@ -8,16 +8,14 @@ use lib.Seq.{sets}
 use Rattle.causal.specs.Lists.{part}
 use Rattle.causal.specs.Sets.{IdSet, Within, subsetOf}
 use Rattle.causal.proofs.Sets.{subset-within}
-use Rattle.frame.specs.declared.entry.Entry.{Entry}
-use Rattle.store.specs.Offices.{need, officeOf, storeWords, soundStore, reveal, hold, current}
+use Rattle.store.specs.Offices.{need, officeOf, storeWords, soundStore, reveal, current}
 use Rattle.store.specs.Reveal.{revealed}
 use Rattle.store.specs.declared.reveal.Revealed.{Revealed}
-use Rattle.store.specs.Slots.{holdWords}
 use Rattle.store.specs.Current.{currentAt, foundAt}
 use Rattle.store.proofs.Bridge.{store-same}
-use Rattle.store.proofs.Keep.{Sound, Takes, store-facts, reveal-sound}
+use Rattle.store.proofs.Keep.{Sound, store-facts, reveal-sound}
 use Rattle.store.proofs.Rules.{laid}
-use Rattle.store.proofs.Changes.{hold-words, show-words, shown-held, current-words, revealed-visible}
+use Rattle.store.proofs.Changes.{show-words, shown-held, current-words, revealed-visible}
 
 module _ (ws : List ℕ) (words : (i : ℕ) → getD ws i 0 < 2 ^ 32) (sound : soundStore ws ≡ true) where
   same : storeWords ws (officeOf ws) ≡ ws
@@ -29,10 +27,6 @@ module _ (ws : List ℕ) (words : (i : ℕ) → getD ws i 0 < 2 ^ 32) (sound : s
 
   facts : Sound (officeOf ws)
   facts = store-facts ws words sound
-
-  -- to hold an entry
-  pub hold-store : (e : Entry) → Takes (officeOf ws) e → holdWords ws e ≡ storeWords ws (hold (officeOf ws) e)
-  hold-store e T = ap (λ (x : List ℕ). holdWords x e) (sym same) ∙ hold-words ws (officeOf ws) facts long e T
 
   -- to reveal: r is what `revealed_by` returned
   module _ (seeds : List ℕ) (w : IdSet seeds) (s : subsetOf seeds (part ws 3 8) ≡ true) (r : Revealed)

@@ -1,4 +1,4 @@
--- `host::lent.burial_lent_read_plot` meets its contract: a walk of its MIR over the covered `lent/plot_by_value`, written by walkgen.py. Assumes nothing.
+-- `host::lent.burial_lent_read_plot` meets its contract: a walk of its MIR over the covered `lent/plot_by_value`. Assumes nothing.
 use mathlib.Core.Path.{_≡_, refl, ap, _∙_}
 use Prim.Native.Nat.{ℕ, _<_, _^_}
 use mathlib.Core.List.{[], _∷_, List}

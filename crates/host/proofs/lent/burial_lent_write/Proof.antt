@@ -1,4 +1,4 @@
--- `host::lent.burial_lent_write` meets its contract: a walk of its MIR over the covered `lent/write_by_value`, written by walkgen.py. Assumes nothing.
+-- `host::lent.burial_lent_write` meets its contract: a walk of its MIR over the covered `lent/write_by_value`. Assumes nothing.
 use mathlib.Core.Path.{_≡_, refl, ap}
 use Prim.Native.Nat.{ℕ, _<_, _^_}
 use mathlib.Core.List.{[], _∷_, List}

@@ -1,4 +1,4 @@
--- `lent::calls.read_joint` meets its contract: a walk of its MIR over the covered `joint/read_joint`, written by walkgen.py. Assumes nothing.
+-- `lent::calls.read_joint` meets its contract: a walk of its MIR over the covered `joint/read_joint`. Assumes nothing.
 use mathlib.Core.Path.{_≡_, refl, ap}
 use Prim.Native.Nat.{ℕ}
 use mathlib.Core.List.{[], _∷_, List}

@@ -1,4 +1,4 @@
--- `lent::calls.read_plot` meets its contract: a walk of its MIR over the covered `core/read_plot_by_value`, written by walkgen.py. Assumes nothing.
+-- `lent::calls.read_plot` meets its contract: a walk of its MIR over the covered `core/read_plot_by_value`. Assumes nothing.
 use mathlib.Core.Path.{_≡_, refl, ap}
 use Prim.Native.Nat.{ℕ, _<_, _^_}
 use mathlib.Core.List.{[], _∷_, List}

@@ -1,4 +1,4 @@
--- `lent::calls.write` meets its contract: a walk of its MIR over the covered `write/write`, written by walkgen.py. Assumes nothing.
+-- `lent::calls.write` meets its contract: a walk of its MIR over the covered `write/write`. Assumes nothing.
 use mathlib.Core.Path.{_≡_, refl, ap}
 use Prim.Native.Nat.{ℕ, _<_, _^_}
 use mathlib.Core.List.{[], _∷_, List}

@@ -2,7 +2,7 @@ use Rattle.store.proofs.SoundChanges.{reveal-held}
 use Prim.Native.Nat.{ℕ, _^_, _<_}
 use mathlib.Core.Path.{sym, _∙_}
 use lib.ListN.{getD}
-use Rattle.office.proofs.Numbers.{read-ids}
+use Rattle.office.proofs.Shape.{read-ids}
 use Rattle.office.proofs.JointReads.{starts, decided, decide-first, decide-last}
 use borrow.Author.Needs.{needs}
 use Rattle.office.proofs.joint.decide.Statement.{statement}

@@ -4,7 +4,6 @@ use Rattle.causal.proofs.Codes.{codes}
 use Rattle.office.specs.Decide.{jointStart}
 use Rattle.office.proofs.Numbers.{start-facts}
 use Rattle.store.proofs.Rules.{laid}
-use Rattle.office.proofs.JointReads.{le-code-fails, le-code-passes}
 use Rattle.frame.specs.Sessions.{contentOf}
 use borrow.Author.Needs.{needs}
 use Rattle.office.proofs.joint.joint_start.Statement.{statement}
@@ -15,7 +14,7 @@ start-code-requires c κs = search needs
 
 returns : tie.Need-returns
 unfolding jointStart contentOf
-returns c = search (codes, le-code-fails, le-code-passes, arith) depth 9
+returns c = search (codes, arith) depth 9
 
 shared-slice-read-plots-ok : tie.Need-shared-slice-read-plots-ok
 shared-slice-read-plots-ok c = omega (arith, laid (c .before .before .before .before .before .args .store .now) (start-facts _ _ (sym (c .before .before .start-code .ensures) ∙ c .before .if1 .left) .0) .long)
@@ -25,25 +24,25 @@ plots-ok-requires c κs = search needs
 
 returns-2 : tie.Need-returns-2
 unfolding jointStart contentOf
-returns-2 c = search (codes, le-code-fails, le-code-passes, arith) depth 9
+returns-2 c = search (codes, arith) depth 9
 
 mul-if3 : tie.Need-mul-if3
 mul-if3 c = search needs
 
 returns-3 : tie.Need-returns-3
 unfolding jointStart contentOf
-returns-3 c = search (codes, le-code-fails, le-code-passes, arith) depth 9
+returns-3 c = search (codes, arith) depth 9
 
 held-all-requires : tie.Need-held-all-requires
 held-all-requires c κs = start-facts _ _ (sym (c .before .before .before .before .before .before .start-code .ensures) ∙ c .before .before .before .before .before .if1 .left) .0
 
 returns-4 : tie.Need-returns-4
 unfolding jointStart contentOf
-returns-4 c = search (codes, le-code-fails, le-code-passes, arith) depth 9
+returns-4 c = search (codes, arith) depth 9
 
 returns-5 : tie.Need-returns-5
 unfolding jointStart contentOf
-returns-5 c = search (codes, le-code-fails, le-code-passes, arith) depth 9
+returns-5 c = search (codes, arith) depth 9
 
 pub joint-start-spec : {M : Type 1} → statement M
 joint-start-spec =

@@ -3,7 +3,7 @@ use native.Mathlib.Omega.{arith}
 use Prim.Native.Nat.{ℕ, _^_, _<_}
 use mathlib.Core.Path.{refl, sym, _∙_}
 use lib.ListN.{length, getD}
-use Rattle.office.proofs.Numbers.{read-ids}
+use Rattle.office.proofs.Shape.{read-ids}
 use Rattle.store.proofs.Rules.{laid}
 use Rattle.office.proofs.JointReads.{joint-small, starts-none, show-decided, joint-refused, joint-accepted}
 use Rattle.frame.specs.Refusals.{codeOf}

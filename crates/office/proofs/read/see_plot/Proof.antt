@@ -1,4 +1,4 @@
-use Rattle.office.proofs.Numbers.{read-ids}
+use Rattle.office.proofs.Shape.{read-ids}
 use Rattle.office.proofs.Readings.{read-small, reads, sees-held, sees-store, sees-number, read-refused, read-accepted}
 use native.Mathlib.Omega.{arith}
 use Prim.Native.Nat.{ℕ, _^_, _<_}
