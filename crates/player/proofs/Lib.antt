@@ -17,3 +17,4 @@ pub mod Runs
 pub mod Started
 pub mod Enough
 pub mod Table
+pub mod Rows

@@ -3,8 +3,9 @@ use Prim.Native.Nat.{ℕ, suc, _+_, _-_, _<_, _≤_}
 use mathlib.Core.List.{List, [], _++_, _∷_, append-assoc, append-nil}
 use mathlib.Core.Logic.{⊎-elim}
 use mathlib.Core.Path.{_∙_, _≡_, ap, refl, subst, sym}
-use mathlib.Core.Bool.{true, false}
-use borrow.Author.Tests.{eqb-false, eqb-true}
+use mathlib.Core.Bool.{Bool, cond, false, true}
+use borrow.Author.Tests.{eq-eqb, eqb-false, eqb-true, ne-eqb}
+use lib.Dec.{eqb}
 use native.Mathlib.Nat.{add-zero, zero-add}
 use native.Mathlib.Omega.{arith}
 use lib.ListN.{drop, getD, length, length-append, take}
@@ -24,73 +25,96 @@ use Rattle.player.specs.declared.desk.Played.{Played}
 use Rattle.player.specs.Play.{Scene, play}
 use Rattle.player.specs.Shows.{Shows}
 use Rattle.player.specs.Steps.{Plays}
+use Rattle.player.proofs.Rows.{Plays-alike, play-alike, shows-alike}
 use Rattle.ring_program.specs.declared.feed.Stage.{Stage}
-use Rattle.ring_program.specs.Fed.{Ended, Fed, Finishes, Follows, Leads, byte, line, none}
+use Rattle.ring_program.specs.Fed.{Ended, Fed, Finishes, Follows, Leads, after, fed, outRow}
 
-fed-then : {g h k : Scene} {l m n bs cs x y : List ℕ} → Fed g l bs h m x → Fed h m cs k n y → Fed g l (bs ++ cs) k n (x ++ y)
-fed-then {g} {h} {k} {l} {m} {n} {bs} {cs} {x} {y} F none = subst (λ (p : List ℕ × List ℕ). Fed g l (p .0) h m (p .1)) (λ i. (sym (append-nil bs) i, sym (append-nil x) i)) F
-fed-then {g} {h} {k} {l} {m} {n} {bs} {cs} {x} {y} F (byte {h = h′} {bs = b′} {m = m′} {text = t′} b ne G) =
-    subst (λ (p : List ℕ). Fed g l p h′ (m′ ++ (b ∷ [])) (x ++ t′)) (append-assoc bs b′ (b ∷ [])) (byte b ne (fed-then F G))
-fed-then {g} {h} {k} {l} {m} {n} {bs} {cs} {x} {y} F (line {h = h′} {bs = b′} {m = m′} {text = t′} row e G) =
-    subst (λ (p : List ℕ × List ℕ). Fed g l (p .0) (play row h′ (lineOf m′) .0) [] (p .1)) (λ i. (append-assoc bs b′ (10 ∷ []) i, append-assoc x t′ (replyBytes (play row h′ (lineOf m′) .1)) i)) (line row e (fed-then F G))
+-- bytes fed one after another
+fed-append : (g : Scene) (l bs cs : List ℕ) → fed g l (bs ++ cs) ≡ after (fed g l bs .text) (fed (fed g l bs .scene) (fed g l bs .rest) cs)
+unfolding fed
+fed-append g l [] cs = refl
+fed-append g l (b ∷ bs) cs = by (eqb b 10) (fed-append next [] bs cs) (fed-append g (l ++ (b ∷ [])) bs cs)
+  where
+    said : List ℕ
+    said = replyBytes (play outRow g (lineOf l) .1)
 
-module _ (g : Scene) (l bs : List ℕ) (at : ℕ) (text : List ℕ) where
-  pub follows-then : (r : Stage) (stores lines text′ : List ℕ) (A : Follows g l bs at text r stores lines text′) (cs : List ℕ) (q : Stage) (stores′ lines′ text″ : List ℕ)
-      → Follows (A .scene) (A .rest) cs (r .at) text′ q stores′ lines′ text″ → Follows g l (bs ++ cs) at text q stores′ lines′ text″
-  follows-then r stores lines text′ A cs q stores′ lines′ text″ B =
-      record {
-        scene = B .scene;
-        rest = B .rest;
-        said = A .said ++ B .said;
-        fed = fed-then (A .fed) (B .fed);
-        shows = B .shows;
-        pending = B .pending;
-        at-is = omega (arith, B .at-is, A .at-is, length-append (A .said) (B .said));
-        text-is = B .text-is ∙ (λ i. sets (A .text-is i) (A .at-is i) (B .said)) ∙ sym (sets-append text at (A .said) (B .said));
-      }
+    next : Scene
+    next = play outRow g (lineOf l) .0
 
-pub ended-follows : (row : List ℕ) (g : Scene) (l : List ℕ) (at : ℕ) (text : List ℕ) (r : Stage) (stores lines text′ : List ℕ) → length row ≡ 1751 → (b : ℕ) → b ≡ 10
-    → Ended row g l at text r stores lines text′ → Follows g l (b ∷ []) at text r stores lines text′
-ended-follows row g l at text r stores lines text′ e b is E =
-    record {
-      scene = play row g (lineOf l) .0;
-      rest = [];
-      said = replyBytes (play row g (lineOf l) .1);
-      fed = subst (λ (x : ℕ). Fed g l (x ∷ []) (play row g (lineOf l) .0) [] (replyBytes (play row g (lineOf l) .1))) (sym is) (line row e none);
+    then : Fed → Fed
+    then f = after (f .text) (fed (f .scene) (f .rest) cs)
+
+    by : (t : Bool) → fed next [] (bs ++ cs) ≡ then (fed next [] bs) → fed g (l ++ (b ∷ [])) (bs ++ cs) ≡ then (fed g (l ++ (b ∷ [])) bs)
+        → cond t (after said (fed next [] (bs ++ cs))) (fed g (l ++ (b ∷ [])) (bs ++ cs)) ≡ then (cond t (after said (fed next [] bs)) (fed g (l ++ (b ∷ [])) bs))
+    by true p q =
+        ap (after said) p
+        ∙ (λ i. record {
+          scene = fed (fed next [] bs .scene) (fed next [] bs .rest) cs .scene;
+          rest = fed (fed next [] bs .scene) (fed next [] bs .rest) cs .rest;
+          text = sym (append-assoc said (fed next [] bs .text) (fed (fed next [] bs .scene) (fed next [] bs .rest) cs .text)) i;
+        })
+    by false p q = q
+
+pub follows-then : (g : Scene) (l bs : List ℕ) (at : ℕ) (text : List ℕ) (r : Stage) (stores lines text′ cs : List ℕ) (q : Stage) (stores′ lines′ text″ : List ℕ)
+    → Follows (fed g l bs) at text r stores lines text′ → Follows (fed (fed g l bs .scene) (fed g l bs .rest) cs) (r .at) text′ q stores′ lines′ text″
+    → Follows (fed g l (bs ++ cs)) at text q stores′ lines′ text″
+follows-then g l bs at text r stores lines text′ cs q stores′ lines′ text″ A B =
+    subst (λ (f : Fed). Follows f at text q stores′ lines′ text″) (sym (fed-append g l bs cs))
+    (record {
+      shows = B .shows;
+      pending = B .pending;
+      at-is = omega (arith, B .at-is, A .at-is, length-append (fed g l bs .text) (fed (fed g l bs .scene) (fed g l bs .rest) cs .text));
+      text-is =
+          B .text-is ∙ (λ i. sets (A .text-is i) (A .at-is i) (fed (fed g l bs .scene) (fed g l bs .rest) cs .text))
+          ∙ sym (sets-append text at (fed g l bs .text) (fed (fed g l bs .scene) (fed g l bs .rest) cs .text));
+    })
+
+-- one byte
+fed-line : (g : Scene) (l : List ℕ) (b : ℕ) → b ≡ 10 → fed g l (b ∷ []) ≡ record { scene = play outRow g (lineOf l) .0; rest = []; text = replyBytes (play outRow g (lineOf l) .1) ++ [] }
+unfolding fed
+fed-line g l b e = rw (eq-eqb b 10 e) refl
+
+fed-byte : (g : Scene) (l : List ℕ) (b : ℕ) → (b ≡ 10 → ⊥) → fed g l (b ∷ []) ≡ record { scene = g; rest = l ++ (b ∷ []); text = [] }
+unfolding fed
+fed-byte g l b n = rw (ne-eqb b 10 n) refl
+
+pub ended-follows : (g : Scene) (l : List ℕ) (at : ℕ) (text : List ℕ) (r : Stage) (stores lines text′ : List ℕ) (b : ℕ) → b ≡ 10
+    → Ended g l at text r stores lines text′ → Follows (fed g l (b ∷ [])) at text r stores lines text′
+ended-follows g l at text r stores lines text′ b is E =
+    subst (λ (f : Fed). Follows f at text r stores lines text′) (sym (fed-line g l b is))
+    (record {
       shows = E .shows;
       pending = E .pending;
-      at-is = E .at-is;
-      text-is = E .text-is;
-    }
+      at-is = E .at-is ∙ ap (λ (x : List ℕ). at + length x) (sym (append-nil said));
+      text-is = E .text-is ∙ ap (sets text at) (sym (append-nil said));
+    })
+  where
+    said : List ℕ
+    said = replyBytes (play outRow g (lineOf l) .1)
 
 pub byte-follows : (g : Scene) (l : List ℕ) (at : ℕ) (text : List ℕ) (d : Desk) (p q : Pending) (stores lines : List ℕ) (b : ℕ) → (b ≡ 10 → ⊥) → Shows g d stores lines → p ≡ pendingOf l → q ≡ pushed p b
-    → Follows g l (b ∷ []) at text (record { desk = d; pending = q; at = at }) stores lines text
+    → Follows (fed g l (b ∷ [])) at text (record { desk = d; pending = q; at = at }) stores lines text
 byte-follows g l at text d p q stores lines b ne S e h =
-    record {
-      scene = g;
-      rest = l ++ (b ∷ []);
-      said = [];
-      fed = byte b ne none;
-      shows = S;
-      pending = h ∙ ap (λ (x : Pending). pushed x b) e ∙ push-more l b;
-      at-is = sym (add-zero at);
-      text-is = refl;
-    }
+    subst (λ (f : Fed). Follows f at text (record { desk = d; pending = q; at = at }) stores lines text) (sym (fed-byte g l b ne))
+    (record { shows = S; pending = h ∙ ap (λ (x : Pending). pushed x b) e ∙ push-more l b; at-is = sym (add-zero at); text-is = refl })
 
--- a line played and its reply put
-pub ended : (row : List ℕ) (g : Scene) (l : List ℕ) (at n : ℕ) (text text′ : List ℕ) (asked : Line) (r : Played) (blank : Pending) (stores lines : List ℕ) → asked ≡ lineOf l → Plays row g asked r stores lines
-    → n ≡ at + length (replyBytes (r .reply)) → text′ ≡ sets text at (replyBytes (r .reply)) → blank ≡ pendingOf []
-    → Ended row g l at text (record { desk = r .desk; pending = blank; at = n }) stores lines text′
-ended row g l at n text text′ asked r blank stores lines e P a t z =
+-- a line played and its reply put; which words the out row had makes no difference
+pub ended : (row : List ℕ) (g : Scene) (l : List ℕ) (at n : ℕ) (text text′ : List ℕ) (asked : Line) (r : Played) (blank : Pending) (stores lines : List ℕ) → length row ≡ 1751 → asked ≡ lineOf l
+    → Plays row g asked r stores lines → n ≡ at + length (replyBytes (r .reply)) → text′ ≡ sets text at (replyBytes (r .reply)) → blank ≡ pendingOf []
+    → Ended g l at text (record { desk = r .desk; pending = blank; at = n }) stores lines text′
+ended row g l at n text text′ asked r blank stores lines long e P a t z =
     record {
-      shows = subst (λ (x : Line). Shows (play row g x .0) (r .desk) stores lines) e (P .shows);
+      shows = shows-alike _ _ (r .desk) stores lines (A .ring) (A .place) (subst (λ (x : Line). Shows (play row g x .0) (r .desk) stores lines) e (P .shows));
       pending = z;
       at-is = a ∙ ap (λ (x : Reply). at + length (replyBytes x)) said;
       text-is = t ∙ ap (λ (x : Reply). sets text at (replyBytes x)) said;
     }
   where
-    said : r .reply ≡ play row g (lineOf l) .1
-    said = P .reply ∙ ap (λ (x : Line). play row g x .1) e
+    A : Plays-alike (play row g (lineOf l)) (play outRow g (lineOf l))
+    A = play-alike row outRow long g (lineOf l)
+
+    said : r .reply ≡ play outRow g (lineOf l) .1
+    said = P .reply ∙ ap (λ (x : Line). play row g x .1) e ∙ A .reply
 
 part-one : (xs : List ℕ) (a : ℕ) → a < length xs → part xs a 1 ≡ getD xs a 0 ∷ []
 unfolding part
@@ -113,17 +137,19 @@ unfolding part
 part-zero bytes i = let e : i - i ≡ 0 = omega arith in ap (λ (x : ℕ). take x (drop i bytes)) e
 
 pub nothing-fed : (bytes : List ℕ) (i : ℕ) (r : Stage) (stores lines text : List ℕ) (g : Scene) (l : List ℕ) → Shows g (r .desk) stores lines → r .pending ≡ pendingOf l
-    → Follows g l (part bytes i (i - i)) (r .at) text r stores lines text
+    → Follows (fed g l (part bytes i (i - i))) (r .at) text r stores lines text
+unfolding fed
 nothing-fed bytes i r stores lines text g l S e =
-    subst (λ (x : List ℕ). Follows g l x (r .at) text r stores lines text) (sym (part-zero bytes i))
-    (record { scene = g; rest = l; said = []; fed = none; shows = S; pending = e; at-is = sym (add-zero (r .at)); text-is = refl })
+    subst (λ (x : List ℕ). Follows (fed g l x) (r .at) text r stores lines text) (sym (part-zero bytes i))
+    (record { shows = S; pending = e; at-is = sym (add-zero (r .at)); text-is = refl })
 
 pub one-more : (bytes : List ℕ) (from i : ℕ) → from ≤ i → i < length bytes → (g : Scene) (l : List ℕ) (at : ℕ) (text : List ℕ) (r : Stage) (stores lines text′ : List ℕ)
-    (A : Follows g l (part bytes from (i - from)) at text r stores lines text′) (q : Stage) (stores′ lines′ text″ : List ℕ)
-    → Follows (A .scene) (A .rest) (getD bytes i 0 ∷ []) (r .at) text′ q stores′ lines′ text″ → Follows g l (part bytes from (i + 1 - from)) at text q stores′ lines′ text″
+    → Follows (fed g l (part bytes from (i - from))) at text r stores lines text′ → (q : Stage) (stores′ lines′ text″ : List ℕ)
+    → Follows (fed (fed g l (part bytes from (i - from)) .scene) (fed g l (part bytes from (i - from)) .rest) (getD bytes i 0 ∷ [])) (r .at) text′ q stores′ lines′ text″
+    → Follows (fed g l (part bytes from (i + 1 - from))) at text q stores′ lines′ text″
 one-more bytes from i h k g l at text r stores lines text′ A q stores′ lines′ text″ B =
-    subst (λ (x : List ℕ). Follows g l x at text q stores′ lines′ text″) (part-next bytes from i h k)
-    (follows-then g l (part bytes from (i - from)) at text r stores lines text′ A (getD bytes i 0 ∷ []) q stores′ lines′ text″ B)
+    subst (λ (x : List ℕ). Follows (fed g l x) at text q stores′ lines′ text″) (part-next bytes from i h k)
+    (follows-then g l (part bytes from (i - from)) at text r stores lines text′ (getD bytes i 0 ∷ []) q stores′ lines′ text″ A B)
 
 -- a turn that ends at once, short of room, is none at the first byte
 pub moved : (from i at room : ℕ) → from ≤ i → room - at < 40 → at ≤ room → (i ≡ from → at + 40 ≤ room) → from < i
@@ -137,15 +163,15 @@ pub record Turn (b : ℕ) (cur : Stage) (stores lines scratch out text : List �
   pub out-same : length out′ ≡ length out
   pub text-same : length text′ ≡ length text
   pub near : cur′ .at ≤ cur .at + 40
-  pub fed : (g : Scene) (l : List ℕ) → Shows g (cur .desk) stores lines → cur .pending ≡ pendingOf l → Follows g l (b ∷ []) (cur .at) text cur′ stores′ lines′ text′
+  pub fed : (g : Scene) (l : List ℕ) → Shows g (cur .desk) stores lines → cur .pending ≡ pendingOf l → Follows (fed g l (b ∷ [])) (cur .at) text cur′ stores′ lines′ text′
 
 module _ (b : ℕ) (cur : Stage) (stores lines scratch out text : List ℕ) where
   -- a newline: the line is played
-  pub turn-ended : (r : Stage) (s₁ l₁ c₁ o₁ t₁ : List ℕ) → b ≡ 10 → length out ≡ 1751 → length s₁ ≡ length stores → length l₁ ≡ length lines → length c₁ ≡ length scratch → length o₁ ≡ length out → length t₁ ≡ length text
-      → r .at ≤ cur .at + 40 → ((g : Scene) (l : List ℕ) → Shows g (cur .desk) stores lines → cur .pending ≡ pendingOf l → Ended out g l (cur .at) text r s₁ l₁ t₁)
+  pub turn-ended : (r : Stage) (s₁ l₁ c₁ o₁ t₁ : List ℕ) → b ≡ 10 → length s₁ ≡ length stores → length l₁ ≡ length lines → length c₁ ≡ length scratch → length o₁ ≡ length out → length t₁ ≡ length text
+      → r .at ≤ cur .at + 40 → ((g : Scene) (l : List ℕ) → Shows g (cur .desk) stores lines → cur .pending ≡ pendingOf l → Ended g l (cur .at) text r s₁ l₁ t₁)
       → (cur′ : Stage) (stores′ lines′ scratch′ out′ text′ : List ℕ) → stores′ ≡ s₁ → lines′ ≡ l₁ → scratch′ ≡ c₁ → out′ ≡ o₁ → text′ ≡ t₁ → cur′ ≡ r
       → Turn b cur stores lines scratch out text cur′ stores′ lines′ scratch′ out′ text′
-  turn-ended r s₁ l₁ c₁ o₁ t₁ is room hs hl hc ho ht near E cur′ stores′ lines′ scratch′ out′ text′ es el ec eo et er =
+  turn-ended r s₁ l₁ c₁ o₁ t₁ is hs hl hc ho ht near E cur′ stores′ lines′ scratch′ out′ text′ es el ec eo et er =
       record {
         stores-same = ap length es ∙ hs;
         lines-same = ap length el ∙ hl;
@@ -154,8 +180,8 @@ module _ (b : ℕ) (cur : Stage) (stores lines scratch out text : List ℕ) wher
         text-same = ap length et ∙ ht;
         near = omega (arith, near, ap (λ (x : Stage). x .at) er);
         fed = λ g l S e.
-            subst (λ (p : Stage × List ℕ × List ℕ × List ℕ). Follows g l (b ∷ []) (cur .at) text (p .0) (p .1) (p .2) (p .3)) (λ i. (sym er i, sym es i, sym el i, sym et i))
-            (ended-follows out g l (cur .at) text r s₁ l₁ t₁ room b is (E g l S e));
+            subst (λ (p : Stage × List ℕ × List ℕ × List ℕ). Follows (fed g l (b ∷ [])) (cur .at) text (p .0) (p .1) (p .2) (p .3)) (λ i. (sym er i, sym es i, sym el i, sym et i))
+            (ended-follows g l (cur .at) text r s₁ l₁ t₁ b is (E g l S e));
       }
 
   -- any other byte waits for the line's end
@@ -171,7 +197,7 @@ module _ (b : ℕ) (cur : Stage) (stores lines scratch out text : List ℕ) wher
         text-same = ap length et;
         near = omega (arith, ap (λ (x : Stage). x .at) er);
         fed = λ g l S e.
-            subst (λ (p : Stage × List ℕ × List ℕ × List ℕ). Follows g l (b ∷ []) (cur .at) text (p .0) (p .1) (p .2) (p .3)) (λ i. (sym er i, sym es i, sym el i, sym et i))
+            subst (λ (p : Stage × List ℕ × List ℕ × List ℕ). Follows (fed g l (b ∷ [])) (cur .at) text (p .0) (p .1) (p .2) (p .3)) (λ i. (sym er i, sym es i, sym el i, sym et i))
             (byte-follows g l (cur .at) text (cur .desk) (cur .pending) q stores lines b ne S e h);
       }
 
@@ -181,30 +207,27 @@ part-whole : (bytes : List ℕ) → part bytes 0 (length bytes) ≡ bytes
 unfolding part
 part-whole bytes = take-length bytes
 
-pub leads-none : (bytes : List ℕ) (r : Stage) (stores lines : List ℕ) (g : Scene) (l : List ℕ) → Shows g (r .desk) stores lines → r .pending ≡ pendingOf l → Leads g l (part bytes 0 0) r stores lines
-unfolding part
-leads-none bytes r stores lines g l S e = record { scene = g; rest = l; said = []; fed = none; shows = S; pending = e }
+pub leads-none : (bytes : List ℕ) (r : Stage) (stores lines : List ℕ) (g : Scene) (l : List ℕ) → Shows g (r .desk) stores lines → r .pending ≡ pendingOf l → Leads (fed g l (part bytes 0 0)) r stores lines
+unfolding part fed
+leads-none bytes r stores lines g l S e = record { shows = S; pending = e }
 
-pub leads-then : (bytes : List ℕ) (from next : ℕ) → from ≤ next → (g : Scene) (l : List ℕ) (r : Stage) (stores lines : List ℕ) (A : Leads g l (part bytes 0 from) r stores lines) (at : ℕ) (text : List ℕ) (q w : Stage)
-    (stores′ lines′ text′ : List ℕ) → Follows (A .scene) (A .rest) (part bytes from (next - from)) at text q stores′ lines′ text′ → w .desk ≡ q .desk → w .pending ≡ q .pending
-    → Leads g l (part bytes 0 next) w stores′ lines′
-leads-then bytes from next h g l r stores lines A at text q w stores′ lines′ text′ B d p =
-    record {
-      scene = B .scene;
-      rest = B .rest;
-      said = A .said ++ B .said;
-      fed = subst (λ (x : List ℕ). Fed g l x (B .scene) (B .rest) (A .said ++ B .said)) whole (fed-then (A .fed) (B .fed));
-      shows = subst (λ (x : Desk). Shows (B .scene) x stores′ lines′) (sym d) (B .shows);
-      pending = p ∙ B .pending;
-    }
+pub leads-then : (bytes : List ℕ) (from next : ℕ) → from ≤ next → (g : Scene) (l : List ℕ) (at : ℕ) (text : List ℕ) (q w : Stage) (stores′ lines′ text′ : List ℕ)
+    → Follows (fed (fed g l (part bytes 0 from) .scene) (fed g l (part bytes 0 from) .rest) (part bytes from (next - from))) at text q stores′ lines′ text′ → w .desk ≡ q .desk → w .pending ≡ q .pending
+    → Leads (fed g l (part bytes 0 next)) w stores′ lines′
+leads-then bytes from next h g l at text q w stores′ lines′ text′ B d p =
+    subst (λ (f : Fed). Leads f w stores′ lines′) (sym (fed-append g l (part bytes 0 from) (part bytes from (next - from))) ∙ ap (fed g l) whole)
+    (record { shows = subst (λ (x : Desk). Shows (more .scene) x stores′ lines′) (sym d) (B .shows); pending = p ∙ B .pending })
   where
+    more : Fed
+    more = fed (fed g l (part bytes 0 from) .scene) (fed g l (part bytes 0 from) .rest) (part bytes from (next - from))
+
     whole : part bytes 0 from ++ part bytes from (next - from) ≡ part bytes 0 next
     whole =
         let e : from + (next - from) ≡ next = omega arith in
         ap (λ (x : ℕ). part bytes 0 from ++ part bytes x (next - from)) (sym (zero-add from)) ∙ sym (part-add bytes 0 from (next - from)) ∙ ap (part bytes 0) e
 
-pub leads-all : (bytes : List ℕ) (n : ℕ) → n ≡ length bytes → (g : Scene) (l : List ℕ) (r : Stage) (stores lines : List ℕ) → Leads g l (part bytes 0 n) r stores lines → Leads g l bytes r stores lines
-leads-all bytes n e g l r stores lines A = subst (λ (x : List ℕ). Leads g l x r stores lines) (ap (part bytes 0) e ∙ part-whole bytes) A
+pub leads-all : (bytes : List ℕ) (n : ℕ) → n ≡ length bytes → (g : Scene) (l : List ℕ) (r : Stage) (stores lines : List ℕ) → Leads (fed g l (part bytes 0 n)) r stores lines → Leads (fed g l bytes) r stores lines
+leads-all bytes n e g l r stores lines A = subst (λ (x : List ℕ). Leads (fed g l x) r stores lines) (ap (part bytes 0) e ∙ part-whole bytes) A
 
 -- ---- the end of the input
 
@@ -215,14 +238,14 @@ empty-list (b ∷ l) e = let k : suc (length l) ≡ 0 = eqb-true _ _ (sym (empty
 some-list : (l : List ℕ) → isEmpty (pendingOf l) ≡ false → l ≡ [] → ⊥
 some-list l e n = eqb-false _ _ (sym (empty-is l) ∙ e) (ap length n)
 
-pub nothing-finishes : (row : List ℕ) (g : Scene) (l text : List ℕ) (p : Pending) → p ≡ pendingOf l → isEmpty p ≡ true → Finishes row g l text text
-nothing-finishes row g l text p e h =
+pub nothing-finishes : (g : Scene) (l text : List ℕ) (p : Pending) → p ≡ pendingOf l → isEmpty p ≡ true → Finishes g l text text
+nothing-finishes g l text p e h =
     record { nothing-left = λ (_ : l ≡ []). refl; last = λ (some : l ≡ [] → ⊥). absurd (some (empty-list l (ap isEmpty (sym e) ∙ h))) }
 
-pub last-finishes : (row : List ℕ) (g : Scene) (l : List ℕ) (at : ℕ) (text : List ℕ) (r : Stage) (stores lines text′ : List ℕ) (p : Pending) → p ≡ pendingOf l → isEmpty p ≡ false → at ≡ 0
-    → Ended row g l at text r stores lines text′ → Finishes row g l text text′
-last-finishes row g l at text r stores lines text′ p e h z E =
+pub last-finishes : (g : Scene) (l : List ℕ) (at : ℕ) (text : List ℕ) (r : Stage) (stores lines text′ : List ℕ) (p : Pending) → p ≡ pendingOf l → isEmpty p ≡ false → at ≡ 0
+    → Ended g l at text r stores lines text′ → Finishes g l text text′
+last-finishes g l at text r stores lines text′ p e h z E =
     record {
       nothing-left = λ (n : l ≡ []). absurd (some-list l (ap isEmpty (sym e) ∙ h) n);
-      last = λ (_ : l ≡ [] → ⊥). E .text-is ∙ ap (λ (x : ℕ). sets text x (replyBytes (play row g (lineOf l) .1))) z;
+      last = λ (_ : l ≡ [] → ⊥). E .text-is ∙ ap (λ (x : ℕ). sets text x (replyBytes (play outRow g (lineOf l) .1))) z;
     }

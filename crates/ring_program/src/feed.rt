@@ -7,7 +7,7 @@ ghost use Rattle.causal.specs.Lists.{part};
 ghost use Rattle.script.specs.Pendings.{pendingOf};
 ghost use Rattle.player.specs.Play.{Scene};
 ghost use Rattle.player.specs.Shows.{Shown, Shows};
-ghost use Rattle.ring_program.specs.Fed.{Ended, Finishes, Follows, Leads, Staged};
+ghost use Rattle.ring_program.specs.Fed.{Ended, Finishes, Follows, Leads, Staged, fed};
 use player::desk::Desk;
 use player::play::play_line;
 use script::pending::Pending;
@@ -34,7 +34,7 @@ pub fn end_line(
     text: &mut [u8],
 ) -> Stage
     requires { ⌜ (length (now scratch) ≡ 1747) × (length (now out) ≡ 1751) × (stage .at + 40 ≤ length (now text)) × Shown (stage .desk) (now stores) (now lines) ⌝ }
-    ensures { λ r. ⌜ (r .at ≤ stage .at + 40) × ((g : Scene) (l : List ℕ) → Shows g (stage .desk) (now (stores .entry)) (now (lines .entry)) → stage .pending ≡ pendingOf l → Ended (now (out .entry)) g l (stage .at) (now (text .entry)) r (now (stores .exit)) (now (lines .exit)) (now (text .exit))) ⌝ }
+    ensures { λ r. ⌜ (r .at ≤ stage .at + 40) × ((g : Scene) (l : List ℕ) → Shows g (stage .desk) (now (stores .entry)) (now (lines .entry)) → stage .pending ≡ pendingOf l → Ended g l (stage .at) (now (text .entry)) r (now (stores .exit)) (now (lines .exit)) (now (text .exit))) ⌝ }
 {
     let pending = stage.pending;
     let line = parse(pending);
@@ -69,7 +69,7 @@ pub fn feed_some(
     text: &mut [u8],
 ) -> Reached
     requires { ⌜ (length (now scratch) ≡ 1747) × (length (now out) ≡ 1751) × (stage .at + 40 ≤ length (now text)) × (from < length (now bytes)) × Staged stage (now stores) (now lines) ⌝ }
-    ensures { λ r. ⌜ (from < r .next) × (r .next ≤ length (now (bytes .entry))) × (r .stage .at ≤ length (now (text .entry))) × ((g : Scene) (l : List ℕ) → Shows g (stage .desk) (now (stores .entry)) (now (lines .entry)) → stage .pending ≡ pendingOf l → Follows g l (part (now (bytes .entry)) from (r .next - from)) (stage .at) (now (text .entry)) (r .stage) (now (stores .exit)) (now (lines .exit)) (now (text .exit))) ⌝ }
+    ensures { λ r. ⌜ (from < r .next) × (r .next ≤ length (now (bytes .entry))) × (r .stage .at ≤ length (now (text .entry))) × ((g : Scene) (l : List ℕ) → Shows g (stage .desk) (now (stores .entry)) (now (lines .entry)) → stage .pending ≡ pendingOf l → Follows (fed g l (part (now (bytes .entry)) from (r .next - from))) (stage .at) (now (text .entry)) (r .stage) (now (stores .exit)) (now (lines .exit)) (now (text .exit))) ⌝ }
 {
     let mut cur = stage;
     let mut i = from;
@@ -115,7 +115,7 @@ pub fn feed_all(
     text: &mut [u8],
 ) -> Stage
     requires { ⌜ (length (now scratch) ≡ 1747) × (length (now out) ≡ 1751) × (length (now text) ≡ 8192) × (stage .at ≡ 0) × Staged stage (now stores) (now lines) ⌝ }
-    ensures { λ r. ⌜ (r .at ≡ 0) × ((g : Scene) (l : List ℕ) → Shows g (stage .desk) (now (stores .entry)) (now (lines .entry)) → stage .pending ≡ pendingOf l → Leads g l (now (bytes .entry)) r (now (stores .exit)) (now (lines .exit))) ⌝ }
+    ensures { λ r. ⌜ (r .at ≡ 0) × ((g : Scene) (l : List ℕ) → Shows g (stage .desk) (now (stores .entry)) (now (lines .entry)) → stage .pending ≡ pendingOf l → Leads (fed g l (now (bytes .entry))) r (now (stores .exit)) (now (lines .exit))) ⌝ }
 {
     let mut cur = stage;
     let mut from = 0;
@@ -163,7 +163,7 @@ pub fn finish(
     text: &mut [u8],
 )
     requires { ⌜ (length (now scratch) ≡ 1747) × (length (now out) ≡ 1751) × (length (now text) ≡ 8192) × (stage .at ≡ 0) × Staged stage (now stores) (now lines) ⌝ }
-    ensures { λ _. ⌜ ((g : Scene) (l : List ℕ) → Shows g (stage .desk) (now (stores .entry)) (now (lines .entry)) → stage .pending ≡ pendingOf l → Finishes (now (out .entry)) g l (now (text .entry)) (now (text .exit))) ⌝ }
+    ensures { λ _. ⌜ ((g : Scene) (l : List ℕ) → Shows g (stage .desk) (now (stores .entry)) (now (lines .entry)) → stage .pending ≡ pendingOf l → Finishes g l (now (text .entry)) (now (text .exit))) ⌝ }
 {
     let pending = stage.pending;
     if is_empty(pending) {

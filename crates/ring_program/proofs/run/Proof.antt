@@ -83,7 +83,7 @@ loop-again c = let z = c .before .before .before .before .before .before .before
     let L = c .before .before .before .before .before .before .before .before .before .before .before .before .before .before .before .before .before .before .before .before .before .before .before .before .before .loop in
     let q = c .before .before .before .before .before .before .before .before .before .before .feed-all in
     let X = q .ensures .1 (L .inv .7 .0) (L .inv .7 .1) (L .inv .7 .2) (L .inv .7 .3) in
-    (q .kept .1 .1 .0 ∙ L .inv .0, q .kept .1 .1 .1 .0 ∙ L .inv .1, q .kept .1 .1 .1 .1 .0 ∙ L .inv .2, q .kept .1 .1 .1 .1 .1 .0 ∙ L .inv .3, c .before .before .before .before .before .before .before .before .before .before .before .before .before .before .before .before .before .before .before .before .before .before .read .kept .1 .0 ∙ L .inv .4, q .kept .1 .1 .1 .1 .1 .1 .0 ∙ L .inv .5, q .ensures .0, (X .scene, X .rest, X .shows, X .pending))
+    (q .kept .1 .1 .0 ∙ L .inv .0, q .kept .1 .1 .1 .0 ∙ L .inv .1, q .kept .1 .1 .1 .1 .0 ∙ L .inv .2, q .kept .1 .1 .1 .1 .1 .0 ∙ L .inv .3, c .before .before .before .before .before .before .before .before .before .before .before .before .before .before .before .before .before .before .before .before .before .before .read .kept .1 .0 ∙ L .inv .4, q .kept .1 .1 .1 .1 .1 .1 .0 ∙ L .inv .5, q .ensures .0, (_, _, X .shows, X .pending))
 
 same-length-7 : tie.Need-same-length-7 Inv-loop μ-loop
 same-length-7 c = c .before .loop .inv .0 ∙ c .before .before .before .before .before .open-ring .kept .0

@@ -9,13 +9,13 @@ use Rattle.player.specs.Play.{Scene}
 use Rattle.player.specs.Shows.{Shows}
 use Rattle.ring_program.proofs.Feeding as fd
 use lib.Seq.{length-take-le}
-use Rattle.ring_program.specs.Fed.{Leads}
+use Rattle.ring_program.specs.Fed.{Leads, fed}
 use borrow.Author.Needs.{needs}
 use Rattle.ring_program.proofs.feed.feed_all.Statement.{statement}
 use Rattle.ring_program.proofs.feed.feed_all.Tie as tie
 
 abbrev Inv-loop : tie.InvT-loop
-Inv-loop bytes stores₀ lines₀ scratch₀ out₀ text₀ cur₀ from₀ stores lines scratch out text cur from = (from ≤ length bytes) × (length scratch ≡ length scratch₀) × (length out ≡ length out₀) × (length text ≡ length text₀) × (length stores ≡ length stores₀) × (length lines ≡ length lines₀) × (cur .at ≡ 0) × ((g : Scene) (l : List ℕ) → Shows g (cur₀ .desk) stores₀ lines₀ → cur₀ .pending ≡ pendingOf l → Leads g l (part bytes 0 from) cur stores lines)
+Inv-loop bytes stores₀ lines₀ scratch₀ out₀ text₀ cur₀ from₀ stores lines scratch out text cur from = (from ≤ length bytes) × (length scratch ≡ length scratch₀) × (length out ≡ length out₀) × (length text ≡ length text₀) × (length stores ≡ length stores₀) × (length lines ≡ length lines₀) × (cur .at ≡ 0) × ((g : Scene) (l : List ℕ) → Shows g (cur₀ .desk) stores₀ lines₀ → cur₀ .pending ≡ pendingOf l → Leads (fed g l (part bytes 0 from)) cur stores lines)
 
 abbrev μ-loop : tie.MeasureT-loop
 μ-loop bytes stores₀ lines₀ scratch₀ out₀ text₀ cur₀ from₀ stores lines scratch out text cur from = length bytes - from
@@ -30,7 +30,7 @@ feed-some-requires c κs = let z = c .before .before .before .before .before .be
     let a = z .args in
     let L = c .before .before .before .before .before .before .loop in
     let B = L .inv .7 (z .pre .4 .0) (z .pre .4 .1) (z .pre .4 .2) (z .pre .4 .3) in
-    (L .inv .1 ∙ z .pre .0, L .inv .2 ∙ z .pre .1, omega (arith, L .inv .6, L .inv .3, z .pre .2), c .before .before .before .before .before .loop-test .taken, (B .scene, B .rest, B .shows, B .pending))
+    (L .inv .1 ∙ z .pre .0, L .inv .2 ∙ z .pre .1, omega (arith, L .inv .6, L .inv .3, z .pre .2), c .before .before .before .before .before .loop-test .taken, (_, _, B .shows, B .pending))
 
 slice-reshare-prefix-write-all : tie.Need-slice-reshare-prefix-write-all Inv-loop μ-loop
 slice-reshare-prefix-write-all c = let z = c .before .before .before .before .before .before .before .before .before .before .before .before .before .before .before .before .before .before .before .before .before .before .before .before .before in
@@ -78,7 +78,7 @@ loop-again c = let z = c .before .before .before .before .before .before .before
       w .ensures .2,
       λ g l S e.
           let X = L .inv .7 g l S e in
-          fd.leads-then (a .bytes .now) (L .from) (q .result .next) (omega (arith, q .ensures .0)) g l (L .cur) _ _ X (L .cur .at) _ (q .result .stage) (w .result) _ _ _ (q .ensures .3 (X .scene) (X .rest) (X .shows) (X .pending)) (w .ensures .0) (w .ensures .1),
+          fd.leads-then (a .bytes .now) (L .from) (q .result .next) (omega (arith, q .ensures .0)) g l (L .cur .at) _ (q .result .stage) (w .result) _ _ _ (q .ensures .3 _ _ (X .shows) (X .pending)) (w .ensures .0) (w .ensures .1),
     )
 
 same-length : tie.Need-same-length Inv-loop μ-loop

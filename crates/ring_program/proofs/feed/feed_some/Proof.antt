@@ -8,7 +8,7 @@ use Rattle.causal.specs.Lists.{part}
 use Rattle.script.specs.Pendings.{pendingOf}
 use Rattle.player.specs.Play.{Scene}
 use Rattle.player.specs.Shows.{Shows}
-use Rattle.ring_program.specs.Fed.{Follows}
+use Rattle.ring_program.specs.Fed.{Follows, fed}
 use Rattle.ring_program.proofs.Feeding as fd
 use borrow.Author.Needs.{needs}
 use Rattle.ring_program.proofs.feed.feed_some.Statement.{statement}
@@ -17,7 +17,7 @@ use Rattle.ring_program.proofs.feed.feed_some.Tie as tie
 abbrev Inv-loop : tie.InvT-loop
 Inv-loop bytes from stores₀ lines₀ scratch₀ out₀ text₀ cur₀ i₀ stores lines scratch out text cur i =
     (i₀ ≤ i) × (i ≤ length bytes) × (length scratch ≡ length scratch₀) × (length out ≡ length out₀) × (length text ≡ length text₀) × (length stores ≡ length stores₀) × (length lines ≡ length lines₀) × (cur .at ≤ length text) × (i ≡ i₀ → cur .at + 40 ≤ length text)
-    × ((g : Scene) (l : List ℕ) → Shows g (cur₀ .desk) stores₀ lines₀ → cur₀ .pending ≡ pendingOf l → Follows g l (part bytes i₀ (i - i₀)) (cur₀ .at) text₀ cur stores lines text)
+    × ((g : Scene) (l : List ℕ) → Shows g (cur₀ .desk) stores₀ lines₀ → cur₀ .pending ≡ pendingOf l → Follows (fed g l (part bytes i₀ (i - i₀))) (cur₀ .at) text₀ cur stores lines text)
 
 abbrev μ-loop : tie.MeasureT-loop
 μ-loop bytes from stores₀ lines₀ scratch₀ out₀ text₀ cur₀ i₀ stores lines scratch out text cur i = length bytes - i
@@ -64,7 +64,7 @@ end-line-requires c κs =
     let z = c .before .before .before .before .before .before .before .before .before .before .before .before .before .before .before .before in
     let L = c .before .before .before .before .before .before .before .before .before .loop in
     let B = L .inv .9 (z .pre .4 .0) (z .pre .4 .1) (z .pre .4 .2) (z .pre .4 .3) in
-    (L .inv .2 ∙ z .pre .0, L .inv .3 ∙ z .pre .1, omega (arith, c .before .before .before .before .before .before .before .if1 .left, L .inv .7), (B .scene, B .shows))
+    (L .inv .2 ∙ z .pre .0, L .inv .3 ∙ z .pre .1, omega (arith, c .before .before .before .before .before .before .before .if1 .left, L .inv .7), (_, B .shows))
 
 shared-slice-read-push : tie.Need-shared-slice-read-push Inv-loop μ-loop
 shared-slice-read-push c = search needs
@@ -83,10 +83,9 @@ loop-again c =
     let z = c .before .before .before .before .before .before .before .before .before .before .before in
     let a = z .args in
     let L = c .before .before .before .before .loop in
-    let room = L .inv .3 ∙ z .pre .1 in
     let T : fd.Turn (getD (a .bytes .now) (L .i) 0) (L .cur) (L .stores) (L .lines) (L .scratch) (L .out) (L .text) (c .if2 .cur) (c .if2 .stores) (c .if2 .lines) (c .if2 .scratch) (c .if2 .out) (c .if2 .text) =
     ⊎-elim
-    (λ w. fd.turn-ended _ _ _ _ _ _ _ _ _ _ _ _ _ (w .0 .taken) room (w .6 .kept .1 .0) (w .6 .kept .1 .1 .0) (w .6 .kept .1 .1 .1 .0) (w .6 .kept .1 .1 .1 .1 .0) (w .6 .kept .1 .1 .1 .1 .1 .0) (w .6 .ensures .0) (w .6 .ensures .1) _ _ _ _ _ _ (w .17) (w .18) (w .19) (w .20) (w .21) (w .22))
+    (λ w. fd.turn-ended _ _ _ _ _ _ _ _ _ _ _ _ _ (w .0 .taken) (w .6 .kept .1 .0) (w .6 .kept .1 .1 .0) (w .6 .kept .1 .1 .1 .0) (w .6 .kept .1 .1 .1 .1 .0) (w .6 .kept .1 .1 .1 .1 .1 .0) (w .6 .ensures .0) (w .6 .ensures .1) _ _ _ _ _ _ (w .17) (w .18) (w .19) (w .20) (w .21) (w .22))
     (λ w. fd.turn-pushed _ _ _ _ _ _ _ (w .3 .result) (w .0 .left) (w .3 .ensures) _ _ _ _ _ _ (w .4) (w .5) (w .6) (w .7) (w .8) (w .9))
     (c .if2 .came)
     in (
@@ -101,7 +100,7 @@ loop-again c =
       (λ (e : L .i + 1 ≡ a .from). absurd (omega (arith, e, L .inv .0))),
       λ g l S e.
           let X = L .inv .9 g l S e in
-          fd.one-more (a .bytes .now) (a .from) (L .i) (L .inv .0) (c .before .before .before .loop-test .taken) g l (a .stage .at) _ (L .cur) _ _ _ X (c .if2 .cur) _ _ _ (T .fed (X .scene) (X .rest) (X .shows) (X .pending)),
+          fd.one-more (a .bytes .now) (a .from) (L .i) (L .inv .0) (c .before .before .before .loop-test .taken) g l (a .stage .at) _ (L .cur) _ _ _ X (c .if2 .cur) _ _ _ (T .fed _ _ (X .shows) (X .pending)),
     )
 
 same-length-6 : tie.Need-same-length-6 Inv-loop μ-loop

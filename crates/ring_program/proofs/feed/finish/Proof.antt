@@ -14,7 +14,7 @@ is-empty-requires c κs = search needs
 
 returns : tie.Need-returns
 returns c =
-    λ (g : Scene) (l : List ℕ) (S : _) (e : _). fd.nothing-finishes _ g l _ (c .before .before .before .before .before .before .before .before .args .stage .pending) e (sym (c .before .is-empty .ensures) ∙ c .if1 .taken)
+    λ (g : Scene) (l : List ℕ) (S : _) (e : _). fd.nothing-finishes g l _ (c .before .before .before .before .before .before .before .before .args .stage .pending) e (sym (c .before .is-empty .ensures) ∙ c .if1 .taken)
 
 end-line-requires : tie.Need-end-line-requires
 end-line-requires c κs = search needs
@@ -47,7 +47,7 @@ returns-2 : tie.Need-returns-2
 returns-2 c =
     let z = c .before .before .before .before .before .before .before .before .before .before .before .before .before .before .before .before .before .before .before .before .before .before .before .before .before .before in
     let ended = c .before .before .before .before .before .before .before .before .before .before .before .before .end-line in
-    λ (g : Scene) (l : List ℕ) (S : _) (e : _). fd.last-finishes _ g l _ _ _ _ _ _ (z .args .stage .pending) e (sym (c .before .before .before .before .before .before .before .before .before .before .before .before .before .before .before .before .before .before .before .is-empty .ensures) ∙ c .before .before .before .before .before .before .before .before .before .before .before .before .before .before .before .before .before .before .if1 .left) (z .pre .3) (ended .ensures .1 g l S e)
+    λ (g : Scene) (l : List ℕ) (S : _) (e : _). fd.last-finishes g l _ _ _ _ _ _ (z .args .stage .pending) e (sym (c .before .before .before .before .before .before .before .before .before .before .before .before .before .before .before .before .before .before .before .is-empty .ensures) ∙ c .before .before .before .before .before .before .before .before .before .before .before .before .before .before .before .before .before .before .if1 .left) (z .pre .3) (ended .ensures .1 g l S e)
 
 pub finish-spec : {M : Type 1} → statement M
 finish-spec =
