@@ -1,7 +1,7 @@
 // Vector clocks: eight numbers, one for each office.
 ghost use mathlib.Core.Path.{_≡_};
 ghost use Prim.Native.Nat.{max};
-ghost use Rattle.causal.specs.Clocks.{join as joinOf, covers as coversOf};
+ghost use Rattle.causal.specs.Clocks.{join as joinOf};
 
 fn greater(x: u32, y: u32) -> u32
     ensures { λ r. ⌜ r ≡ max x y ⌝ }
@@ -23,18 +23,4 @@ pub fn join(a: [u32; 8], b: [u32; 8]) -> [u32; 8]
         greater(a[6], b[6]),
         greater(a[7], b[7]),
     ]
-}
-
-// Is a nowhere above b?
-pub fn covers(b: [u32; 8], a: [u32; 8]) -> bool
-    ensures { λ r. ⌜ r ≡ coversOf b a ⌝ }
-{
-    let mut j = 0;
-    while j < 8 {
-        if a[j] > b[j] {
-            return false;
-        }
-        j += 1;
-    }
-    true
 }

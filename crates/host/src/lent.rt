@@ -1,5 +1,5 @@
 // The readings and the writing of an office for a host that lends the session: it comes as `s` and is left as the call leaves it.
-// A reading changes its clock and its read names alone, and only those are written.
+// A reading changes its clock and its read set alone, and only those are written.
 ghost use mathlib.Core.Path.{_≡_};
 ghost use mathlib.Core.Bool.{cond};
 ghost use Rattle.frame.specs.Sessions.{contentOf};
