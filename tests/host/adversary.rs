@@ -16,6 +16,7 @@ mod store_cases;
 mod token_cases;
 
 use adversary_cases::Adversary;
+use archive::forms::{JointRead, PlotRead, Write};
 use archive::{frames, lent, office, tokens};
 use guard::{Guarded, Side};
 use model::codec::Frame;
@@ -64,10 +65,6 @@ const REPLIES: [&[u32]; 15] = [
     &[0, 2, 3, 4, 8, 12, 13],
     &[0, 2, 3, 4, 5, 6, 7, 8, 10, 11, 12],
 ];
-
-type PlotRead = fn(&mut [u32], &mut Session, u32) -> (u32, (u32, Entry));
-type JointRead = fn(&mut [u32], &mut Session, &[u32], &mut [u32]) -> u32;
-type Write = fn(&mut [u32], &mut Session, u32, u32, &mut [u32]) -> (u32, usize);
 
 struct Test {
     adversary: Adversary,

@@ -1,6 +1,7 @@
 //! Makes each call on the archive with copies, with the session by value and lent, and on the model, and
 //! compares all that is left.
 
+use crate::archive::forms::{JointRead, PlotRead, Write};
 use crate::archive::{lent, office as archive};
 use crate::model::entry::Entry;
 use crate::model::office as model;
@@ -24,9 +25,6 @@ struct Left<R> {
 
 /// A call of the archive by its name.
 type Form<F> = (&'static str, F);
-type PlotRead = fn(&mut [u32], &mut Session, u32) -> (u32, (u32, Entry));
-type JointRead = fn(&mut [u32], &mut Session, &[u32], &mut [u32]) -> u32;
-type Write = fn(&mut [u32], &mut Session, u32, u32, &mut [u32]) -> (u32, usize);
 
 const PLOT_READS: [Form<PlotRead>; 2] =
     [("read_plot", archive::read_plot), ("read_plot, lent", lent::read_plot)];

@@ -4,7 +4,7 @@ ghost use Prim.Native.Nat.{ℕ, _+_, _%_, _<_, _≤_};
 ghost use mathlib.Core.Bool.{true};
 ghost use lib.ListN.{length, getD, set, take};
 ghost use lib.Seq.{sets};
-ghost use Rattle.frame.specs.Words.{kindIs, total, clockWords, clockFrom, clockWord, idWord, idWordsIn, idWordsTo, idWords, idsFrom, sumWord, payAt};
+ghost use Rattle.frame.specs.Words.{kindIs, total, clockWords, clockFrom, clockWord, idWord, idWordsIn, idWords, idsFrom, sumWord};
 ghost use Rattle.frame.specs.Reading.{clockKinds, idOk, ascends, sumOk};
 
 pub const LOW: u32 = 0x1000_0000;

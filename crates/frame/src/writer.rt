@@ -1,14 +1,13 @@
 // Writing a frame.
 ghost use mathlib.Core.Path.{_≡_};
 ghost use mathlib.Core.Bool.{true};
-ghost use mathlib.Core.List.{[], _∷_, _++_};
+ghost use mathlib.Core.List.{[], _∷_};
 ghost use Prim.Native.Nat.{_+_, _<_, _≤_};
-ghost use lib.ListN.{length, drop};
+ghost use lib.ListN.{length};
 ghost use lib.Seq.{sets};
 ghost use Rattle.frame.specs.Refusals.{replyOf};
 ghost use Rattle.frame.specs.Frames.{headWord, frameOk, frameWords};
 ghost use Rattle.frame.specs.Calls.{laid, writeFrame, writeFrameRow};
-use crate::entry::Entry;
 use crate::entry::Frame;
 use crate::refusal::Refusal;
 use crate::refusal::Written;

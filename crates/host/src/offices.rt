@@ -1,7 +1,7 @@
 // The calls of an office for a host. Sessions go in and come back by value.
 ghost use mathlib.Core.Path.{_≡_};
 ghost use mathlib.Core.Bool.{cond};
-ghost use Rattle.frame.specs.Sessions.{contentOf, freshContent, sessionOf};
+ghost use Rattle.frame.specs.Sessions.{contentOf, sessionOf};
 ghost use Rattle.office.specs.Calls.{storeNeed, openOffice, freshCode, readPlot, readJoint, write, receive};
 ghost use Rattle.office.specs.Answers.{anyFound, entryFound, readPlotSession, readJointSession, writeSession, freshBy};
 use crate::answer::PlotAnswer;

@@ -5,22 +5,20 @@ use frame::refusal::Status;
 use frame::session::Session;
 ghost use mathlib.Core.Path.{_≡_};
 ghost use mathlib.Core.Bool.{true};
-ghost use mathlib.Core.List.{_∷_, []};
 ghost use Prim.Native.Nat.{_+_, _*_, _<_, _≤_};
 ghost use lib.Dec.{leb};
-ghost use lib.ListN.{length, getD};
+ghost use lib.ListN.{length};
 ghost use lib.Seq.{sets};
 ghost use Rattle.causal.specs.Codes.{check};
-ghost use Rattle.causal.specs.Tests.{both, allBelow};
+ghost use Rattle.causal.specs.Tests.{both};
 ghost use Rattle.causal.specs.Lists.{part};
 ghost use Rattle.causal.specs.Sets.{subsetOf};
 ghost use Rattle.frame.specs.Refusals.{codeOf};
 ghost use Rattle.frame.specs.Sessions.{contentOf};
-ghost use Rattle.store.specs.Offices.{officeOf, reveal, soundStore};
-ghost use Rattle.store.specs.Current.{currentAt};
+ghost use Rattle.store.specs.Offices.{reveal, soundStore};
 ghost use Rattle.office.specs.Calls.{plotsOk, threeWords, readJoint};
 ghost use Rattle.office.specs.Answers.{readJointSession};
-ghost use Rattle.office.specs.Decide.{jointStart, jointRefusal, foundIn, Reaches, AllReach, PlacesTo, ownOver, noneOverTo, overAll, foundAmong, wordsTo, seenOf, seenTo, withSeen, Decides};
+ghost use Rattle.office.specs.Decide.{jointStart, jointRefusal, foundIn, Reaches, AllReach, PlacesTo, ownOver, noneOverTo, overAll, foundAmong, wordsTo, seenTo, withSeen, Decides};
 
 pub struct JointRead {
     pub status: Status,

@@ -3,7 +3,6 @@ use frame::session::Session;
 use store::current::Place;
 ghost use mathlib.Core.Path.{_≡_};
 ghost use lib.ListN.{length};
-ghost use Rattle.store.specs.Current.{InSlots};
 ghost use Rattle.office.specs.Decide.{placeNumber, foundIn, Reaches, notedSeen, withSeen};
 
 // The part of a session that a reading changes.

@@ -1,7 +1,6 @@
 // The player's desk: four sessions, where each is, and the lines of waiting frames.
 ghost use mathlib.Core.Path.{_≡_};
 ghost use Prim.Native.Nat.{_+_, _-_, _<_, _≤_};
-ghost use lib.ListN.{getD, length};
 ghost use Rattle.player.specs.Desks.{countAt, firstAt, newestReply, withFrames, withPlace, withSession, withoutOldest};
 use frame::session::Session;
 use script::reply::Reply;

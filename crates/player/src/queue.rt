@@ -2,11 +2,11 @@
 ghost use mathlib.Core.Path.{_≡_};
 ghost use mathlib.Core.List.{_∷_};
 ghost use Prim.Native.Nat.{ℕ, _+_, _*_, _%_, _<_, _≤_};
-ghost use lib.ListN.{getD, length};
+ghost use lib.ListN.{length};
 ghost use lib.Seq.{sets};
 ghost use Rattle.causal.specs.Lists.{part};
 ghost use Rattle.ring.specs.Run.{nextOf};
-ghost use Rattle.player.specs.Desks.{Cut, lengthAt, pushed, slotAt, startOf};
+ghost use Rattle.player.specs.Desks.{Cut, lengthAt, pushed, startOf};
 
 pub const STORE: usize = 1747;
 

@@ -1,5 +1,4 @@
 // Is an entry held with the same content?
-use crate::layout;
 use frame::entry::Entry;
 ghost use mathlib.Core.Path.{_≡_};
 ghost use Prim.Native.Nat.{_+_, _≤_};
