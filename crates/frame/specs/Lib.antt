@@ -8,3 +8,4 @@ pub mod Sessions
 pub mod Tokens
 pub mod TokenReading
 pub mod TokenCalls
+pub mod Promises

@@ -8,7 +8,7 @@ ghost use Rattle.frame.specs.Frames.{blankFrame};
 ghost use Rattle.causal.specs.Tests.{both};
 ghost use Rattle.frame.specs.Entries.{entryOk};
 ghost use Rattle.frame.specs.Reading.{shapeOk, kindsOk, sumOk, frameAt};
-ghost use Rattle.frame.specs.Calls.{readFrameCode, readFrame};
+ghost use Rattle.frame.specs.Promises.{ReadFramePromise};
 use crate::entry::Entry;
 use crate::entry::Frame;
 use crate::refusal::Refusal;
@@ -105,7 +105,7 @@ fn content_ok(ws: &[u32], n: u32, p: u32, f: Frame) -> bool
 
 // 01: read a frame.
 pub fn read_frame(ws: &[u32], offices: u32, plots: u32) -> FrameRead
-    ensures { λ r. ⌜ (codeOf (r .status) ≡ readFrameCode offices plots (now (ws .entry))) × (r .frame ≡ readFrame offices plots (now (ws .entry))) ⌝ }
+    ensures { λ r. ⌜ ReadFramePromise (now (ws .entry)) offices plots r ⌝ }
 {
     if !crate::entry::ring_ok(offices, plots) {
         return refused(Refusal::Settings);

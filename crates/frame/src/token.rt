@@ -5,13 +5,13 @@ ghost use Prim.Native.Nat.{ℕ, _+_, _<_, _≤_};
 ghost use lib.ListN.{length, getD, take};
 ghost use lib.Seq.{sets};
 ghost use Rattle.causal.specs.Lists.{tab};
-ghost use Rattle.frame.specs.Refusals.{numberOf, codeOf, replyOf};
+ghost use Rattle.frame.specs.Refusals.{numberOf, codeOf};
 ghost use Rattle.frame.specs.Frames.{ringOk, framed, frameWords, frameOk, frameOf};
 ghost use Rattle.frame.specs.Calls.{laid};
 ghost use Rattle.frame.specs.Sessions.{nobody, contentOf, filled, sessionOf, sessionOk, freshContent};
 ghost use Rattle.frame.specs.Tokens.{ownRows, tokenHead, tokenWords, frameLength, ownFrom, contentFrom};
 ghost use Rattle.frame.specs.TokenReading.{tokenShape, ownFrameOk, ownFramesOk, fieldsOk};
-ghost use Rattle.frame.specs.TokenCalls.{readTokenCode, readToken, writeToken, writeTokenRow};
+ghost use Rattle.frame.specs.Promises.{ReadTokenPromise, WriteTokenPromise};
 use crate::entry::Entry;
 use crate::entry::Frame;
 use crate::refusal::Refusal;
@@ -133,7 +133,7 @@ fn fill(s: Session, out: &mut [u32])
 
 // 01: write a slip.
 pub fn write_token(s: Session, out: &mut [u32]) -> Written
-    ensures { λ r. ⌜ (replyOf r ≡ writeToken (contentOf s) (length (now (out .entry)))) × (now (out .exit) ≡ writeTokenRow (contentOf s) (now (out .entry))) ⌝ }
+    ensures { λ r. ⌜ WriteTokenPromise s (now (out .entry)) r (now (out .exit)) ⌝ }
 {
     let n = s.offices;
     if !crate::entry::ring_ok(n, 64) {
@@ -313,7 +313,7 @@ fn session_from(ws: &[u32], n: u32, p: u32) -> SessionRead
 
 // 01: read a slip.
 pub fn read_token(ws: &[u32], offices: u32, plots: u32) -> TokenRead
-    ensures { λ r. ⌜ (codeOf (r .status) ≡ readTokenCode offices plots (now (ws .entry))) × (r .session ≡ sessionOf (readToken offices plots (now (ws .entry)))) ⌝ }
+    ensures { λ r. ⌜ ReadTokenPromise (now (ws .entry)) offices plots r ⌝ }
 {
     if !crate::entry::ring_ok(offices, plots) {
         return refused(Refusal::Settings);

@@ -5,9 +5,9 @@ ghost use mathlib.Core.List.{[], _∷_};
 ghost use Prim.Native.Nat.{_+_, _<_, _≤_};
 ghost use lib.ListN.{length};
 ghost use lib.Seq.{sets};
-ghost use Rattle.frame.specs.Refusals.{replyOf};
 ghost use Rattle.frame.specs.Frames.{headWord, frameOk, frameWords};
-ghost use Rattle.frame.specs.Calls.{laid, writeFrame, writeFrameRow};
+ghost use Rattle.frame.specs.Calls.{laid};
+ghost use Rattle.frame.specs.Promises.{WriteFramePromise};
 use crate::entry::Frame;
 use crate::refusal::Refusal;
 use crate::refusal::Written;
@@ -58,7 +58,7 @@ fn fill(f: Frame, out: &mut [u32], n: usize)
 
 // 01: write a frame.
 pub fn write_frame(f: Frame, out: &mut [u32]) -> Written
-    ensures { λ r. ⌜ (replyOf r ≡ writeFrame f (length (now (out .entry)))) × (now (out .exit) ≡ writeFrameRow f (now (out .entry))) ⌝ }
+    ensures { λ r. ⌜ WriteFramePromise f (now (out .entry)) r (now (out .exit)) ⌝ }
 {
     if !crate::entry::frame_ok(f.offices, 64, f) {
         return Written::NotWritten(Refusal::Content);

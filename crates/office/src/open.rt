@@ -3,14 +3,12 @@ use frame::refusal::Refusal;
 use frame::refusal::Status;
 use frame::session::Session;
 ghost use mathlib.Core.Path.{_≡_};
-ghost use Rattle.frame.specs.Refusals.{codeOf};
 ghost use Rattle.frame.specs.Sessions.{sessionOf, freshContent};
-ghost use Rattle.office.specs.Calls.{openOffice, freshCode};
-ghost use Rattle.office.specs.Answers.{freshBy};
+ghost use Rattle.office.specs.Promises.{FreshPromise, OpenPromise};
 
 // 01: open an office.
 pub fn open_office(offices: u32, own: u32, plots: u32, store: &mut [u32]) -> Status
-    ensures { λ r. ⌜ (codeOf r ≡ openOffice offices own plots (now (store .entry)) .0) × (now (store .exit) ≡ openOffice offices own plots (now (store .entry)) .1) ⌝ }
+    ensures { λ r. ⌜ OpenPromise offices own plots (now (store .entry)) r (now (store .exit)) ⌝ }
 {
     if !store::layout::settings_ok(offices, own, plots) {
         return Status::Refused(Refusal::Settings);
@@ -38,7 +36,7 @@ fn blank(offices: u32) -> Session
 
 // 01: a fresh errand.
 pub fn fresh_session(offices: u32) -> Fresh
-    ensures { λ r. ⌜ (codeOf (r .status) ≡ freshCode offices) × (r .session ≡ sessionOf (freshBy (freshCode offices) offices)) ⌝ }
+    ensures { λ r. ⌜ FreshPromise offices r ⌝ }
 {
     if offices < 2 {
         return Fresh {

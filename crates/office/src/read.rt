@@ -10,9 +10,9 @@ ghost use lib.ListN.{length};
 ghost use Rattle.frame.specs.Refusals.{codeOf};
 ghost use Rattle.frame.specs.Sessions.{contentOf};
 ghost use Rattle.store.specs.Offices.{bestOwn};
-ghost use Rattle.office.specs.Calls.{readPlot};
-ghost use Rattle.office.specs.Answers.{anyFound, entryFound, readPlotSession};
+ghost use Rattle.office.specs.Answers.{anyFound, entryFound};
 ghost use Rattle.office.specs.Decide.{readRefusal, foundIn, Reaches, bestFrom, bestAbove, bestTo, notedSeen, seenOf, withSeen};
+ghost use Rattle.office.specs.Promises.{ReadPromise};
 
 pub struct PlotRead {
     pub status: Status,
@@ -137,11 +137,7 @@ fn answer_at(store: &[u32], s: Session, plot: u32, k: usize) -> PlotSeen
 
 // read_plot, but for the parts of the session that a reading leaves as they were.
 pub fn see_plot(store: &mut [u32], s: Session, plot: u32) -> PlotSeen
-    ensures { λ r. ⌜ (codeOf (r .status) ≡ readPlot (now (store .entry)) (contentOf s) plot .code)
-        × (r .found ≡ anyFound (readPlot (now (store .entry)) (contentOf s) plot .found))
-        × (r .entry ≡ entryFound (readPlot (now (store .entry)) (contentOf s) plot .found))
-        × (withSeen s (r .seen) ≡ readPlotSession (now (store .entry)) s plot)
-        × (now (store .exit) ≡ readPlot (now (store .entry)) (contentOf s) plot .store) ⌝ }
+    ensures { λ r. ⌜ ReadPromise (now (store .entry)) s plot (record { status = r .status; found = r .found; entry = r .entry; session = withSeen s (r .seen) }) (now (store .exit)) ⌝ }
 {
     let code = read_code(store, s, plot);
     let read = s.read;
@@ -165,11 +161,7 @@ pub fn see_plot(store: &mut [u32], s: Session, plot: u32) -> PlotSeen
 }
 
 pub fn read_plot(store: &mut [u32], s: Session, plot: u32) -> PlotRead
-    ensures { λ r. ⌜ (codeOf (r .status) ≡ readPlot (now (store .entry)) (contentOf s) plot .code)
-        × (r .found ≡ anyFound (readPlot (now (store .entry)) (contentOf s) plot .found))
-        × (r .entry ≡ entryFound (readPlot (now (store .entry)) (contentOf s) plot .found))
-        × (r .session ≡ readPlotSession (now (store .entry)) s plot)
-        × (now (store .exit) ≡ readPlot (now (store .entry)) (contentOf s) plot .store) ⌝ }
+    ensures { λ r. ⌜ ReadPromise (now (store .entry)) s plot r (now (store .exit)) ⌝ }
 {
     let done = see_plot(store, s, plot);
     let seen = done.seen;

@@ -14,7 +14,8 @@ ghost use Rattle.causal.specs.Sets.{IdSet, inserted, subsetOf};
 ghost use Rattle.frame.specs.Refusals.{replyOf};
 ghost use Rattle.frame.specs.Frames.{frameOk, frameWords};
 ghost use Rattle.store.specs.Offices.{officeOf, soundStore, reveal};
-ghost use Rattle.office.specs.Calls.{onward as onwardOf, receiveCode, receiveOn, stored, receive as receiveOf};
+ghost use Rattle.office.specs.Calls.{onward as onwardOf, receiveCode, receiveOn, stored};
+ghost use Rattle.office.specs.Promises.{ReceivePromise};
 
 // With one fewer still to hear.
 fn onward(f: Frame) -> Frame
@@ -95,9 +96,7 @@ fn taken(store: &mut [u32], f: Frame, out: &mut [u32]) -> Written
 
 // 01: hear a frame.
 pub fn receive(store: &mut [u32], frame: &[u32], out: &mut [u32]) -> Written
-    ensures { λ r. ⌜ (replyOf r ≡ record { code = receiveOf (now (store .entry)) (now (frame .entry)) (now (out .entry)) .code; words = receiveOf (now (store .entry)) (now (frame .entry)) (now (out .entry)) .count })
-        × (now (store .exit) ≡ receiveOf (now (store .entry)) (now (frame .entry)) (now (out .entry)) .store)
-        × (now (out .exit) ≡ receiveOf (now (store .entry)) (now (frame .entry)) (now (out .entry)) .row) ⌝ }
+    ensures { λ r. ⌜ ReceivePromise (now (store .entry)) (now (frame .entry)) (now (out .entry)) r (now (store .exit)) (now (out .exit)) ⌝ }
 {
     if !store::sound::is_sound(store) {
         return Written::NotWritten(Refusal::Store);

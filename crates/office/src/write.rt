@@ -10,13 +10,13 @@ ghost use lib.ListN.{length, getD};
 ghost use Rattle.causal.specs.Lists.{part};
 ghost use Rattle.causal.specs.Codes.{check};
 ghost use Rattle.frame.specs.Entries.{idOf};
-ghost use Rattle.frame.specs.Refusals.{replyOf};
 ghost use Rattle.frame.specs.Sessions.{contentOf};
 ghost use Rattle.store.specs.Offices.{slotAt, officeOf, soundStore};
 ghost use Rattle.store.specs.Slots.{Laid, holdWords};
-ghost use Rattle.office.specs.Calls.{newEntry, write as writeOf};
-ghost use Rattle.office.specs.Answers.{extendedBy, writeSession};
+ghost use Rattle.office.specs.Calls.{newEntry};
+ghost use Rattle.office.specs.Answers.{extendedBy};
 ghost use Rattle.office.specs.Steps.{ownTo, firstCodes, secondCodes, earlyCode, holdsIn, Slots};
+ghost use Rattle.office.specs.Promises.{WritePromise};
 
 pub struct Wrote {
     pub written: Written,
@@ -139,10 +139,7 @@ fn extended(s: Session, e: Entry) -> Session
 
 // 01: write.
 pub fn write(store: &mut [u32], s: Session, plot: u32, value: u32, out: &mut [u32]) -> Wrote
-    ensures { λ r. ⌜ (replyOf (r .written) ≡ record { code = writeOf (now (store .entry)) (contentOf s) plot value (now (out .entry)) .code; words = writeOf (now (store .entry)) (contentOf s) plot value (now (out .entry)) .count })
-        × (r .session ≡ writeSession (now (store .entry)) s plot value (now (out .entry)))
-        × (now (store .exit) ≡ writeOf (now (store .entry)) (contentOf s) plot value (now (out .entry)) .store)
-        × (now (out .exit) ≡ writeOf (now (store .entry)) (contentOf s) plot value (now (out .entry)) .row) ⌝ }
+    ensures { λ r. ⌜ WritePromise (now (store .entry)) s plot value (now (out .entry)) r (now (store .exit)) (now (out .exit)) ⌝ }
 {
     let code = early_code(store, s, plot, value);
     if code != 0 {

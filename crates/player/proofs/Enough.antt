@@ -179,14 +179,14 @@ read-zero [] = refl
 read-zero (None ∷ fs) = refl
 read-zero (Some e ∷ fs) = refl
 
-module _ (g : Scene) (d : Desk) (stores lines : List ℕ) (S : Shows g d stores lines) (row : List ℕ) (long : length row ≡ 1751) where
+module _ (g : Scene) (three : (o : ℕ) → o < 3 → getD (g .ring .stores o) 0 0 ≡ 3) (in-ring : (i : ℕ) → i < 4 → placeOf g i < 3) (row : List ℕ) (long : length row ≡ 1751) where
   by-test : (b : Bool) (x : Scene × Reply) → (numberIn (x .1) ≡ 8 → ⊥) → numberIn (cond {A = Scene × Reply} b x (g, Odd) .1) ≡ 8 → ⊥
   unfolding numberIn
   by-test true x h = h
   by-test false x h = no 0 refl
 
   placed : (i : ℕ) → ltb i 4 ≡ true → placeOf g i < 3
-  placed i h = rw (S .place) (S .placed i (ltb-true i 4 h))
+  placed i h = in-ring i (ltb-true i 4 h)
 
   line-never : (line : Line) → numberIn (play row g line .1) ≡ 8 → ⊥
   unfolding play playWrite playRead playReceive wroteReply numberIn
@@ -195,7 +195,7 @@ module _ (g : Scene) (d : Desk) (stores lines : List ℕ) (S : Shows g d stores 
       go : (b : Bool) → ltb i 4 ≡ b → (rs : List Tracked) → numberIn (cond {A = Scene × Reply} b (playWrite row g (placeOf g i) i plot value rs) (g, Odd) .1) ≡ 8 → ⊥
       go false q rs = no 0 refl
       go true q [] = no 0 refl
-      go true q (r ∷ rs) = settled-never g _ _ _ (write-never (g .ring .stores (placeOf g i)) (S .offices (placeOf g i) (placed i q)) (r .session) plot value row long) refl
+      go true q (r ∷ rs) = settled-never g _ _ _ (write-never (g .ring .stores (placeOf g i)) (three (placeOf g i) (placed i q)) (r .session) plot value row long) refl
   line-never (Read i plot) = go (ltb i 4) (at (g .ring .sessions) i)
     where
       go : (b : Bool) → (rs : List Tracked) → numberIn (cond {A = Scene × Reply} b (playRead g (placeOf g i) i plot rs) (g, Odd) .1) ≡ 8 → ⊥
@@ -208,10 +208,9 @@ module _ (g : Scene) (d : Desk) (stores lines : List ℕ) (S : Shows g d stores 
       go : (b : Bool) → ltb o 3 ≡ b → (fs : List (List ℕ)) → numberIn (cond {A = Scene × Reply} b (playReceive row g o fs) (g, Odd) .1) ≡ 8 → ⊥
       go false q fs = no 0 refl
       go true q [] = no 0 refl
-      go true q (f ∷ fs) = settled-never g _ _ _ (receive-never (g .ring .stores o) (S .offices o (ltb-true o 3 q)) f row long) refl
+      go true q (f ∷ fs) = settled-never g _ _ _ (receive-never (g .ring .stores o) (three o (ltb-true o 3 q)) f row long) refl
   line-never Other = no 0 refl
 
-  -- "it never prints refusal 8"
-  pub never-8 : (line : Line) → play row g line .1 ≡ Refused 8 → ⊥
+  pub never-8-at : (line : Line) → play row g line .1 ≡ Refused 8 → ⊥
   unfolding numberIn
-  never-8 line e = line-never line (ap numberIn e)
+  never-8-at line e = line-never line (ap numberIn e)

@@ -18,3 +18,4 @@ pub mod Started
 pub mod Enough
 pub mod Table
 pub mod Rows
+pub mod Never

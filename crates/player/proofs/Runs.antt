@@ -29,7 +29,7 @@ one : (g : Ring) (c : Call) → After g (step onWords 3 g c)
 unfolding run
 one g c = (c ∷ [], refl)
 
-run-append : (g : Ring) (cs ds : List Call) → run onWords 3 g (cs ++ ds) ≡ run onWords 3 (run onWords 3 g cs) ds
+pub run-append : (g : Ring) (cs ds : List Call) → run onWords 3 g (cs ++ ds) ≡ run onWords 3 (run onWords 3 g cs) ds
 unfolding run
 run-append g [] ds = refl
 run-append g (c ∷ cs) ds = run-append (step onWords 3 g c) cs ds

@@ -17,3 +17,8 @@ pub mod Played
 pub mod Contract
 pub mod Promises
 pub mod Table
+pub mod More
+pub mod Cuts
+pub mod Sized
+pub mod Claim
+pub mod Chain

@@ -9,6 +9,7 @@ use lib.ListN.{length}
 use Rattle.causal.proofs.Codes.{check-none}
 use Rattle.frame.specs.Calls.{laid, laidIf}
 use Rattle.frame.specs.Frames.{accepts, frameOf, frameWords, ringOk}
+use Rattle.frame.specs.Promises.{ReadTokenPromise, WriteTokenPromise}
 use Rattle.frame.specs.Refusals.{Reply, codeOf, replied, replyOf}
 use Rattle.frame.specs.Sessions.{Content, contentOf, freshContent, sessionOf}
 use Rattle.frame.specs.TokenCalls.{contentIf, readToken, readTokenCode, writeToken, writeTokenCode, writeTokenRow}
@@ -24,13 +25,19 @@ use Rattle.frame.proofs.Sessions.{session-facts}
 use Rattle.store.specs.Offices.{Found, None, Office, Some, current, officeOf, reveal, soundStore}
 use Rattle.office.specs.Answers.{anyFound, entryFound, freshBy}
 use Rattle.office.specs.Calls.{Result, answerWords, freshCode, given, handed, jointCode, jointOn, noted, notedAll, openOffice, parsed, readCode, readJoint, readOn, readPlot, receive, receiveCode, receiveOn, receiveSends, receivedBy, threeWords, worded, write, writeCode, writeOn, writeSends, holdAll, sentOf, wroteSession}
+use Rattle.office.specs.Promises.{FreshPromise, JointPromise, OpenPromise, ReadPromise, ReceivePromise, WritePromise}
 use Rattle.office.specs.declared.joint.JointRead.{JointRead}
 use Rattle.office.specs.declared.open.Fresh.{Fresh}
 use Rattle.office.specs.declared.read.PlotRead.{PlotRead}
 use Rattle.office.specs.declared.write.Wrote.{Wrote}
 use Rattle.office.proofs.Answers.{joint-content, read-content, write-content}
-use Rattle.ring.specs.Promises.{FreshPromise, JointPromise, OpenPromise, ReadPromise, ReadTokenPromise, ReceivePromise, WritePromise, WriteTokenPromise, handedBack, joined}
+use Rattle.ring.specs.Answers.{handedBack}
 use Rattle.ring.specs.Run.{onWords}
+
+-- rows one behind the other
+unfoldable pub joined : List (List ℕ) → List ℕ
+joined [] = []
+joined (l ∷ ls) = l ++ joined ls
 
 -- ---- a write
 
@@ -118,7 +125,7 @@ pub joint-step : (ws : List ℕ) (s : Session) (plots row : List ℕ) (r : Joint
 unfolding onWords
 joint-step ws s plots row r ws′ row′ h = (h .0, ap contentOf (h .1) ∙ joint-content ws s plots row, h .2, h .3)
 
-answers-joined : (O : Office) (plots : List ℕ) → answerWords O plots ≡ joined (map threeWords (map (current O) plots))
+pub answers-joined : (O : Office) (plots : List ℕ) → answerWords O plots ≡ joined (map threeWords (map (current O) plots))
 unfolding answerWords joined map
 answers-joined O [] = refl
 answers-joined O (q ∷ qs) = ap (λ (l : List ℕ). threeWords (current O q) ++ l) (answers-joined O qs)
@@ -212,15 +219,17 @@ write-token-step s row r row′ h = (
     code zero = refl
     code (suc c) = refl
 
+-- an accepted token has at most 16 own writes
+pub token-few : (words : List ℕ) (n p : ℕ) → readTokenCode n p words ≡ 0 → length (contentFrom words .own) ≤ 16
+unfolding readTokenCode
+token-few words n p a =
+    let b = check-none (ringOk n p) 1 _ (omega arith) a in
+    let c = check-none (acceptsToken n p words) 9 _ (omega arith) (b .1) in
+    session-facts n p (contentFrom words) (token-sound n p words (c .0)) .few
+
 pub read-token-step : (words : List ℕ) (n p : ℕ) (r : TokenRead) → ReadTokenPromise words n p r
     → (codeOf (r .status) ≡ onWords .token-code n p words)
     × (onWords .token-code n p words ≡ 0 → contentOf (r .session) ≡ onWords .token-read words)
-unfolding onWords readToken readTokenCode contentIf
+unfolding onWords readToken contentIf
 read-token-step words n p r h =
-    (h .0, λ a. ap contentOf (h .1) ∙ ap (λ (c : ℕ). contentOf (sessionOf (contentIf c words))) a ∙ content-back (contentFrom words) (few a))
-  where
-    few : readTokenCode n p words ≡ 0 → length (contentFrom words .own) ≤ 16
-    few a =
-        let b = check-none (ringOk n p) 1 _ (omega arith) a in
-        let c = check-none (acceptsToken n p words) 9 _ (omega arith) (b .1) in
-        session-facts n p (contentFrom words) (token-sound n p words (c .0)) .few
+    (h .0, λ a. ap contentOf (h .1) ∙ ap (λ (c : ℕ). contentOf (sessionOf (contentIf c words))) a ∙ content-back (contentFrom words) (token-few words n p a))

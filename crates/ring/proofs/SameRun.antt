@@ -47,7 +47,7 @@ upd-map h f f′ e i a b x q = go (eqb q i)
     go true = x
     go false = e q
 
-at-map : {A B : Type 0} (h : A → B) (l : List A) (i : ℕ) → at (map h l) i ≡ map h (at l i)
+pub at-map : {A B : Type 0} (h : A → B) (l : List A) (i : ℕ) → at (map h l) i ≡ map h (at l i)
 unfolding at
 at-map h [] i = refl
 at-map h (x ∷ l) zero = refl
@@ -292,7 +292,7 @@ module _ (n p : ℕ) (two : 2 ≤ n) (eight : n ≤ 8) (one : 1 ≤ p) (p64 : p 
         ap (λ (b : Bool). worded b (g .stores o) s [] (readOn (officeOf (g .stores o)) s plot)) (sound o lt)
         ∙ ap (λ (O : Office). worded true (g .stores o) s [] (readOn O s plot)) (S .stores o lt)
 
-    joint-is : (o : ℕ) → o < n → (s : Content) (plots row : List ℕ)
+    pub joint-is : (o : ℕ) → o < n → (s : Content) (plots row : List ℕ)
         → readJoint (g .stores o) s plots row ≡ worded true (g .stores o) s row (jointOn (c .stores o) s plots row)
     unfolding readJoint
     joint-is o lt s plots row =

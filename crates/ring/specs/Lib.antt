@@ -1,4 +1,5 @@
 pub mod Run
 pub mod Holds
 pub mod Lines
-pub mod Promises
+pub mod Answers
+pub mod Claim

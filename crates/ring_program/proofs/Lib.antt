@@ -1,2 +1,4 @@
 pub mod Feeding
 pub mod Whole
+pub mod Table
+pub mod Script

@@ -11,6 +11,8 @@ use Rattle.causal.specs.Sets.{has, isIn}
 use Rattle.causal.specs.Tests.{both}
 use Rattle.causal.proofs.Sets.{in-is, is-in}
 use Rattle.causal.proofs.Tests.{both-intro, both-true, false-true, split}
+use Rattle.causal.specs.Rank.{ranksAbove}
+use Rattle.causal.proofs.Ranks.{above-irrefl}
 use Rattle.frame.specs.Entries.{outranks}
 use Rattle.frame.specs.declared.entry.Entry.{Entry}
 use Rattle.frame.proofs.Entries.{outranks-irrefl, outranks-trans}
@@ -125,3 +127,15 @@ module _ (plot : ℕ) where
       ⊎-elim (λ (x : consider (eqb (e .plot) plot) e b ≡ Some h).
       ⊎-elim (λ y. inl y) (λ (y : (eqb (e .plot) plot ≡ true) × (h ≡ e)). inr (List·Memᴰ·head (y .1))) (consider-from (eqb (e .plot) plot) e h b x)) (λ x. inr (List·Memᴰ·tail x))
       (own-from es (consider (eqb (e .plot) plot) e b) h q)
+
+-- "Where an own entry of the same name and clock but other content ties with the presented one, the presented one is handed back"
+tie-no-rank : (e b : Entry) → e .office ≡ b .office → e .clock ≡ b .clock → outranks e b ≡ false
+unfolding outranks
+tie-no-rank e b o c =
+    ap (λ (x : List ℕ). ranksAbove x (e .office) (b .clock) (b .office)) c
+    ∙ ap (λ (x : ℕ). ranksAbove (b .clock) x (b .clock) (b .office)) o
+    ∙ above-irrefl (b .clock) (b .office)
+
+pub tie-stays : (e b : Entry) → e .office ≡ b .office → e .clock ≡ b .clock → better e (Some b) ≡ Some b
+unfolding better
+tie-stays e b o c = ap (λ (t : Bool). cond t (Some e) (Some b)) (tie-no-rank e b o c)

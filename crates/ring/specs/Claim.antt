@@ -1,0 +1,93 @@
+-- THE CLAIM OVER ANSWERS: promises → run → Holds. `Step` is one call on what really crosses (stores, frames, tokens and rows as words,
+-- sessions as structs), made with ANY answer that keeps the call's promise (frame/specs/Promises.antt, office/specs/Promises.antt: its contract), and leaves what that answer
+-- says. `Claim`: from offices opened by answers that keep their promise, every chain of such steps leads to what `wordsRun` says, so
+-- `Holds`. `Answered`: there is such a chain for every list of calls. Assumes nothing.
+use Prim.Native.Nat.{ℕ, _<_, _≤_}
+use mathlib.Core.Bool.{cond}
+use mathlib.Core.List.{List, [], _∷_}
+use mathlib.Core.Logic.{_⊎_}
+use mathlib.Core.Path.{_≡_}
+use lib.Dec.{eqb, ltb}
+use lib.ListN.{length}
+use Rattle.frame.specs.Promises.{ReadTokenPromise, WriteTokenPromise}
+use Rattle.frame.specs.Refusals.{codeOf, replyOf}
+use Rattle.frame.specs.declared.refusal.Status.{Status}
+use Rattle.frame.specs.declared.refusal.Written.{Written}
+use Rattle.frame.specs.declared.token.TokenRead.{TokenRead}
+use Rattle.store.specs.Offices.{need}
+use Rattle.office.specs.Promises.{FreshPromise, JointPromise, OpenPromise, ReadPromise, ReceivePromise, WritePromise}
+use Rattle.office.specs.declared.joint.JointRead.{JointRead}
+use Rattle.office.specs.declared.open.Fresh.{Fresh}
+use Rattle.office.specs.declared.read.PlotRead.{PlotRead}
+use Rattle.office.specs.declared.write.Wrote.{Wrote}
+use Rattle.ring.specs.Holds.{Holds}
+use Rattle.ring.specs.Run.{Call, TrackedToken, at, contentsRun, copy-session, copy-token, fresh, joint, reading, receiving, receiving-words, token-reading, token-writing, wordsRun, writing}
+use Rattle.ring.specs.Answers.{Carried, Ring, begins, heardLeft, heardSaid, jointSaid, readLeft, readSaid, shown, tokenLeft, turned, withCopy, withTokens, writeLeft, wroteSaid}
+
+-- ---- one call
+
+-- no call: no office of the ring, or no such session, token or waiting frame
+unfoldable pub Absent : ℕ → Ring → Call → Type 0
+Absent n σ (writing o i plot value row) = (n ≤ o) ⊎ (at (σ .sessions) i ≡ [])
+Absent n σ (reading o i plot) = (n ≤ o) ⊎ (at (σ .sessions) i ≡ [])
+Absent n σ (joint o i plots row) = (n ≤ o) ⊎ (at (σ .sessions) i ≡ [])
+Absent n σ (receiving o row) = (n ≤ o) ⊎ (σ .lines o ≡ [])
+Absent n σ (receiving-words o words row) = n ≤ o
+Absent n σ (fresh m) = ⊥
+Absent n σ (token-writing i row) = at (σ .sessions) i ≡ []
+Absent n σ (token-reading t m p) = at (σ .tokens) t ≡ []
+Absent n σ (copy-session i) = at (σ .sessions) i ≡ []
+Absent n σ (copy-token t) = at (σ .tokens) t ≡ []
+
+-- In each: the answer r and the lent rows as they are left, which keep the promise; then the ring that they leave
+pub data Step (n : ℕ) (σ : Ring) : Call → Ring → Type 0 where
+  absent : (c : Call) → Absent n σ c → Step n σ c σ
+  writes : (o i plot value : ℕ) (row : List ℕ) (s : Carried) (r : Wrote) (ws′ row′ : List ℕ) → o < n → at (σ .sessions) i ≡ s ∷ []
+      → WritePromise (σ .stores o) (s .session) plot value row r ws′ row′
+      → Step n σ (writing o i plot value row) (writeLeft n σ o i s (wroteSaid r ws′ row′) (replyOf (r .written) .code))
+  reads : (o i plot : ℕ) (s : Carried) (r : PlotRead) (ws′ : List ℕ) → o < n → at (σ .sessions) i ≡ s ∷ []
+      → ReadPromise (σ .stores o) (s .session) plot r ws′
+      → Step n σ (reading o i plot) (readLeft σ o i s (plot ∷ []) (readSaid r ws′) (codeOf (r .status)))
+  reads-jointly : (o i : ℕ) (plots row : List ℕ) (s : Carried) (r : JointRead) (ws′ row′ : List ℕ) → o < n → at (σ .sessions) i ≡ s ∷ []
+      → JointPromise (σ .stores o) (s .session) plots row r ws′ row′
+      → Step n σ (joint o i plots row) (readLeft σ o i s plots (jointSaid (σ .log) plots r ws′ row′) (codeOf (r .status)))
+  -- "a hearing gets, unaltered, the oldest one that its office hasn't heard"
+  hears : (o : ℕ) (row f : List ℕ) (rest : List (List ℕ)) (r : Written) (ws′ row′ : List ℕ) → o < n → σ .lines o ≡ f ∷ rest
+      → ReceivePromise (σ .stores o) f row r ws′ row′ → Step n σ (receiving o row) (heardLeft n σ o rest (heardSaid r ws′ row′) (replyOf r .code))
+  -- "or else words that it refuses with 9": other words are no call of a run
+  hears-words : (o : ℕ) (words row : List ℕ) (r : Written) (ws′ row′ : List ℕ) → o < n → ReceivePromise (σ .stores o) words row r ws′ row′
+      → Step n σ (receiving-words o words row) (cond (eqb (replyOf r .code) 9) (turned σ o (heardSaid r ws′ row′)) σ)
+  begins-fresh : (m : ℕ) (r : Fresh) → FreshPromise m r → Step n σ (fresh m) (begins σ (r .session) [] (codeOf (r .status)))
+  writes-token : (i : ℕ) (row : List ℕ) (s : Carried) (r : Written) (row′ : List ℕ) → at (σ .sessions) i ≡ s ∷ []
+      → WriteTokenPromise (s .session) row r row′ → Step n σ (token-writing i row) (tokenLeft σ s r row′ (replyOf r .code))
+  reads-token : (t m p : ℕ) (x : TrackedToken (List ℕ)) (r : TokenRead) → at (σ .tokens) t ≡ x ∷ [] → ReadTokenPromise (x .token) m p r
+      → Step n σ (token-reading t m p) (begins σ (r .session) (x .past) (codeOf (r .status)))
+  copies-session : (i : ℕ) (s : Carried) → at (σ .sessions) i ≡ s ∷ [] → Step n σ (copy-session i) (withCopy σ s)
+  copies-token : (t : ℕ) (x : TrackedToken (List ℕ)) → at (σ .tokens) t ≡ x ∷ [] → Step n σ (copy-token t) (withTokens σ (x ∷ []))
+
+-- ---- a list of calls
+
+pub data Runs (n : ℕ) : Ring → List Call → Ring → Type 0 where
+  none : {σ : Ring} → Runs n σ [] σ
+  more : {σ τ υ : Ring} {c : Call} {cs : List Call} → Step n σ c τ → Runs n τ cs υ → Runs n σ (c ∷ cs) υ
+
+-- each office of the ring was opened over its row, and accepted; ws o is the store that the opening left
+abbrev pub Opened : ℕ → ℕ → (ℕ → List ℕ) → (ℕ → List ℕ) → Type 0
+Opened n p rows ws = (o : ℕ) → o < n → (r : Status) × (codeOf r ≡ 0) × OpenPromise n o p (rows o) r (ws o)
+
+-- "every office of one ring freshly opened and no errand, slip or frame about" (a number that no office has keeps its row)
+abbrev pub begun : ℕ → (ℕ → List ℕ) → (ℕ → List ℕ) → Ring
+begun n rows ws =
+    record { stores = λ o. cond (ltb o n) (ws o) (rows o); lines = λ o. []; sessions = []; tokens = []; log = []; events = [] }
+
+-- THE CLAIM: whatever the answers, if they keep the promises
+abbrev pub Claim : Type 0
+Claim =
+    (n p : ℕ) → 1 ≤ n → (rows ws : ℕ → List ℕ) → Opened n p rows ws → (cs : List Call) (τ : Ring) → Runs n (begun n rows ws) cs τ →
+    (shown τ ≡ wordsRun n p rows cs) × Holds n rows (shown τ) (contentsRun n p cs)
+
+-- .. and it is not empty: such offices can be opened, and whatever was answered so far, each call has an answer that keeps its promise
+pub record Answered : Type 0 where
+  pub opened : (n p : ℕ) → 2 ≤ n → n ≤ 8 → 1 ≤ p → p ≤ 64 → (rows : ℕ → List ℕ) → ((o : ℕ) → o < n → need n ≤ length (rows o)) →
+      (ws : ℕ → List ℕ) × Opened n p rows ws
+  pub called : (n : ℕ) (σ : Ring) (cs : List Call) → (τ : Ring) × Runs n σ cs τ
