@@ -15,3 +15,4 @@ pub mod OwnTurns
 pub mod TokenTurns
 pub mod TokenChecks
 pub mod TokenReads
+pub mod Contract

@@ -105,7 +105,7 @@ fn content_ok(ws: &[u32], n: u32, p: u32, f: Frame) -> bool
 
 // 01: read a frame.
 pub fn read_frame(ws: &[u32], offices: u32, plots: u32) -> FrameRead
-    ensures { λ r. ⌜ ReadFramePromise (now (ws .entry)) offices plots r ⌝ }
+    ensures { λ r. ⌜ ReadFramePromise (now (ws .entry)) offices plots (codeOf (r .status)) (r .frame) ⌝ }
 {
     if !crate::entry::ring_ok(offices, plots) {
         return refused(Refusal::Settings);

@@ -5,7 +5,7 @@ ghost use Prim.Native.Nat.{ℕ, _+_, _<_, _≤_};
 ghost use lib.ListN.{length, getD, take};
 ghost use lib.Seq.{sets};
 ghost use Rattle.causal.specs.Lists.{tab};
-ghost use Rattle.frame.specs.Refusals.{numberOf, codeOf};
+ghost use Rattle.frame.specs.Refusals.{numberOf, codeOf, replyOf};
 ghost use Rattle.frame.specs.Frames.{ringOk, framed, frameWords, frameOk, frameOf};
 ghost use Rattle.frame.specs.Calls.{laid};
 ghost use Rattle.frame.specs.Sessions.{nobody, contentOf, filled, sessionOf, sessionOk, freshContent};
@@ -133,7 +133,7 @@ fn fill(s: Session, out: &mut [u32])
 
 // 01: write a slip.
 pub fn write_token(s: Session, out: &mut [u32]) -> Written
-    ensures { λ r. ⌜ WriteTokenPromise s (now (out .entry)) r (now (out .exit)) ⌝ }
+    ensures { λ r. ⌜ WriteTokenPromise s (now (out .entry)) (replyOf r) (now (out .exit)) ⌝ }
 {
     let n = s.offices;
     if !crate::entry::ring_ok(n, 64) {
@@ -313,7 +313,7 @@ fn session_from(ws: &[u32], n: u32, p: u32) -> SessionRead
 
 // 01: read a slip.
 pub fn read_token(ws: &[u32], offices: u32, plots: u32) -> TokenRead
-    ensures { λ r. ⌜ ReadTokenPromise (now (ws .entry)) offices plots r ⌝ }
+    ensures { λ r. ⌜ ReadTokenPromise (now (ws .entry)) offices plots (codeOf (r .status)) (r .session) ⌝ }
 {
     if !crate::entry::ring_ok(offices, plots) {
         return refused(Refusal::Settings);

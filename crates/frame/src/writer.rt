@@ -8,6 +8,7 @@ ghost use lib.Seq.{sets};
 ghost use Rattle.frame.specs.Frames.{headWord, frameOk, frameWords};
 ghost use Rattle.frame.specs.Calls.{laid};
 ghost use Rattle.frame.specs.Promises.{WriteFramePromise};
+ghost use Rattle.frame.specs.Refusals.{replyOf};
 use crate::entry::Frame;
 use crate::refusal::Refusal;
 use crate::refusal::Written;
@@ -58,7 +59,7 @@ fn fill(f: Frame, out: &mut [u32], n: usize)
 
 // 01: write a frame.
 pub fn write_frame(f: Frame, out: &mut [u32]) -> Written
-    ensures { λ r. ⌜ WriteFramePromise f (now (out .entry)) r (now (out .exit)) ⌝ }
+    ensures { λ r. ⌜ WriteFramePromise f (now (out .entry)) (replyOf r) (now (out .exit)) ⌝ }
 {
     if !crate::entry::frame_ok(f.offices, 64, f) {
         return Written::NotWritten(Refusal::Content);

@@ -37,7 +37,7 @@ pub struct SessionAnswer {
 
 // What a call that writes words answers.
 pub fn words_answer(written: frame::refusal::Written) -> WordsAnswer
-    ensures { λ r. ⌜ (r .refusal ≡ replyOf written .code) × (r .words ≡ replyOf written .words) ⌝ }
+    ensures { λ r. ⌜ record { code = r .refusal; words = r .words } ≡ replyOf written ⌝ }
 {
     match written {
         frame::refusal::Written::Words(words) => WordsAnswer { refusal: 0, words },

@@ -3,8 +3,9 @@ ghost use mathlib.Core.Path.{_≡_};
 ghost use Prim.Native.Nat.{_+_, _*_, _≤_};
 ghost use lib.ListN.{length};
 ghost use Rattle.causal.specs.Lists.{tab};
-ghost use Rattle.frame.specs.Calls.{readFrameCode, readFrame, writeFrame, writeFrameRow};
+ghost use Rattle.frame.specs.Calls.{readFrameCode};
 ghost use Rattle.host.specs.Bytes.{wordAt, checkBytes};
+ghost use Rattle.frame.specs.Promises.{ReadFramePromise, WriteFramePromise};
 use crate::answer::FrameAnswer;
 use crate::answer::WordsAnswer;
 
@@ -63,7 +64,7 @@ pub extern "C" fn burial_check_frame(bytes: &[u8], offices: u32, plots: u32) -> 
 // 01: read a frame.
 #[no_mangle]
 pub extern "C" fn burial_read_frame(words: &[u32], offices: u32, plots: u32) -> FrameAnswer
-    ensures { λ r. ⌜ (r .refusal ≡ readFrameCode offices plots (now (words .entry))) × (r .frame ≡ readFrame offices plots (now (words .entry))) ⌝ }
+    ensures { λ r. ⌜ ReadFramePromise (now (words .entry)) offices plots (r .refusal) (r .frame) ⌝ }
 {
     let read = frame::reader::read_frame(words, offices, plots);
     let status = read.status;
@@ -75,7 +76,7 @@ pub extern "C" fn burial_read_frame(words: &[u32], offices: u32, plots: u32) -> 
 // 01: write a frame.
 #[no_mangle]
 pub extern "C" fn burial_write_frame(frame: frame::entry::Frame, out: &mut [u32]) -> WordsAnswer
-    ensures { λ r. ⌜ (r .refusal ≡ writeFrame frame (length (now (out .entry))) .code) × (r .words ≡ writeFrame frame (length (now (out .entry))) .words) × (now (out .exit) ≡ writeFrameRow frame (now (out .entry))) ⌝ }
+    ensures { λ r. ⌜ WriteFramePromise frame (now (out .entry)) (record { code = r .refusal; words = r .words }) (now (out .exit)) ⌝ }
 {
     let written = frame::writer::write_frame(frame, out);
     crate::answer::words_answer(written)

@@ -1,11 +1,9 @@
 // The readings and the writing of an office for a host that lends the session: it comes as `s` and is left as the call leaves it.
 // A reading changes its clock and its read set alone, and only those are written.
-ghost use mathlib.Core.Path.{_≡_};
-ghost use mathlib.Core.Bool.{cond};
-ghost use Rattle.frame.specs.Sessions.{contentOf};
-ghost use Rattle.office.specs.Calls.{readPlot, readJoint, write as writeOf};
 ghost use Rattle.office.specs.Decide.{withSeen};
-ghost use Rattle.office.specs.Answers.{anyFound, entryFound, readPlotSession, readJointSession, writeSession};
+ghost use Prim.Native.Nat.{_≤_};
+ghost use Rattle.office.specs.Promises.{JointPromise, ReadPromise, WritePromise};
+ghost use Rattle.host.specs.Flags.{isSet};
 use crate::answer::WordsAnswer;
 use frame::session::Session;
 
@@ -36,11 +34,7 @@ pub struct WriteDone {
 
 // burial_read_plot, with what it changes of the session in place of the session.
 fn plot_by_value(store: &mut [u32], s: Session, plot: u32) -> PlotDone
-    ensures { λ r. ⌜ (r .answer .refusal ≡ readPlot (now (store .entry)) (contentOf s) plot .code)
-        × (r .answer .found ≡ cond (anyFound (readPlot (now (store .entry)) (contentOf s) plot .found)) 1 0)
-        × (r .answer .entry ≡ entryFound (readPlot (now (store .entry)) (contentOf s) plot .found))
-        × (withSeen s (record { clock = r .clock; read = r .read }) ≡ readPlotSession (now (store .entry)) s plot)
-        × (now (store .exit) ≡ readPlot (now (store .entry)) (contentOf s) plot .store) ⌝ }
+    ensures { λ r. ⌜ (r .answer .found ≤ 1) × ReadPromise (now (store .entry)) s plot (r .answer .refusal) (isSet (r .answer .found)) (r .answer .entry) (withSeen s (record { clock = r .clock; read = r .read })) (now (store .exit)) ⌝ }
 {
     let done = office::read::see_plot(store, s, plot);
     let status = done.status;
@@ -64,10 +58,7 @@ fn plot_by_value(store: &mut [u32], s: Session, plot: u32) -> PlotDone
 
 // burial_read_joint, the same.
 fn joint_by_value(store: &mut [u32], s: Session, plots: &[u32], answer: &mut [u32]) -> JointDone
-    ensures { λ r. ⌜ (r .refusal ≡ readJoint (now (store .entry)) (contentOf s) (now (plots .entry)) (now (answer .entry)) .code)
-        × (withSeen s (record { clock = r .clock; read = r .read }) ≡ readJointSession (now (store .entry)) s (now (plots .entry)) (now (answer .entry)))
-        × (now (store .exit) ≡ readJoint (now (store .entry)) (contentOf s) (now (plots .entry)) (now (answer .entry)) .store)
-        × (now (answer .exit) ≡ readJoint (now (store .entry)) (contentOf s) (now (plots .entry)) (now (answer .entry)) .row) ⌝ }
+    ensures { λ r. ⌜ JointPromise (now (store .entry)) s (now (plots .entry)) (now (answer .entry)) (r .refusal) (withSeen s (record { clock = r .clock; read = r .read })) (now (store .exit)) (now (answer .exit)) ⌝ }
 {
     let done = office::joint::see_joint(store, s, plots, answer);
     let status = done.status;
@@ -90,11 +81,7 @@ fn write_by_value(
     value: u32,
     out: &mut [u32],
 ) -> WriteDone
-    ensures { λ r. ⌜ (r .answer .refusal ≡ writeOf (now (store .entry)) (contentOf s) plot value (now (out .entry)) .code)
-        × (r .answer .words ≡ writeOf (now (store .entry)) (contentOf s) plot value (now (out .entry)) .count)
-        × (r .session ≡ writeSession (now (store .entry)) s plot value (now (out .entry)))
-        × (now (store .exit) ≡ writeOf (now (store .entry)) (contentOf s) plot value (now (out .entry)) .store)
-        × (now (out .exit) ≡ writeOf (now (store .entry)) (contentOf s) plot value (now (out .entry)) .row) ⌝ }
+    ensures { λ r. ⌜ WritePromise (now (store .entry)) s plot value (now (out .entry)) (record { code = r .answer .refusal; words = r .answer .words }) (r .session) (now (store .exit)) (now (out .exit)) ⌝ }
 {
     let wrote = office::write::write(store, s, plot, value, out);
     let written = wrote.written;
@@ -106,11 +93,7 @@ fn write_by_value(
 // 01: read one plot.
 #[no_mangle]
 pub extern "C" fn burial_lent_read_plot(store: &mut [u32], s: &mut Session, plot: u32) -> PlotFound
-    ensures { λ r. ⌜ (r .refusal ≡ readPlot (now (store .entry)) (contentOf (now (s .entry))) plot .code)
-        × (r .found ≡ cond (anyFound (readPlot (now (store .entry)) (contentOf (now (s .entry))) plot .found)) 1 0)
-        × (r .entry ≡ entryFound (readPlot (now (store .entry)) (contentOf (now (s .entry))) plot .found))
-        × (now (s .exit) ≡ readPlotSession (now (store .entry)) (now (s .entry)) plot)
-        × (now (store .exit) ≡ readPlot (now (store .entry)) (contentOf (now (s .entry))) plot .store) ⌝ }
+    ensures { λ r. ⌜ (r .found ≤ 1) × ReadPromise (now (store .entry)) (now (s .entry)) plot (r .refusal) (isSet (r .found)) (r .entry) (now (s .exit)) (now (store .exit)) ⌝ }
 {
     let done = plot_by_value(store, *s, plot);
     s.clock = done.clock;
@@ -126,10 +109,7 @@ pub extern "C" fn burial_lent_read_joint(
     plots: &[u32],
     answer: &mut [u32],
 ) -> u32
-    ensures { λ r. ⌜ (r ≡ readJoint (now (store .entry)) (contentOf (now (s .entry))) (now (plots .entry)) (now (answer .entry)) .code)
-        × (now (s .exit) ≡ readJointSession (now (store .entry)) (now (s .entry)) (now (plots .entry)) (now (answer .entry)))
-        × (now (store .exit) ≡ readJoint (now (store .entry)) (contentOf (now (s .entry))) (now (plots .entry)) (now (answer .entry)) .store)
-        × (now (answer .exit) ≡ readJoint (now (store .entry)) (contentOf (now (s .entry))) (now (plots .entry)) (now (answer .entry)) .row) ⌝ }
+    ensures { λ r. ⌜ JointPromise (now (store .entry)) (now (s .entry)) (now (plots .entry)) (now (answer .entry)) r (now (s .exit)) (now (store .exit)) (now (answer .exit)) ⌝ }
 {
     let done = joint_by_value(store, *s, plots, answer);
     s.clock = done.clock;
@@ -146,11 +126,7 @@ pub extern "C" fn burial_lent_write(
     value: u32,
     out: &mut [u32],
 ) -> WordsAnswer
-    ensures { λ r. ⌜ (r .refusal ≡ writeOf (now (store .entry)) (contentOf (now (s .entry))) plot value (now (out .entry)) .code)
-        × (r .words ≡ writeOf (now (store .entry)) (contentOf (now (s .entry))) plot value (now (out .entry)) .count)
-        × (now (s .exit) ≡ writeSession (now (store .entry)) (now (s .entry)) plot value (now (out .entry)))
-        × (now (store .exit) ≡ writeOf (now (store .entry)) (contentOf (now (s .entry))) plot value (now (out .entry)) .store)
-        × (now (out .exit) ≡ writeOf (now (store .entry)) (contentOf (now (s .entry))) plot value (now (out .entry)) .row) ⌝ }
+    ensures { λ r. ⌜ WritePromise (now (store .entry)) (now (s .entry)) plot value (now (out .entry)) (record { code = r .refusal; words = r .words }) (now (s .exit)) (now (store .exit)) (now (out .exit)) ⌝ }
 {
     let done = write_by_value(store, *s, plot, value, out);
     *s = done.session;

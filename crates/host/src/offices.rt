@@ -1,9 +1,8 @@
 // The calls of an office for a host. Sessions go in and come back by value.
 ghost use mathlib.Core.Path.{_≡_};
-ghost use mathlib.Core.Bool.{cond};
-ghost use Rattle.frame.specs.Sessions.{contentOf, sessionOf};
-ghost use Rattle.office.specs.Calls.{storeNeed, openOffice, freshCode, readPlot, readJoint, write, receive};
-ghost use Rattle.office.specs.Answers.{anyFound, entryFound, readPlotSession, readJointSession, writeSession, freshBy};
+ghost use Prim.Native.Nat.{_≤_};
+ghost use Rattle.office.specs.Promises.{FreshPromise, JointPromise, NeedPromise, OpenPromise, ReadPromise, ReceivePromise, WritePromise};
+ghost use Rattle.host.specs.Flags.{flagOf, isSet};
 use crate::answer::PlotAnswer;
 use crate::answer::SessionAnswer;
 use crate::answer::WordsAnswer;
@@ -13,7 +12,7 @@ use frame::session::Session;
 // 01: the call that gives the store's need.
 #[no_mangle]
 pub extern "C" fn burial_store_need(offices: u32, own: u32, plots: u32) -> WordsAnswer
-    ensures { λ r. ⌜ (r .refusal ≡ storeNeed offices own plots .0) × (r .words ≡ storeNeed offices own plots .1) ⌝ }
+    ensures { λ r. ⌜ NeedPromise offices own plots (record { code = r .refusal; words = r .words }) ⌝ }
 {
     let need = office::need::store_need(offices, own, plots);
     crate::answer::words_answer(need)
@@ -22,7 +21,7 @@ pub extern "C" fn burial_store_need(offices: u32, own: u32, plots: u32) -> Words
 // 01: open an office.
 #[no_mangle]
 pub extern "C" fn burial_open_office(offices: u32, own: u32, plots: u32, store: &mut [u32]) -> u32
-    ensures { λ r. ⌜ (r ≡ openOffice offices own plots (now (store .entry)) .0) × (now (store .exit) ≡ openOffice offices own plots (now (store .entry)) .1) ⌝ }
+    ensures { λ r. ⌜ OpenPromise offices own plots (now (store .entry)) r (now (store .exit)) ⌝ }
 {
     let status = office::open::open_office(offices, own, plots, store);
     frame::refusal::code_of(status)
@@ -31,7 +30,7 @@ pub extern "C" fn burial_open_office(offices: u32, own: u32, plots: u32, store: 
 // 01: a fresh errand.
 #[no_mangle]
 pub extern "C" fn burial_fresh_session(offices: u32) -> SessionAnswer
-    ensures { λ r. ⌜ (r .refusal ≡ freshCode offices) × (r .session ≡ sessionOf (freshBy (freshCode offices) offices)) ⌝ }
+    ensures { λ r. ⌜ FreshPromise offices (r .refusal) (r .session) ⌝ }
 {
     let fresh = office::open::fresh_session(offices);
     let status = fresh.status;
@@ -42,7 +41,7 @@ pub extern "C" fn burial_fresh_session(offices: u32) -> SessionAnswer
 
 // 1 for true, as C has it.
 pub fn flag(b: bool) -> u32
-    ensures { λ r. ⌜ r ≡ cond b 1 0 ⌝ }
+    ensures { λ r. ⌜ r ≡ flagOf b ⌝ }
 {
     if b {
         return 1;
@@ -53,11 +52,7 @@ pub fn flag(b: bool) -> u32
 // 01: read one plot.
 #[no_mangle]
 pub extern "C" fn burial_read_plot(store: &mut [u32], session: Session, plot: u32) -> PlotAnswer
-    ensures { λ r. ⌜ (r .refusal ≡ readPlot (now (store .entry)) (contentOf session) plot .code)
-        × (r .found ≡ cond (anyFound (readPlot (now (store .entry)) (contentOf session) plot .found)) 1 0)
-        × (r .entry ≡ entryFound (readPlot (now (store .entry)) (contentOf session) plot .found))
-        × (r .session ≡ readPlotSession (now (store .entry)) session plot)
-        × (now (store .exit) ≡ readPlot (now (store .entry)) (contentOf session) plot .store) ⌝ }
+    ensures { λ r. ⌜ (r .found ≤ 1) × ReadPromise (now (store .entry)) session plot (r .refusal) (isSet (r .found)) (r .entry) (r .session) (now (store .exit)) ⌝ }
 {
     let read = office::read::read_plot(store, session, plot);
     let status = read.status;
@@ -81,10 +76,7 @@ pub extern "C" fn burial_read_joint(
     plots: &[u32],
     answer: &mut [u32],
 ) -> SessionAnswer
-    ensures { λ r. ⌜ (r .refusal ≡ readJoint (now (store .entry)) (contentOf session) (now (plots .entry)) (now (answer .entry)) .code)
-        × (r .session ≡ readJointSession (now (store .entry)) session (now (plots .entry)) (now (answer .entry)))
-        × (now (store .exit) ≡ readJoint (now (store .entry)) (contentOf session) (now (plots .entry)) (now (answer .entry)) .store)
-        × (now (answer .exit) ≡ readJoint (now (store .entry)) (contentOf session) (now (plots .entry)) (now (answer .entry)) .row) ⌝ }
+    ensures { λ r. ⌜ JointPromise (now (store .entry)) session (now (plots .entry)) (now (answer .entry)) (r .refusal) (r .session) (now (store .exit)) (now (answer .exit)) ⌝ }
 {
     let read = office::joint::read_joint(store, session, plots, answer);
     let status = read.status;
@@ -105,11 +97,7 @@ pub extern "C" fn burial_write(
     value: u32,
     out: &mut [u32],
 ) -> WroteAnswer
-    ensures { λ r. ⌜ (r .refusal ≡ write (now (store .entry)) (contentOf session) plot value (now (out .entry)) .code)
-        × (r .words ≡ write (now (store .entry)) (contentOf session) plot value (now (out .entry)) .count)
-        × (r .session ≡ writeSession (now (store .entry)) session plot value (now (out .entry)))
-        × (now (store .exit) ≡ write (now (store .entry)) (contentOf session) plot value (now (out .entry)) .store)
-        × (now (out .exit) ≡ write (now (store .entry)) (contentOf session) plot value (now (out .entry)) .row) ⌝ }
+    ensures { λ r. ⌜ WritePromise (now (store .entry)) session plot value (now (out .entry)) (record { code = r .refusal; words = r .words }) (r .session) (now (store .exit)) (now (out .exit)) ⌝ }
 {
     let wrote = office::write::write(store, session, plot, value, out);
     let written = wrote.written;
@@ -125,10 +113,7 @@ pub extern "C" fn burial_write(
 // 01: hear a frame.
 #[no_mangle]
 pub extern "C" fn burial_receive(store: &mut [u32], frame: &[u32], out: &mut [u32]) -> WordsAnswer
-    ensures { λ r. ⌜ (r .refusal ≡ receive (now (store .entry)) (now (frame .entry)) (now (out .entry)) .code)
-        × (r .words ≡ receive (now (store .entry)) (now (frame .entry)) (now (out .entry)) .count)
-        × (now (store .exit) ≡ receive (now (store .entry)) (now (frame .entry)) (now (out .entry)) .store)
-        × (now (out .exit) ≡ receive (now (store .entry)) (now (frame .entry)) (now (out .entry)) .row) ⌝ }
+    ensures { λ r. ⌜ ReceivePromise (now (store .entry)) (now (frame .entry)) (now (out .entry)) (record { code = r .refusal; words = r .words }) (now (store .exit)) (now (out .exit)) ⌝ }
 {
     let written = office::receive::receive(store, frame, out);
     crate::answer::words_answer(written)

@@ -1,8 +1,5 @@
 // Tokens for a host.
-ghost use mathlib.Core.Path.{_≡_};
-ghost use lib.ListN.{length};
-ghost use Rattle.frame.specs.Sessions.{contentOf, sessionOf};
-ghost use Rattle.frame.specs.TokenCalls.{readTokenCode, readToken, writeToken, writeTokenRow};
+ghost use Rattle.frame.specs.Promises.{ReadTokenPromise, WriteTokenPromise};
 use crate::answer::SessionAnswer;
 use crate::answer::WordsAnswer;
 use frame::session::Session;
@@ -10,7 +7,7 @@ use frame::session::Session;
 // 01: read a slip.
 #[no_mangle]
 pub extern "C" fn burial_read_token(words: &[u32], offices: u32, plots: u32) -> SessionAnswer
-    ensures { λ r. ⌜ (r .refusal ≡ readTokenCode offices plots (now (words .entry))) × (r .session ≡ sessionOf (readToken offices plots (now (words .entry)))) ⌝ }
+    ensures { λ r. ⌜ ReadTokenPromise (now (words .entry)) offices plots (r .refusal) (r .session) ⌝ }
 {
     let read = frame::token::read_token(words, offices, plots);
     let status = read.status;
@@ -22,9 +19,7 @@ pub extern "C" fn burial_read_token(words: &[u32], offices: u32, plots: u32) -> 
 // 01: write a slip.
 #[no_mangle]
 pub extern "C" fn burial_write_token(session: Session, out: &mut [u32]) -> WordsAnswer
-    ensures { λ r. ⌜ (r .refusal ≡ writeToken (contentOf session) (length (now (out .entry))) .code)
-        × (r .words ≡ writeToken (contentOf session) (length (now (out .entry))) .words)
-        × (now (out .exit) ≡ writeTokenRow (contentOf session) (now (out .entry))) ⌝ }
+    ensures { λ r. ⌜ WriteTokenPromise session (now (out .entry)) (record { code = r .refusal; words = r .words }) (now (out .exit)) ⌝ }
 {
     let written = frame::token::write_token(session, out);
     crate::answer::words_answer(written)

@@ -2,11 +2,8 @@
 use frame::entry::Entry;
 use frame::refusal::Status;
 use frame::session::Session;
-ghost use mathlib.Core.Path.{_≡_};
 ghost use Rattle.frame.specs.Refusals.{codeOf};
-ghost use Rattle.frame.specs.Sessions.{contentOf};
-ghost use Rattle.office.specs.Calls.{readPlot};
-ghost use Rattle.office.specs.Answers.{anyFound, entryFound, readPlotSession};
+ghost use Rattle.office.specs.Promises.{ReadPromise};
 
 // What a reading of one plot answers.
 pub struct PlotAnswer {
@@ -22,11 +19,7 @@ pub struct PlotDone {
 
 // office::read::read_plot, with the answer apart from the session.
 pub fn read_plot_by_value(store: &mut [u32], s: Session, plot: u32) -> PlotDone
-    ensures { λ r. ⌜ (codeOf (r .answer .status) ≡ readPlot (now (store .entry)) (contentOf s) plot .code)
-        × (r .answer .found ≡ anyFound (readPlot (now (store .entry)) (contentOf s) plot .found))
-        × (r .answer .entry ≡ entryFound (readPlot (now (store .entry)) (contentOf s) plot .found))
-        × (r .session ≡ readPlotSession (now (store .entry)) s plot)
-        × (now (store .exit) ≡ readPlot (now (store .entry)) (contentOf s) plot .store) ⌝ }
+    ensures { λ r. ⌜ ReadPromise (now (store .entry)) s plot (codeOf (r .answer .status)) (r .answer .found) (r .answer .entry) (r .session) (now (store .exit)) ⌝ }
 {
     let read = office::read::read_plot(store, s, plot);
     let status = read.status;

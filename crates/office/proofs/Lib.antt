@@ -20,3 +20,4 @@ pub mod Holds
 pub mod Writes
 pub mod Receives
 pub mod Answers
+pub mod Contract

@@ -18,6 +18,7 @@ ghost use Rattle.store.specs.Offices.{reveal, soundStore};
 ghost use Rattle.office.specs.Calls.{plotsOk, threeWords};
 ghost use Rattle.office.specs.Decide.{jointStart, jointRefusal, foundIn, Reaches, AllReach, PlacesTo, ownOver, noneOverTo, overAll, foundAmong, wordsTo, seenTo, withSeen, Decides};
 ghost use Rattle.office.specs.Promises.{JointPromise};
+ghost use Rattle.frame.specs.Refusals.{codeOf};
 
 pub struct JointRead {
     pub status: Status,
@@ -216,7 +217,7 @@ fn note_all(store: &[u32], places: [usize; 16], n: usize, first: Seen) -> Seen
 
 // read_joint, but for the parts of the session that a reading leaves as they were.
 pub fn see_joint(store: &mut [u32], s: Session, plots: &[u32], answer: &mut [u32]) -> JointSeen
-    ensures { λ r. ⌜ JointPromise (now (store .entry)) s (now (plots .entry)) (now (answer .entry)) (record { status = r .status; session = withSeen s (r .seen) }) (now (store .exit)) (now (answer .exit)) ⌝ }
+    ensures { λ r. ⌜ JointPromise (now (store .entry)) s (now (plots .entry)) (now (answer .entry)) (codeOf (r .status)) (withSeen s (r .seen)) (now (store .exit)) (now (answer .exit)) ⌝ }
 {
     let decided = decide(store, s, plots, answer.len());
     let code = decided.code;
@@ -242,7 +243,7 @@ pub fn see_joint(store: &mut [u32], s: Session, plots: &[u32], answer: &mut [u32
 }
 
 pub fn read_joint(store: &mut [u32], s: Session, plots: &[u32], answer: &mut [u32]) -> JointRead
-    ensures { λ r. ⌜ JointPromise (now (store .entry)) s (now (plots .entry)) (now (answer .entry)) r (now (store .exit)) (now (answer .exit)) ⌝ }
+    ensures { λ r. ⌜ JointPromise (now (store .entry)) s (now (plots .entry)) (now (answer .entry)) (codeOf (r .status)) (r .session) (now (store .exit)) (now (answer .exit)) ⌝ }
 {
     let done = see_joint(store, s, plots, answer);
     let seen = done.seen;

@@ -5,10 +5,11 @@ use frame::session::Session;
 ghost use mathlib.Core.Path.{_≡_};
 ghost use Rattle.frame.specs.Sessions.{sessionOf, freshContent};
 ghost use Rattle.office.specs.Promises.{FreshPromise, OpenPromise};
+ghost use Rattle.frame.specs.Refusals.{codeOf};
 
 // 01: open an office.
 pub fn open_office(offices: u32, own: u32, plots: u32, store: &mut [u32]) -> Status
-    ensures { λ r. ⌜ OpenPromise offices own plots (now (store .entry)) r (now (store .exit)) ⌝ }
+    ensures { λ r. ⌜ OpenPromise offices own plots (now (store .entry)) (codeOf r) (now (store .exit)) ⌝ }
 {
     if !store::layout::settings_ok(offices, own, plots) {
         return Status::Refused(Refusal::Settings);
@@ -36,7 +37,7 @@ fn blank(offices: u32) -> Session
 
 // 01: a fresh errand.
 pub fn fresh_session(offices: u32) -> Fresh
-    ensures { λ r. ⌜ FreshPromise offices r ⌝ }
+    ensures { λ r. ⌜ FreshPromise offices (codeOf (r .status)) (r .session) ⌝ }
 {
     if offices < 2 {
         return Fresh {

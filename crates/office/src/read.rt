@@ -137,7 +137,7 @@ fn answer_at(store: &[u32], s: Session, plot: u32, k: usize) -> PlotSeen
 
 // read_plot, but for the parts of the session that a reading leaves as they were.
 pub fn see_plot(store: &mut [u32], s: Session, plot: u32) -> PlotSeen
-    ensures { λ r. ⌜ ReadPromise (now (store .entry)) s plot (record { status = r .status; found = r .found; entry = r .entry; session = withSeen s (r .seen) }) (now (store .exit)) ⌝ }
+    ensures { λ r. ⌜ ReadPromise (now (store .entry)) s plot (codeOf (r .status)) (r .found) (r .entry) (withSeen s (r .seen)) (now (store .exit)) ⌝ }
 {
     let code = read_code(store, s, plot);
     let read = s.read;
@@ -161,7 +161,7 @@ pub fn see_plot(store: &mut [u32], s: Session, plot: u32) -> PlotSeen
 }
 
 pub fn read_plot(store: &mut [u32], s: Session, plot: u32) -> PlotRead
-    ensures { λ r. ⌜ ReadPromise (now (store .entry)) s plot r (now (store .exit)) ⌝ }
+    ensures { λ r. ⌜ ReadPromise (now (store .entry)) s plot (codeOf (r .status)) (r .found) (r .entry) (r .session) (now (store .exit)) ⌝ }
 {
     let done = see_plot(store, s, plot);
     let seen = done.seen;

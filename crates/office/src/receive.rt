@@ -4,7 +4,7 @@ use frame::refusal::Refusal;
 use frame::refusal::Written;
 ghost use mathlib.Core.Path.{_≡_};
 ghost use mathlib.Core.Bool.{true};
-ghost use Prim.Native.Nat.{_-_, _<_, _≤_};
+ghost use Prim.Native.Nat.{_-_, _≤_};
 ghost use lib.Dec.{eqb, leb};
 ghost use lib.ListN.{length, getD};
 ghost use lib.Seq.{sets};
@@ -96,7 +96,7 @@ fn taken(store: &mut [u32], f: Frame, out: &mut [u32]) -> Written
 
 // 01: hear a frame.
 pub fn receive(store: &mut [u32], frame: &[u32], out: &mut [u32]) -> Written
-    ensures { λ r. ⌜ ReceivePromise (now (store .entry)) (now (frame .entry)) (now (out .entry)) r (now (store .exit)) (now (out .exit)) ⌝ }
+    ensures { λ r. ⌜ ReceivePromise (now (store .entry)) (now (frame .entry)) (now (out .entry)) (replyOf r) (now (store .exit)) (now (out .exit)) ⌝ }
 {
     if !store::sound::is_sound(store) {
         return Written::NotWritten(Refusal::Store);

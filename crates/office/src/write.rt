@@ -17,6 +17,7 @@ ghost use Rattle.office.specs.Calls.{newEntry};
 ghost use Rattle.office.specs.Answers.{extendedBy};
 ghost use Rattle.office.specs.Steps.{ownTo, firstCodes, secondCodes, earlyCode, holdsIn, Slots};
 ghost use Rattle.office.specs.Promises.{WritePromise};
+ghost use Rattle.frame.specs.Refusals.{replyOf};
 
 pub struct Wrote {
     pub written: Written,
@@ -139,7 +140,7 @@ fn extended(s: Session, e: Entry) -> Session
 
 // 01: write.
 pub fn write(store: &mut [u32], s: Session, plot: u32, value: u32, out: &mut [u32]) -> Wrote
-    ensures { λ r. ⌜ WritePromise (now (store .entry)) s plot value (now (out .entry)) r (now (store .exit)) (now (out .exit)) ⌝ }
+    ensures { λ r. ⌜ WritePromise (now (store .entry)) s plot value (now (out .entry)) (replyOf (r .written)) (r .session) (now (store .exit)) (now (out .exit)) ⌝ }
 {
     let code = early_code(store, s, plot, value);
     if code != 0 {

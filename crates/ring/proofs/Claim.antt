@@ -199,7 +199,7 @@ module _ (n : ℕ) (σ : Ring) where
   from-shown s x zero h = begins-zero s (x .past) (onWords .token-read (x .token)) (h refl)
   from-shown s x (suc c) h = refl
 
-  token-shown : (s : Carried) (row : List ℕ) (r : Written) (row′ : List ℕ) → WriteTokenPromise (s .session) row r row′ → (c : ℕ)
+  token-shown : (s : Carried) (row : List ℕ) (r : Written) (row′ : List ℕ) → WriteTokenPromise (s .session) row (replyOf r) row′ → (c : ℕ)
       → writeTokenCode (contentOf (s .session)) (length row) ≡ c
       → shown (tokenLeft σ s r row′ c) ≡ tokenBy onWords n (shown σ) (contentIn s) row c
   unfolding writeToken replied laid onWords
@@ -370,7 +370,7 @@ module _ (n p : ℕ) (two : 2 ≤ n) (eight : n ≤ 8) (one : 1 ≤ p) (p64 : p 
           (Rw .code) refl
           (same-at n rows _ _ _ write-runs (next (writing o i plot value row)))
 
-      write-is : (r : Wrote) (ws′ row′ : List ℕ) → WritePromise (σ .stores o) (s .session) plot value row r ws′ row′
+      write-is : (r : Wrote) (ws′ row′ : List ℕ) → WritePromise (σ .stores o) (s .session) plot value row (replyOf (r .written)) (r .session) ws′ row′
           → shown (writeLeft n σ o i s (wroteSaid r ws′ row′) (replyOf (r .written) .code)) ≡ step onWords n (shown σ) (writing o i plot value row)
       write-is r ws′ row′ h =
           let t = write-step (σ .stores o) (s .session) (sized-at n σ z i s e) plot value row r ws′ row′ h in
@@ -385,7 +385,7 @@ module _ (n p : ℕ) (two : 2 ≤ n) (eight : n ≤ 8) (one : 1 ≤ p) (p64 : p 
 
     -- a reading of one plot
     read-is : (o i plot : ℕ) (s : Carried) (r : PlotRead) (ws′ : List ℕ) → o < n → at (σ .sessions) i ≡ s ∷ []
-        → ReadPromise (σ .stores o) (s .session) plot r ws′
+        → ReadPromise (σ .stores o) (s .session) plot (codeOf (r .status)) (r .found) (r .entry) (r .session) ws′
         → shown (readLeft σ o i s (plot ∷ []) (readSaid r ws′) (codeOf (r .status))) ≡ step onWords n (shown σ) (reading o i plot)
     unfolding step
     read-is o i plot s r ws′ lt e h =
@@ -451,7 +451,7 @@ module _ (n p : ℕ) (two : 2 ≤ n) (eight : n ≤ 8) (one : 1 ≤ p) (p64 : p 
               plots _
           go (suc y) K = refl
 
-      joint-holds : (r : JointRead) (ws′ row′ : List ℕ) → JointPromise (σ .stores o) (s .session) plots row r ws′ row′
+      joint-holds : (r : JointRead) (ws′ row′ : List ℕ) → JointPromise (σ .stores o) (s .session) plots row (codeOf (r .status)) (r .session) ws′ row′
           → shown (readLeft σ o i s plots (jointSaid (σ .log) plots r ws′ row′) (codeOf (r .status))) ≡ step onWords n (shown σ) (joint o i plots row)
       unfolding step onWords
       joint-holds r ws′ row′ h =
@@ -473,7 +473,7 @@ module _ (n p : ℕ) (two : 2 ≤ n) (eight : n ≤ 8) (one : 1 ≤ p) (p64 : p 
           ∙ ap (jointAt onWords n (shown σ) o i plots row) (there i s e))
 
     -- a hearing
-    heard-is : (o : ℕ) (f row : List ℕ) (r : Written) (ws′ row′ : List ℕ) → ReceivePromise (σ .stores o) f row r ws′ row′
+    heard-is : (o : ℕ) (f row : List ℕ) (r : Written) (ws′ row′ : List ℕ) → ReceivePromise (σ .stores o) f row (replyOf r) ws′ row′
         → ((w : List ℕ) → List·Memᴰ w (onWords .on-receive (σ .stores o) f row .sent) → accepts n p w ≡ true)
         → resultOf (heardSaid r ws′ row′) ≡ onWords .on-receive (σ .stores o) f row
     heard-is o f row r ws′ row′ h frames =
@@ -496,7 +496,7 @@ module _ (n p : ℕ) (two : 2 ≤ n) (eight : n ≤ 8) (one : 1 ≤ p) (p64 : p 
       unfolding step
       hear-runs = on-office o (receiveAt onWords n (shown σ) o row (σ .lines o)) lt ∙ ap (receiveAt onWords n (shown σ) o row) e
 
-      hear-is : (r : Written) (ws′ row′ : List ℕ) → ReceivePromise (σ .stores o) f row r ws′ row′
+      hear-is : (r : Written) (ws′ row′ : List ℕ) → ReceivePromise (σ .stores o) f row (replyOf r) ws′ row′
           → shown (heardLeft n σ o rest (heardSaid r ws′ row′) (replyOf r .code)) ≡ step onWords n (shown σ) (receiving o row)
       hear-is r ws′ row′ h =
           heard-shown n σ o rest (heardSaid r ws′ row′) (replyOf r .code)
@@ -508,7 +508,7 @@ module _ (n p : ℕ) (two : 2 ≤ n) (eight : n ≤ 8) (one : 1 ≤ p) (p64 : p 
           ∙ sym hear-runs
 
     -- words that nobody sent: the code, the store and the row are all that a run has of them
-    words-is : (o : ℕ) (words row : List ℕ) (r : Written) (ws′ row′ : List ℕ) → o < n → ReceivePromise (σ .stores o) words row r ws′ row′
+    words-is : (o : ℕ) (words row : List ℕ) (r : Written) (ws′ row′ : List ℕ) → o < n → ReceivePromise (σ .stores o) words row (replyOf r) ws′ row′
         → shown (cond (eqb (replyOf r .code) 9) (turned σ o (heardSaid r ws′ row′)) σ) ≡ step onWords n (shown σ) (receiving-words o words row)
     unfolding step onWords
     words-is o words row r ws′ row′ lt h =

@@ -14,7 +14,6 @@ pub mod SameRun
 pub mod Theorem
 pub mod Corrects
 pub mod Played
-pub mod Contract
 pub mod Promises
 pub mod Table
 pub mod More

@@ -42,7 +42,7 @@ joined (l ∷ ls) = l ++ joined ls
 -- ---- a write
 
 -- a session of a program has room for 16 own writes
-pub write-step : (ws : List ℕ) (s : Session) → length (s .own) ≡ 16 → (plot value : ℕ) (row : List ℕ) (r : Wrote) (ws′ row′ : List ℕ) → WritePromise ws s plot value row r ws′ row′
+pub write-step : (ws : List ℕ) (s : Session) → length (s .own) ≡ 16 → (plot value : ℕ) (row : List ℕ) (r : Wrote) (ws′ row′ : List ℕ) → WritePromise ws s plot value row (replyOf (r .written)) (r .session) ws′ row′
     → (replyOf (r .written) .code ≡ onWords .on-write ws (contentOf s) plot value row .code)
     × (replyOf (r .written) .words ≡ onWords .on-write ws (contentOf s) plot value row .count)
     × (contentOf (r .session) ≡ onWords .on-write ws (contentOf s) plot value row .session)
@@ -109,7 +109,7 @@ read-found ws s plot =
     go true (suc c) f = refl
     go false c f = refl
 
-pub read-step : (ws : List ℕ) (s : Session) (plot : ℕ) (r : PlotRead) (ws′ : List ℕ) → ReadPromise ws s plot r ws′
+pub read-step : (ws : List ℕ) (s : Session) (plot : ℕ) (r : PlotRead) (ws′ : List ℕ) → ReadPromise ws s plot (codeOf (r .status)) (r .found) (r .entry) (r .session) ws′
     → (codeOf (r .status) ≡ onWords .on-read ws (contentOf s) plot .code)
     × (handedBack (codeOf (r .status)) (r .found) (r .entry) ≡ onWords .on-read ws (contentOf s) plot .found)
     × (contentOf (r .session) ≡ onWords .on-read ws (contentOf s) plot .session)
@@ -117,7 +117,7 @@ pub read-step : (ws : List ℕ) (s : Session) (plot : ℕ) (r : PlotRead) (ws′
 unfolding onWords
 read-step ws s plot r ws′ h = (h .0, rw (h .0, h .1, h .2) (read-found ws (contentOf s) plot), ap contentOf (h .3) ∙ read-content ws s plot, h .4)
 
-pub joint-step : (ws : List ℕ) (s : Session) (plots row : List ℕ) (r : JointRead) (ws′ row′ : List ℕ) → JointPromise ws s plots row r ws′ row′
+pub joint-step : (ws : List ℕ) (s : Session) (plots row : List ℕ) (r : JointRead) (ws′ row′ : List ℕ) → JointPromise ws s plots row (codeOf (r .status)) (r .session) ws′ row′
     → (codeOf (r .status) ≡ onWords .on-joint ws (contentOf s) plots row .code)
     × (contentOf (r .session) ≡ onWords .on-joint ws (contentOf s) plots row .session)
     × (ws′ ≡ onWords .on-joint ws (contentOf s) plots row .store)
@@ -160,7 +160,7 @@ joint-found ws s plots row = go (soundStore ws) (jointCode (officeOf ws) s plots
 
 -- ---- a hearing
 
-pub receive-step : (ws frame row : List ℕ) (r : Written) (ws′ row′ : List ℕ) → ReceivePromise ws frame row r ws′ row′
+pub receive-step : (ws frame row : List ℕ) (r : Written) (ws′ row′ : List ℕ) → ReceivePromise ws frame row (replyOf r) ws′ row′
     → (replyOf r .code ≡ onWords .on-receive ws frame row .code)
     × (replyOf r .words ≡ onWords .on-receive ws frame row .count)
     × (ws′ ≡ onWords .on-receive ws frame row .store)
@@ -189,10 +189,10 @@ words-step ws words row = refl
 
 -- ---- opening, and fresh sessions
 
-pub open-step : (n o p : ℕ) (ws : List ℕ) (r : Status) (ws′ : List ℕ) → OpenPromise n o p ws r ws′ → ws′ ≡ openOffice n o p ws .1
+pub open-step : (n o p : ℕ) (ws : List ℕ) (r : Status) (ws′ : List ℕ) → OpenPromise n o p ws (codeOf r) ws′ → ws′ ≡ openOffice n o p ws .1
 open-step n o p ws r ws′ h = h .1
 
-pub fresh-step : (n : ℕ) (r : Fresh) → FreshPromise n r
+pub fresh-step : (n : ℕ) (r : Fresh) → FreshPromise n (codeOf (r .status)) (r .session)
     → (codeOf (r .status) ≡ freshCode n) × (freshCode n ≡ 0 → contentOf (r .session) ≡ freshContent n)
 unfolding freshBy
 fresh-step n r h =
@@ -200,7 +200,7 @@ fresh-step n r h =
 
 -- ---- tokens
 
-pub write-token-step : (s : Session) (row : List ℕ) (r : Written) (row′ : List ℕ) → WriteTokenPromise s row r row′
+pub write-token-step : (s : Session) (row : List ℕ) (r : Written) (row′ : List ℕ) → WriteTokenPromise s row (replyOf r) row′
     → (replyOf r .code ≡ writeTokenCode (contentOf s) (length row))
     × (row′ ≡ writeTokenRow (contentOf s) row)
     × (writeTokenCode (contentOf s) (length row) ≡ 0
@@ -227,7 +227,7 @@ token-few words n p a =
     let c = check-none (acceptsToken n p words) 9 _ (omega arith) (b .1) in
     session-facts n p (contentFrom words) (token-sound n p words (c .0)) .few
 
-pub read-token-step : (words : List ℕ) (n p : ℕ) (r : TokenRead) → ReadTokenPromise words n p r
+pub read-token-step : (words : List ℕ) (n p : ℕ) (r : TokenRead) → ReadTokenPromise words n p (codeOf (r .status)) (r .session)
     → (codeOf (r .status) ≡ onWords .token-code n p words)
     × (onWords .token-code n p words ≡ 0 → contentOf (r .session) ≡ onWords .token-read words)
 unfolding onWords readToken contentIf

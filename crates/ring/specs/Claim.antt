@@ -43,24 +43,24 @@ Absent n σ (copy-token t) = at (σ .tokens) t ≡ []
 pub data Step (n : ℕ) (σ : Ring) : Call → Ring → Type 0 where
   absent : (c : Call) → Absent n σ c → Step n σ c σ
   writes : (o i plot value : ℕ) (row : List ℕ) (s : Carried) (r : Wrote) (ws′ row′ : List ℕ) → o < n → at (σ .sessions) i ≡ s ∷ []
-      → WritePromise (σ .stores o) (s .session) plot value row r ws′ row′
+      → WritePromise (σ .stores o) (s .session) plot value row (replyOf (r .written)) (r .session) ws′ row′
       → Step n σ (writing o i plot value row) (writeLeft n σ o i s (wroteSaid r ws′ row′) (replyOf (r .written) .code))
   reads : (o i plot : ℕ) (s : Carried) (r : PlotRead) (ws′ : List ℕ) → o < n → at (σ .sessions) i ≡ s ∷ []
-      → ReadPromise (σ .stores o) (s .session) plot r ws′
+      → ReadPromise (σ .stores o) (s .session) plot (codeOf (r .status)) (r .found) (r .entry) (r .session) ws′
       → Step n σ (reading o i plot) (readLeft σ o i s (plot ∷ []) (readSaid r ws′) (codeOf (r .status)))
   reads-jointly : (o i : ℕ) (plots row : List ℕ) (s : Carried) (r : JointRead) (ws′ row′ : List ℕ) → o < n → at (σ .sessions) i ≡ s ∷ []
-      → JointPromise (σ .stores o) (s .session) plots row r ws′ row′
+      → JointPromise (σ .stores o) (s .session) plots row (codeOf (r .status)) (r .session) ws′ row′
       → Step n σ (joint o i plots row) (readLeft σ o i s plots (jointSaid (σ .log) plots r ws′ row′) (codeOf (r .status)))
   -- "a hearing gets, unaltered, the oldest one that its office hasn't heard"
   hears : (o : ℕ) (row f : List ℕ) (rest : List (List ℕ)) (r : Written) (ws′ row′ : List ℕ) → o < n → σ .lines o ≡ f ∷ rest
-      → ReceivePromise (σ .stores o) f row r ws′ row′ → Step n σ (receiving o row) (heardLeft n σ o rest (heardSaid r ws′ row′) (replyOf r .code))
+      → ReceivePromise (σ .stores o) f row (replyOf r) ws′ row′ → Step n σ (receiving o row) (heardLeft n σ o rest (heardSaid r ws′ row′) (replyOf r .code))
   -- "or else words that it refuses with 9": other words are no call of a run
-  hears-words : (o : ℕ) (words row : List ℕ) (r : Written) (ws′ row′ : List ℕ) → o < n → ReceivePromise (σ .stores o) words row r ws′ row′
+  hears-words : (o : ℕ) (words row : List ℕ) (r : Written) (ws′ row′ : List ℕ) → o < n → ReceivePromise (σ .stores o) words row (replyOf r) ws′ row′
       → Step n σ (receiving-words o words row) (cond (eqb (replyOf r .code) 9) (turned σ o (heardSaid r ws′ row′)) σ)
-  begins-fresh : (m : ℕ) (r : Fresh) → FreshPromise m r → Step n σ (fresh m) (begins σ (r .session) [] (codeOf (r .status)))
+  begins-fresh : (m : ℕ) (r : Fresh) → FreshPromise m (codeOf (r .status)) (r .session) → Step n σ (fresh m) (begins σ (r .session) [] (codeOf (r .status)))
   writes-token : (i : ℕ) (row : List ℕ) (s : Carried) (r : Written) (row′ : List ℕ) → at (σ .sessions) i ≡ s ∷ []
-      → WriteTokenPromise (s .session) row r row′ → Step n σ (token-writing i row) (tokenLeft σ s r row′ (replyOf r .code))
-  reads-token : (t m p : ℕ) (x : TrackedToken (List ℕ)) (r : TokenRead) → at (σ .tokens) t ≡ x ∷ [] → ReadTokenPromise (x .token) m p r
+      → WriteTokenPromise (s .session) row (replyOf r) row′ → Step n σ (token-writing i row) (tokenLeft σ s r row′ (replyOf r .code))
+  reads-token : (t m p : ℕ) (x : TrackedToken (List ℕ)) (r : TokenRead) → at (σ .tokens) t ≡ x ∷ [] → ReadTokenPromise (x .token) m p (codeOf (r .status)) (r .session)
       → Step n σ (token-reading t m p) (begins σ (r .session) (x .past) (codeOf (r .status)))
   copies-session : (i : ℕ) (s : Carried) → at (σ .sessions) i ≡ s ∷ [] → Step n σ (copy-session i) (withCopy σ s)
   copies-token : (t : ℕ) (x : TrackedToken (List ℕ)) → at (σ .tokens) t ≡ x ∷ [] → Step n σ (copy-token t) (withTokens σ (x ∷ []))
@@ -73,7 +73,7 @@ pub data Runs (n : ℕ) : Ring → List Call → Ring → Type 0 where
 
 -- each office of the ring was opened over its row, and accepted; ws o is the store that the opening left
 abbrev pub Opened : ℕ → ℕ → (ℕ → List ℕ) → (ℕ → List ℕ) → Type 0
-Opened n p rows ws = (o : ℕ) → o < n → (r : Status) × (codeOf r ≡ 0) × OpenPromise n o p (rows o) r (ws o)
+Opened n p rows ws = (o : ℕ) → o < n → (r : Status) × (codeOf r ≡ 0) × OpenPromise n o p (rows o) (codeOf r) (ws o)
 
 -- "every office of one ring freshly opened and no errand, slip or frame about" (a number that no office has keeps its row)
 abbrev pub begun : ℕ → (ℕ → List ℕ) → (ℕ → List ℕ) → Ring

@@ -1,5 +1,4 @@
-use Rattle.frame.specs.Refusals.{Reply}
-use mathlib.Core.Path.{ap, _∙_}
+use mathlib.Core.Path.{_∙_}
 use borrow.Author.Needs.{needs}
 use Rattle.host.proofs.frames.burial_write_frame.Statement.{statement}
 use Rattle.host.proofs.frames.burial_write_frame.Tie as tie
@@ -15,7 +14,7 @@ same-length c = search needs
 
 returns : tie.Need-returns
 returns c = let e = c .before .before .before .write-frame .ensures in
-    (c .words-answer .ensures .0 ∙ ap (λ (r : Reply). r .code) (e .0), c .words-answer .ensures .1 ∙ ap (λ (r : Reply). r .words) (e .0), e .1)
+    (c .words-answer .ensures ∙ e .0, e .1)
 
 pub burial-write-frame-spec : {M : Type 1} → statement M
 burial-write-frame-spec =

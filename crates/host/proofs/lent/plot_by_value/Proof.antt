@@ -1,7 +1,6 @@
-use mathlib.Core.Path.{ap, _∙_}
-use Prim.Native.Nat.{ℕ}
-use mathlib.Core.Bool.{Bool, cond}
+use mathlib.Core.Path.{_∙_}
 use borrow.Author.Needs.{needs}
+use Rattle.host.proofs.Flags.{flag-low, flag-set}
 use Rattle.host.proofs.lent.plot_by_value.Statement.{statement}
 use Rattle.host.proofs.lent.plot_by_value.Tie as tie
 
@@ -19,7 +18,8 @@ same-length c = search needs
 
 returns : tie.Need-returns
 returns c = let e = c .before .before .before .before .before .before .before .before .see-plot .ensures in
-    (c .before .before .before .before .before .code-of .ensures ∙ e .0, c .before .before .before .before .flag .ensures ∙ ap (λ (b : Bool). cond {A = ℕ} b 1 0) (e .1), e .2, e .3, e .4)
+    let q = c .before .before .before .before .flag .ensures in
+    (flag-low _ _ q, (c .before .before .before .before .before .code-of .ensures ∙ e .0, flag-set _ _ q ∙ e .1, e .2, e .3, e .4))
 
 pub plot-by-value-spec : {M : Type 1} → statement M
 plot-by-value-spec =

@@ -1,5 +1,4 @@
-use mathlib.Core.Path.{ap, _∙_}
-use Rattle.frame.specs.Refusals.{Reply}
+use mathlib.Core.Path.{_∙_}
 use borrow.Author.Needs.{needs}
 use Rattle.host.proofs.lent.write_by_value.Statement.{statement}
 use Rattle.host.proofs.lent.write_by_value.Tie as tie
@@ -18,7 +17,7 @@ same-length-2 c = search needs
 
 returns : tie.Need-returns
 returns c = let e = c .before .before .before .before .before .before .write .ensures in
-    (c .before .words-answer .ensures .0 ∙ ap (λ (x : Reply). x .code) (e .0), c .before .words-answer .ensures .1 ∙ ap (λ (x : Reply). x .words) (e .0), e .1, e .2, e .3)
+    (c .before .words-answer .ensures ∙ e .0, e .1, e .2, e .3)
 
 pub write-by-value-spec : {M : Type 1} → statement M
 write-by-value-spec =

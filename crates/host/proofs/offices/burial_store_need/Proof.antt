@@ -1,5 +1,4 @@
-use mathlib.Core.Path.{ap, _∙_}
-use Rattle.frame.specs.Refusals.{Reply}
+use mathlib.Core.Path.{_∙_}
 use borrow.Author.Needs.{needs}
 use Rattle.host.proofs.offices.burial_store_need.Statement.{statement}
 use Rattle.host.proofs.offices.burial_store_need.Tie as tie
@@ -11,7 +10,7 @@ words-answer-requires : tie.Need-words-answer-requires
 words-answer-requires c κs = search needs
 
 returns : tie.Need-returns
-returns c = (c .words-answer .ensures .0 ∙ ap (λ (x : Reply). x .code) (c .before .store-need .ensures), c .words-answer .ensures .1 ∙ ap (λ (x : Reply). x .words) (c .before .store-need .ensures))
+returns c = (c .words-answer .ensures ∙ c .before .store-need .ensures)
 
 pub burial-store-need-spec : {M : Type 1} → statement M
 burial-store-need-spec = tie.close (tie.spec store-need-requires words-answer-requires returns)

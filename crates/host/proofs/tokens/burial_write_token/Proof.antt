@@ -1,5 +1,4 @@
-use mathlib.Core.Path.{ap, _∙_}
-use Rattle.frame.specs.Refusals.{Reply}
+use mathlib.Core.Path.{_∙_}
 use borrow.Author.Needs.{needs}
 use Rattle.host.proofs.tokens.burial_write_token.Statement.{statement}
 use Rattle.host.proofs.tokens.burial_write_token.Tie as tie
@@ -15,7 +14,7 @@ same-length c = search needs
 
 returns : tie.Need-returns
 returns c = let e = c .before .before .before .write-token .ensures in
-    (c .words-answer .ensures .0 ∙ ap (λ (x : Reply). x .code) (e .0), c .words-answer .ensures .1 ∙ ap (λ (x : Reply). x .words) (e .0), e .1)
+    (c .words-answer .ensures ∙ e .0, e .1)
 
 pub burial-write-token-spec : {M : Type 1} → statement M
 burial-write-token-spec =

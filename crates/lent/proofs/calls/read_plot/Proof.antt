@@ -39,10 +39,8 @@ use denote.Triple.Table.{entered, cited}
 use denote.Triple.Walked.{says, Stays, stay-ref, stay-none, gave-slice, walkOf, AllGo, goes-ref, goes-none, goes-gave-slice, Walks, ends-at, walked, walk-meets}
 use denote.Exit.{yes}
 use denote.Signature.{plain}
-use Rattle.frame.specs.Sessions.{contentOf}
 use Rattle.frame.specs.Refusals.{codeOf}
-use Rattle.office.specs.Calls.{readPlot}
-use Rattle.office.specs.Answers.{anyFound, entryFound, readPlotSession}
+use Rattle.office.specs.Promises.{ReadPromise}
 use Rattle.frame.specs.declared.session.Session.{Session}
 use Rattle.frame.proofs.session.Session as T-Session
 use Rattle.frame.proofs.session.Session.Laws as T-Session′
@@ -69,7 +67,7 @@ Core 𝓤 H A at-mem run = tripleOf 𝓤 H A core.signature (core.spec 𝓤 H A 
 
 -- what the core says of its result and of the last lists
 abbrev CoreSays : List ℕ → Session → ℕ → PlotDone → List ℕ → Type 0
-CoreSays x-store x-s x-plot r z-store = (codeOf (r .answer .status) ≡ readPlot x-store (contentOf x-s) x-plot .code) × (r .answer .found ≡ anyFound (readPlot x-store (contentOf x-s) x-plot .found)) × (r .answer .entry ≡ entryFound (readPlot x-store (contentOf x-s) x-plot .found)) × (r .session ≡ readPlotSession x-store x-s x-plot) × (z-store ≡ readPlot x-store (contentOf x-s) x-plot .store)
+CoreSays x-store x-s x-plot r z-store = ReadPromise x-store x-s x-plot (codeOf (r .answer .status)) (r .answer .found) (r .answer .entry) (r .session) z-store
 
 session-is : (r : PlotDone) (w : Val) → Is T-PlotDone.the-row r (w ∷ []) → Is T-Session.the-row (r .session) (LL.val T-Session.the-type T-Session′.the-laws (r .session) ∷ [])
 session-is r w is = LL.owed T-PlotDone.the-type T-PlotDone′.the-laws r (w ∷ []) is .1 .0

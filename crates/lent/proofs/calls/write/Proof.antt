@@ -40,10 +40,8 @@ use denote.Triple.Table.{entered, cited}
 use denote.Triple.Walked.{says, Stays, stay-ref, stay-none, gave-slice, walkOf, AllGo, goes-ref, goes-none, goes-gave-slice, Walks, ends-at, walked, walk-meets}
 use denote.Exit.{yes}
 use denote.Signature.{plain}
-use Rattle.frame.specs.Sessions.{contentOf}
 use Rattle.frame.specs.Refusals.{replyOf}
-use Rattle.office.specs.Calls.{write as writeOf}
-use Rattle.office.specs.Answers.{writeSession}
+use Rattle.office.specs.Promises.{WritePromise}
 use Rattle.frame.specs.declared.session.Session.{Session}
 use Rattle.frame.proofs.session.Session as T-Session
 use Rattle.frame.proofs.session.Session.Laws as T-Session′
@@ -70,7 +68,7 @@ Core 𝓤 H A at-mem run = tripleOf 𝓤 H A core.signature (core.spec 𝓤 H A 
 
 -- what the core says of its result and of the last lists
 abbrev CoreSays : List ℕ → Session → ℕ → ℕ → List ℕ → Wrote → List ℕ → List ℕ → Type 0
-CoreSays x-store x-s x-plot x-value x-out r z-store z-out = (replyOf (r .written) ≡ record { code = writeOf x-store (contentOf x-s) x-plot x-value x-out .code; words = writeOf x-store (contentOf x-s) x-plot x-value x-out .count }) × (r .session ≡ writeSession x-store x-s x-plot x-value x-out) × (z-store ≡ writeOf x-store (contentOf x-s) x-plot x-value x-out .store) × (z-out ≡ writeOf x-store (contentOf x-s) x-plot x-value x-out .row)
+CoreSays x-store x-s x-plot x-value x-out r z-store z-out = WritePromise x-store x-s x-plot x-value x-out (replyOf (r .written)) (r .session) z-store z-out
 
 session-is : (r : Wrote) (w : Val) → Is T-Wrote.the-row r (w ∷ []) → Is T-Session.the-row (r .session) (LL.val T-Session.the-type T-Session′.the-laws (r .session) ∷ [])
 session-is r w is = LL.owed T-Wrote.the-type T-Wrote′.the-laws r (w ∷ []) is .1 .0
