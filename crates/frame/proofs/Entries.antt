@@ -1,12 +1,12 @@
 -- What the entry and frame rules say, as facts, both ways; rank is a strict total order on entries that keep them. Assumes nothing.
 use Prim.Native.Nat.{ℕ, _-_, _<_, _≤_}
 use mathlib.Core.Path.{_≡_, refl, sym, ap, _∙_}
-use mathlib.Core.Bool.{true, false, cond, not}
+use mathlib.Core.Bool.{Bool, true, false, cond, not}
 use mathlib.Core.Logic.{⊎-elim}
 use mathlib.Core.List.{List}
 use native.Mathlib.Omega.{arith}
 use lib.Dec.{leb, ltb, eqb}
-use lib.ListN.{length, getD}
+use lib.ListN.{length, getD, List·getD-eq-default}
 use borrow.Author.Tests.{ltb-true, leb-true, eqb-true, lt-ltb, le-ltb, le-leb, eq-eqb, not-true}
 use Rattle.causal.specs.Tests.{both, either}
 use Rattle.causal.specs.Sets.{isIn}
@@ -134,6 +134,17 @@ entry-facts n p e h =
       clock = d .0;
       deps = d .1;
     }
+
+-- no clock of eight has a number for a ninth office, so no entry of such an office keeps the rules
+pub far-entry : (n p : ℕ) (e : Entry) → length (e .clock) ≡ 8 → 7 < e .office → entryOk n p e ≡ false
+far-entry n p e l far = go (entryOk n p e) refl
+  where
+    go : (b : Bool) → entryOk n p e ≡ b → b ≡ false
+    go false q = refl
+    go true q =
+        let f = entry-facts n p e q in
+        let z : getD (e .clock) (e .office) 0 ≡ 0 = List·getD-eq-default (e .clock) 0 (omega arith) in
+        absurd (omega (arith, f .own-clock, f .bounds .from, z))
 
 pub facts-entry : (n p : ℕ) (e : Entry) → EntryFacts n p e → entryOk n p e ≡ true
 unfolding entryOk both

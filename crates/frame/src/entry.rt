@@ -136,10 +136,13 @@ fn past_ok(n: usize, office: usize, serial: u32, clock: [u32; 8], deps: [u32; 8]
 
 // The entry rules.
 pub fn entry_ok(n: u32, p: u32, e: Entry) -> bool
-    requires { ⌜ n ≤ 8 ⌝ }
     ensures { λ r. ⌜ r ≡ entryOk n p e ⌝ }
 {
     if !bounds_ok(n, p, e.office, e.serial, e.plot, e.value) {
+        return false;
+    }
+    // No clock has a number for a ninth office.
+    if e.office > 7 {
         return false;
     }
     let clock = e.clock;

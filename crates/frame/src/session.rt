@@ -34,7 +34,6 @@ pub fn blank_session() -> Session
 
 // One own write: the entry rules, an id that is not among the earlier ones, and no dependency but on what was read or written before.
 fn own_ok(n: u32, p: u32, read: [u32; 8], seen: [u32; 8], e: Entry) -> bool
-    requires { ⌜ n ≤ 8 ⌝ }
     ensures { λ r. ⌜ r ≡ ownTurn n p read seen e ⌝ }
 {
     if !crate::entry::entry_ok(n, p, e) {
@@ -51,7 +50,7 @@ fn own_ok(n: u32, p: u32, read: [u32; 8], seen: [u32; 8], e: Entry) -> bool
 
 // The own writes, with the set of the ids seen so far.
 pub fn owns_ok(n: u32, p: u32, read: [u32; 8], own: [Entry; 16], count: usize) -> bool
-    requires { ⌜ (n ≤ 8) × (count ≤ 16) ⌝ }
+    requires { ⌜ count ≤ 16 ⌝ }
     ensures { λ r. ⌜ r ≡ ownOk n p read zeros (tab count (λ i. getD own i nobody)) ⌝ }
 {
     let mut seen = [0u32; 8];
@@ -86,7 +85,6 @@ pub fn head_ok(offices: u32, count: usize, clock: [u32; 8], read: [u32; 8], n: u
 // 01: is a session sound for a ring of so many offices, with so many plots? The own writes are taken out only where there are any: they are
 // 1,280 bytes.
 pub fn session_ok(s: Session, offices: u32, plots: u32) -> bool
-    requires { ⌜ offices ≤ 8 ⌝ }
     ensures { λ r. ⌜ r ≡ sessionOk offices plots (contentOf s) ⌝ }
 {
     let count = s.count;

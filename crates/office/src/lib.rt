@@ -1,11 +1,11 @@
 // The calls of one office.
-pub mod code;
-pub mod entries;
+mod code;
+mod entries;
 pub mod joint;
 pub mod need;
-pub mod note;
+mod note;
 pub mod open;
 pub mod read;
 pub mod receive;
-pub mod send;
+mod send;
 pub mod write;

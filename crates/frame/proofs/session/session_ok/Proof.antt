@@ -22,8 +22,7 @@ returns-2 c =
 
 owns-ok-requires : tie.Need-owns-ok-requires
 owns-ok-requires c κs =
-    let z = c .before .before .before .before .before .before in
-    (z .pre, T.head-few _ _ _ _ _ (sym (c .before .before .before .head-ok .ensures) ∙ not-false _ (c .before .before .if1 .left)))
+    T.head-few _ _ _ _ _ (sym (c .before .before .before .head-ok .ensures) ∙ not-false _ (c .before .before .if1 .left))
 
 returns-3 : tie.Need-returns-3
 returns-3 c =

@@ -30,7 +30,7 @@ unfolding numberOf
 returns-2 c = let z = c .before .before .before .before .before .before .before .args in let n = z .offices in let p = z .plots in let ws = z .ws .now in let r = sym (c .before .before .before .before .before .ring-ok .ensures) ∙ not-false _ (c .before .before .before .before .if1 .left) in R.read-refused n p ws 8 _ _ (R.fields-refused n p ws r (sym (c .before .before .before .session-from .ensures .0) ∙ not-true _ (c .before .if2 .taken))) (c .refused2 .ensures .0) (c .refused2 .ensures .1)
 
 session-ok-requires : tie.Need-session-ok-requires
-session-ok-requires c κs = let z = c .before .before .before .before .before .before .before .args in let n = z .offices in let p = z .plots in let ws = z .ws .now in let r = sym (c .before .before .before .before .before .ring-ok .ensures) ∙ not-false _ (c .before .before .before .before .if1 .left) in ring-facts n p r .high
+session-ok-requires c κs = search needs
 
 refused-requires-3 : tie.Need-refused-requires-3
 refused-requires-3 c κs = search needs

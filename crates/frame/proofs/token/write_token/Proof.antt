@@ -17,7 +17,7 @@ unfolding replyOf numberOf contentOf
 returns c = let x = c .before .before .before .args .s in let o = c .before .before .before .args .out .now in T.write-refused (contentOf x) o 2 (T.write-no-ring (contentOf x) o (sym (c .before .ring-ok .ensures) ∙ not-true _ (c .if1 .taken)))
 
 session-ok-requires : tie.Need-session-ok-requires
-session-ok-requires c κs = let x = c .before .before .before .args .s in let o = c .before .before .before .args .out .now in ring-facts (x .offices) 64 (sym (c .before .ring-ok .ensures) ∙ not-false _ (c .if1 .left)) .high
+session-ok-requires c κs = search needs
 
 returns-2 : tie.Need-returns-2
 unfolding replyOf numberOf contentOf
