@@ -119,6 +119,7 @@ event-fine E log v a b c e f =
       not11 = b;
       not12 = c;
       reads = λ q f m. absurd (List·Memᴰ·not-nil (rw e at m));
+      handed = λ q f m. absurd (List·Memᴰ·not-nil (rw e at m));
       past-made = λ k m. absurd (List·Memᴰ·not-nil (rw f at m));
     }
 

@@ -6,12 +6,11 @@ use mathlib.Core.List.{List, [], _∷_}
 use mathlib.Core.Logic.{_⊎_, inl, inr, ⊎-elim}
 use mathlib.Core.Path.{_∙_, _≡_, refl, sym}
 use native.Mathlib.Omega.{arith}
-use lib.Dec.{leb, ltb}
+use lib.Dec.{leb}
 use lib.ListN.{length}
-use borrow.Author.Tests.{le-leb, lt-ltb}
 use Rattle.causal.specs.Codes.{check}
-use Rattle.causal.proofs.Tests.{both-intro, lt-or-le}
-use Rattle.frame.specs.Frames.{accepts, frameOf, ringOk}
+use Rattle.causal.proofs.Tests.{lt-or-le}
+use Rattle.frame.specs.Frames.{accepts, frameOf}
 use Rattle.frame.specs.Refusals.{codeOf, numberOf, replied, replyOf}
 use Rattle.frame.specs.Sessions.{Content, contentOf, freshContent, sessionOf}
 use Rattle.frame.specs.TokenCalls.{readToken, readTokenCode, writeToken, writeTokenCode, writeTokenRow}
@@ -23,7 +22,7 @@ use Rattle.frame.specs.declared.refusal.Status.{Status}
 use Rattle.frame.specs.declared.refusal.Status.the-variants.{Accepted, Refused}
 use Rattle.frame.specs.declared.refusal.Written.{Written}
 use Rattle.frame.specs.declared.refusal.Written.the-variants.{NotWritten, Words}
-use Rattle.store.specs.Offices.{Office, need, officeOf, settingsOk, soundStore}
+use Rattle.store.specs.Offices.{Office, need, officeOf, soundStore}
 use Rattle.office.specs.Answers.{anyFound, entryFound, freshBy, readJointSession, readPlotSession, writeSession}
 use Rattle.office.specs.Calls.{Result, freshCode, given, jointCode, jointOn, openOffice, parsed, readCode, readJoint, readOn, readPlot, receive, receiveCode, receiveOn, worded, write, writeCode, writeOn, writeSends}
 use Rattle.office.specs.Steps.{earlyCode}
@@ -32,7 +31,7 @@ use Rattle.office.proofs.Refused.{receive-words-refused, write-words-refused}
 use Rattle.ring.specs.Answers.{Ring}
 use Rattle.ring.specs.Claim.{Absent, Answered, Opened, Runs, Step, absent, begins-fresh, copies-session, copies-token, hears, hears-words, more, none, reads, reads-jointly, reads-token, writes, writes-token}
 use Rattle.ring.specs.Run.{Call, at, copy-session, copy-token, fresh, joint, reading, receiving, receiving-words, token-reading, token-writing, writing}
-use Rattle.ring.proofs.Sounds.{ring-ok}
+use Rattle.ring.proofs.Theorem.{opens}
 
 -- ---- every number up to 13 is an answer's
 
@@ -127,10 +126,6 @@ write-token-le s room = check-le _ 3 _ (omega arith) (check-le _ 8 0 (omega arit
 read-token-le : (n p : ℕ) (words : List ℕ) → readTokenCode n p words ≤ 13
 unfolding readTokenCode
 read-token-le n p words = check-le _ 1 _ (omega arith) (check-le _ 9 0 (omega arith) (omega arith))
-
-open-fits : (n o p : ℕ) (ws : List ℕ) → ringOk n p ≡ true → o < n → need n ≤ length ws → openOffice n o p ws .0 ≡ 0
-unfolding openOffice settingsOk
-open-fits n o p ws ok lt long = rw (both-intro (ringOk n p) (ltb o n) ok (lt-ltb o n lt), le-leb (need n) (length ws) long)
 
 replied-for : (c k : ℕ) → c ≤ 13 → (r : Written) × (replyOf r ≡ replied c k)
 unfolding replied
@@ -246,17 +241,14 @@ chain n (c ∷ cs) σ =
     let a = answer n σ c in
     let b = chain n cs (a .0) in (b .0, more (a .1) (b .1))
 
-opens : (n p : ℕ) → 2 ≤ n → n ≤ 8 → 1 ≤ p → p ≤ 64 → (rows : ℕ → List ℕ) → ((o : ℕ) → o < n → need n ≤ length (rows o)) →
+opened : (n p : ℕ) → 2 ≤ n → n ≤ 8 → 1 ≤ p → p ≤ 64 → (rows : ℕ → List ℕ) → ((o : ℕ) → o < n → need n ≤ length (rows o)) →
     (ws : ℕ → List ℕ) × Opened n p rows ws
 unfolding codeOf
-opens n p two eight one p64 rows long =
-    (λ o. openOffice n o p (rows o) .1, λ o lt. (Accepted, accepted, (accepted ∙ sym (fits o lt), refl)))
+opened n p two eight one p64 rows long =
+    (λ o. openOffice n o p (rows o) .1, λ o lt. (Accepted, accepted, (accepted ∙ sym (opens n p two eight one p64 rows long o lt), refl)))
   where
     accepted : codeOf Accepted ≡ 0
     accepted = refl
 
-    fits : (o : ℕ) → o < n → openOffice n o p (rows o) .0 ≡ 0
-    fits o lt = open-fits n o p (rows o) (ring-ok n p two eight one p64) lt (long o lt)
-
 pub all-answered : Answered
-all-answered = record { opened = opens; called = λ n σ cs. chain n cs σ }
+all-answered = record { opened = opened; called = λ n σ cs. chain n cs σ }

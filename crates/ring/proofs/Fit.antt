@@ -14,7 +14,7 @@ use Rattle.frame.specs.Frames.{ringOk}
 use Rattle.frame.specs.Sessions.{Content, sessionOk}
 use Rattle.frame.specs.declared.entry.Entry.{Entry}
 use Rattle.frame.specs.declared.entry.Frame.{Frame}
-use Rattle.store.specs.Offices.{Found, Office}
+use Rattle.store.specs.Offices.{Found, Office, Some}
 use Rattle.store.proofs.Best.{Over}
 use Rattle.mesh.specs.Ring.{Shape}
 use Rattle.mesh.specs.Sessions.{IdSession, Law, SoundSession}
@@ -143,6 +143,7 @@ pub record EventFit (E : ℕ → Entry) (log : List Made) (v : Event) : Type 0 w
   pub not11 : v .code ≡ 11 → ⊥
   pub not12 : v .code ≡ 12 → ⊥
   pub reads : (q : ℕ) (f : Found) → List·Memᴰ (q, f) (v .reads) → (k : ℕ) → List·Memᴰ k (v .past) → E k .plot ≡ q → Over f (E k)
+  pub handed : (q : ℕ) (e : Entry) → List·Memᴰ (q, Some e) (v .reads) → (e .plot ≡ q) × (e ≡ E (idOf e)) × List·Memᴰ (idOf e) (ids log)
   pub past-made : (k : ℕ) → List·Memᴰ k (v .past) → List·Memᴰ k (ids log)
 
 pub record Agrees (E : ℕ → Entry) (P : ℕ → List ℕ) (log : List Made) : Type 0 where

@@ -53,7 +53,7 @@ write-step ws s n plot value row r ws′ row′ h =
     (ap (λ (x : Reply). x .code) (h .0), ap (λ (x : Reply). x .words) (h .0), ap contentOf (h .1) ∙ write-content ws s n plot value row, h .2, h .3)
 
 rows-joined : (fs : List Frame) → rowsOf fs ≡ joined (map frameWords fs)
-unfolding rowsOf joined map
+unfolding rowsOf joined
 rows-joined [] = refl
 rows-joined (f ∷ fs) = ap (λ (l : List ℕ). frameWords f ++ l) (rows-joined fs)
 
@@ -126,14 +126,14 @@ unfolding onWords
 joint-step ws s plots row r ws′ row′ h = (h .0, ap contentOf (h .1) ∙ joint-content ws s plots row, h .2, h .3)
 
 pub answers-joined : (O : Office) (plots : List ℕ) → answerWords O plots ≡ joined (map threeWords (map (current O) plots))
-unfolding answerWords joined map
+unfolding answerWords joined
 answers-joined O [] = refl
 answers-joined O (q ∷ qs) = ap (λ (l : List ℕ). threeWords (current O q) ++ l) (answers-joined O qs)
 
 -- what a joint reading handed back stands in its row
 pub joint-found : (ws : List ℕ) (s : Content) (plots row : List ℕ)
     → onWords .on-joint ws s plots row .row ≡ laid (joined (map threeWords (onWords .on-joint ws s plots row .found))) row
-unfolding onWords readJoint jointOn joined laid map
+unfolding onWords readJoint jointOn joined laid
 joint-found ws s plots row = go (soundStore ws) (jointCode (officeOf ws) s plots (length row))
   where
     shown : Office

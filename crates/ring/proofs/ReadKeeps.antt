@@ -156,6 +156,7 @@ gained-from E P log A (Some e ∷ fs) past q m =
 
 pub record Reads (O1 : Office) (s s′ : Content) (plots : List ℕ) (fs : List Found) : Type 0 where
   pub handed : (h : Entry) → List·Memᴰ (Some h) fs → On O1 plots (idOf h) ⊎ List·Memᴰ h (s .own)
+  pub on-plot : (q : ℕ) (h : Entry) → List·Memᴰ (q, Some h) (together plots fs) → (current O1 q ≡ Some h) ⊎ (List·Memᴰ h (s .own) × (h .plot ≡ q))
   pub reads-from : (k : ℕ) → has (s′ .read) k ≡ 1 → On O1 plots k ⊎ (has (s .read) k ≡ 1)
   pub reads-to : (k : ℕ) → has (s .read) k ≡ 1 → has (s′ .read) k ≡ 1
   pub reads-new : (k : ℕ) → On O1 plots k → has (s′ .read) k ≡ 1
@@ -296,6 +297,20 @@ module _ (n p : ℕ) (two : 2 ≤ n) (eight : n ≤ 8) (E : ℕ → Entry) (P : 
             let is : t .0 ≡ E k = F .fit .own-is (t .0) mo ∙ ap E (t .2) in
             rw is at (K .over-own q f m (t .0) mo (ap (λ (x : Entry). x .plot) is ∙ e))
 
+    -- what is handed back is on its plot, and is the entry made
+    kept : (q : ℕ) (h : Entry) → List·Memᴰ (q, Some h) (together plots fs) → (h .plot ≡ q) × (h ≡ E (idOf h)) × List·Memᴰ (idOf h) (ids (g .log))
+    kept q h m = ⊎-elim vis own (K .on-plot q h m)
+      where
+        vis : current O1 q ≡ Some h → (h .plot ≡ q) × (h ≡ E (idOf h)) × List·Memᴰ (idOf h) (ids (g .log))
+        vis e =
+            let t = current-from O1 q h e in
+            let v : has (O1 .visible) (idOf h) ≡ 1 = cur q h e .0 in
+            let x : t .0 ≡ idOf h = sym (w .good (t .0) (vis-made (t .0) (t .2)) .id-is) ∙ ap idOf (sym (t .3 ∙ vis-is (t .0) (t .2))) in
+            (ap (λ (y : Entry). y .plot) (t .3) ∙ t .4, t .3 ∙ vis-is (t .0) (t .2) ∙ ap E x, vis-made (idOf h) v)
+
+        own : List·Memᴰ h (s .own) × (h .plot ≡ q) → (h .plot ≡ q) × (h ≡ E (idOf h)) × List·Memᴰ (idOf h) (ids (g .log))
+        own t = (t .1, F .fit .own-is h (t .0), F .sound .own-made (idOf h) (Memᴰ·map idOf (t .0)))
+
     past-in : (k : ℕ) → List·Memᴰ k past′ → List·Memᴰ k (ids (g .log))
     past-in k m = past-made S′ (wpast P) (world g′) I′ (λ x d a h. dep-made n p two eight E P g w x d a h) (seen s′ past′) S2 k m
 
@@ -316,7 +331,7 @@ module _ (n p : ℕ) (two : 2 ≤ n) (eight : n ≤ 8) (E : ℕ → Entry) (P : 
           tokens-ok = w .tokens-ok;
           events =
               events-more E _ (g .events) _ (w .events)
-              (record { not10 = λ e. omega arith; not11 = λ e. omega arith; not12 = λ e. omega arith; reads = good; past-made = past-in });
+              (record { not10 = λ e. omega arith; not11 = λ e. omega arith; not12 = λ e. omega arith; reads = good; handed = kept; past-made = past-in });
         }
       where
         later : {s : Content} {past : List ℕ} → TrackedFit n two E P (world g) s past → TrackedFit n two E P (world g′) s past
@@ -340,8 +355,12 @@ module _ (n p : ℕ) (two : 2 ≤ n) (eight : n ≤ 8) (E : ℕ → Entry) (P : 
   one-reads plot =
       record {
         handed = λ h m. let e : Some h ≡ bestOwn plot (current O1 plot) (s .own) = List·Memᴰ·eq-of-singleton m in
-            ⊎-elim (λ (c : current O1 plot ≡ Some h). inl (plot, h, List·Memᴰ·head refl, c, refl)) (λ c. inr c)
+            ⊎-elim (λ (c : current O1 plot ≡ Some h). inl (plot, h, List·Memᴰ·head refl, c, refl)) (λ c. inr (c .0))
             (own-from plot (s .own) (current O1 plot) h (sym e));
+        on-plot = λ q h m. let x = List·Memᴰ·eq-of-singleton m in
+            let a : q ≡ plot = ap (λ (y : ℕ × Found). y .0) x in
+            let b : Some h ≡ bestOwn plot (current O1 plot) (s .own) = ap (λ (y : ℕ × Found). y .1) x in
+            rw a (own-from plot (s .own) (current O1 plot) h (sym b));
         reads-from =
             λ k h.
             ⊎-elim (λ (t : (h : Entry) × (current O1 plot ≡ Some h) × (k ≡ idOf h)). inl (plot, t .0, List·Memᴰ·head refl, t .1, t .2))
@@ -400,6 +419,7 @@ module _ (n p : ℕ) (two : 2 ≤ n) (eight : n ≤ 8) (E : ℕ → Entry) (P : 
   joint-reads plots none =
       record {
         handed = λ h m. let t = Memᴰ·of-map (current O1) plots m in inl (t .0, h, t .1, t .2, refl);
+        on-plot = λ q h m. inl (sym (together-from (current O1) plots q (Some h) m .1));
         reads-from = all-from O1 cur-small plots s (F .fit .read-set);
         reads-to = all-to O1 cur-small plots s (F .fit .read-set);
         reads-new = all-new O1 cur-small plots s (F .fit .read-set);

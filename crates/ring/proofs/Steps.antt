@@ -24,11 +24,12 @@ use Rattle.office.specs.Calls.{freshCode, jointOn, parsed, readOn, receiveOn}
 use Rattle.mesh.specs.World.{World}
 use Rattle.mesh.proofs.Carry.{fresh-inv}
 use Rattle.mesh.proofs.Sessions.{blank-sound}
+use Rattle.ring.specs.Holds.{Distinct}
 use Rattle.ring.specs.Run.{Call, Made, Tracked, TrackedToken, answered, at, contentsRun, freshBy, fromToken, noted-event, onContents, run, starting, step, tokenBy, turnedBy, withSession, withToken, wordsBy, writeAt, writeBy, writerPast}
 use Rattle.ring.proofs.Base.{event-fine, not-nine, noted-whole, turned-whole}
 use Rattle.ring.proofs.ByCases.{fresh-log, from-log, log-each, read-log, receive-log, step-each, token-log, words-log}
 use Rattle.ring.proofs.Fit.{Agrees, Sys, TrackedFit, Whole, seen, shape, world, wpast}
-use Rattle.ring.proofs.Log.{Distinct, agrees-part, distinct-none, entryIn, log-agrees}
+use Rattle.ring.proofs.Log.{agrees-part, distinct-none, entryIn, log-agrees}
 use Rattle.ring.proofs.ReadKeeps.{joint-whole, one-whole}
 use Rattle.ring.proofs.ReceiveKeeps.{receive-whole}
 use Rattle.ring.proofs.WriteKeeps.{write-distinct, write-whole}

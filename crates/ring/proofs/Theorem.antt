@@ -18,11 +18,11 @@ use Rattle.store.proofs.Best.{Over, current-from, current-over}
 use Rattle.store.proofs.StoreBack.{Canon, store-back}
 use Rattle.office.specs.Calls.{openOffice}
 use Rattle.mesh.proofs.Sessions.{past-made, writer-made, writer-visible}
-use Rattle.ring.specs.Holds.{Demand3, Holds, HoldsEntry, Logged, Same, tokenOn}
+use Rattle.ring.specs.Holds.{Demand3, Holds, HoldsEntry, Logged, Opens, Same, tokenOn}
 use Rattle.ring.specs.Run.{Call, Made, TrackedToken, contentsRun, onContents, onWords, run, starting, step, wordsRun, writerPast}
 use Rattle.ring.proofs.Base.{dep-made, held-made, held-range, visible-held}
 use Rattle.ring.proofs.Fit.{Agrees, Sys, Whole, ids, seen, shape, world, wpast}
-use Rattle.ring.proofs.Log.{entryIn, log-agrees}
+use Rattle.ring.proofs.Log.{entryIn, log-agrees, one-made}
 use Rattle.ring.proofs.SameRun.{WState, long, sound, step-same}
 use Rattle.ring.proofs.Sounds.{canon, ring-ok}
 use Rattle.ring.proofs.Steps.{Ok, ok-whole, run-ok, start-ok, step-ok}
@@ -35,6 +35,11 @@ module _ (n p : ℕ) (two : 2 ≤ n) (eight : n ≤ 8) (one : 1 ≤ p) (p64 : p 
   open-is : (o : ℕ) → o < n → (ws : List ℕ) → need n ≤ length ws → openOffice n o p ws .1 ≡ storeWords ws (emptyOffice n o p)
   unfolding openOffice settingsOk
   open-is o lt ws long = rw (both-intro (ringOk n p) (ltb o n) (ring-ok n p two eight one p64) (lt-ltb o n lt), le-leb (need n) (length ws) long)
+
+  open-accepts : (o : ℕ) → o < n → (ws : List ℕ) → need n ≤ length ws → openOffice n o p ws .0 ≡ 0
+  unfolding openOffice settingsOk
+  open-accepts o lt ws long =
+      rw (both-intro (ringOk n p) (ltb o n) (ring-ok n p two eight one p64) (lt-ltb o n lt), le-leb (need n) (length ws) long)
 
   start-same : (rows : ℕ → List ℕ) → ((o : ℕ) → o < n → need n ≤ length (rows o))
       → Same n rows (starting (λ o. openOffice n o p (rows o) .1)) (starting (λ o. emptyOffice n o p))
@@ -149,6 +154,8 @@ module _ (n p : ℕ) (two : 2 ≤ n) (eight : n ≤ 8) (one : 1 ≤ p) (p64 : p 
     holds =
         record {
           sound = sound n p two eight one p64 rows enough g c S k;
+          distinct = rw (S .log) (k .distinct);
+          one-of-id = λ m d i j. one-made (c .log) (k .distinct) m d (in-c m i) (in-c d j);
           visible-made = λ o x lt h.
               let hh = visible-held n p two eight (entryIn (c .log)) (writerPast (c .log)) c w o x lt (visible-c o x lt h) in
               logged x (held-made n p two eight (entryIn (c .log)) (writerPast (c .log)) c w o x hh);
@@ -186,11 +193,18 @@ module _ (n p : ℕ) (two : 2 ≤ n) (eight : n ≤ 8) (one : 1 ≤ p) (p64 : p 
               let ed : entryIn (c .log) (idOf (d .entry)) ≡ d .entry = A .entry d (in-c d j) in
               let u = w .events v (rw (S .events) at i) .reads q f m (idOf (d .entry)) x (ap (λ (z : Entry). z .plot) ed ∙ e) in
               over-some f (d .entry) (rw ed at u);
+          handed = λ v i q e m.
+              let t = w .events v (rw (S .events) at i) .handed q e m in
+              let u = logged (idOf e) (t .2) in
+              (t .0, (u .0, u .1, sym (A .entry (u .0) (in-c (u .0) (u .1))) ∙ ap (entryIn (c .log)) (u .2) ∙ sym (t .1)));
           not10 = λ v i. w .events v (rw (S .events) at i) .not10;
           not11 = λ v i. w .events v (rw (S .events) at i) .not11;
           not12 = λ v i. w .events v (rw (S .events) at i) .not12;
           same = S;
         }
+
+pub opens : Opens
+opens n p two eight one p64 rows long o lt = open-accepts n p two eight one p64 o lt (rows o) (long o lt)
 
 pub demand3 : Demand3
 unfolding wordsRun contentsRun

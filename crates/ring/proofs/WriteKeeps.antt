@@ -30,12 +30,13 @@ use Rattle.mesh.specs.Sessions.{Picked, Writes, picked-nil, picked-skip, picked
 use Rattle.mesh.specs.World.{Write, Written, frames}
 use Rattle.mesh.proofs.Sessions.{sound-later, write-law, write-ready, write-sound}
 use Rattle.mesh.proofs.Write.{write-inv}
+use Rattle.ring.specs.Holds.{Distinct}
 use Rattle.ring.specs.Run.{Event, Made, Tracked, eventOf, lastOf, nextOf, onContents, refusedBy, upd, writeBy, wrote}
 use Rattle.ring.proofs.Base.{Fine, event-fine, events-more, facts, held-made, held-range, made-range, own-code, read-held, read-within, refused-whole, visible-held}
 use Rattle.ring.proofs.Change.{Changed, Never, hold-changed}
 use Rattle.ring.proofs.Clocks.{ClockFit, Clocks, Under, fit-later, later, made-over, upd-mono}
 use Rattle.ring.proofs.Fit.{Agrees, EventFit, Good, OfficeFit, SessionFit, Sys, TrackedFit, Whole, frameId, ids, mem-set, seen, shape, upd-case, upd-other, upd-said, upd-same, upd-self, world, wpast}
-use Rattle.ring.proofs.Log.{Distinct, distinct-more}
+use Rattle.ring.proofs.Log.{distinct-more}
 
 pub last-snoc : (l : List Entry) (e : Entry) → lastOf (l ++ (e ∷ [])) ≡ e
 unfolding lastOf
@@ -438,6 +439,7 @@ module _ (n p : ℕ) (two : 2 ≤ n) (eight : n ≤ 8) (E : ℕ → Entry) (P : 
               not11 = X .not11;
               not12 = X .not12;
               reads = X .reads;
+              handed = λ q e m. let t = X .handed q e m in (t .0, t .1, is-written .made-to (idOf e) (t .2));
               past-made = λ x m. is-written .made-to x (X .past-made x m);
             }
 

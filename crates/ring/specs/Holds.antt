@@ -1,7 +1,7 @@
 -- THE CLAIM about a run (paper 01, "Runs"; the third demand). Assumes nothing.
 use Prim.Native.Nat.{ℕ, _<_, _≤_}
 use mathlib.Core.Bool.{false, true}
-use mathlib.Core.List.{List, List·Memᴰ, map}
+use mathlib.Core.List.{List, List·Memᴰ, _++_, _∷_, map}
 use mathlib.Core.Logic.{_⊎_}
 use mathlib.Core.Path.{_≡_}
 use lib.ListN.{length}
@@ -13,6 +13,7 @@ use Rattle.frame.specs.Tokens.{tokenWords}
 use Rattle.frame.specs.declared.entry.Entry.{Entry}
 use Rattle.frame.specs.declared.entry.Frame.{Frame}
 use Rattle.store.specs.Offices.{Found, Office, Some, current, need, officeOf, soundStore, storeWords}
+use Rattle.office.specs.Calls.{openOffice}
 use Rattle.ring.specs.Run.{Call, Event, Made, State, Tracked, TrackedToken, contentsRun, wordsRun}
 
 -- k is the id of an entry made
@@ -42,9 +43,17 @@ pub record Same (n : ℕ) (rows : ℕ → List ℕ) (g : State (List ℕ) (List 
   pub log : g .log ≡ c .log
   pub events : g .events ≡ c .events
 
+-- no two of the log have the same id: at whatever place one stands, none before it has its id
+abbrev pub Distinct : List Made → Type 0
+Distinct log = (bef : List Made) (m : Made) (aft : List Made) → log ≡ bef ++ m ∷ aft
+    → List·Memᴰ (idOf (m .entry)) (map (λ (d : Made). idOf (d .entry)) bef) → ⊥
+
 pub record Holds (n : ℕ) (rows : ℕ → List ℕ) (g : State (List ℕ) (List ℕ) (List ℕ)) (c : State Office Frame Content) : Type 0 where
   -- each store is sound
   pub sound : (o : ℕ) → o < n → soundStore (g .stores o) ≡ true
+  -- "An entry has a name": no id is made twice, so an id of a past means one entry, and its writer's past
+  pub distinct : Distinct (g .log)
+  pub one-of-id : (m d : Made) → List·Memᴰ m (g .log) → List·Memᴰ d (g .log) → idOf (m .entry) ≡ idOf (d .entry) → m ≡ d
   -- what is visible anywhere was made
   pub visible-made : (o k : ℕ) → o < n → has (officeOf (g .stores o) .visible) k ≡ 1 → Logged (g .log) k
   -- every id in a past, of an entry made, of a session, of a token or of a reading, is the id of an entry made
@@ -69,6 +78,9 @@ pub record Holds (n : ℕ) (rows : ℕ → List ℕ) (g : State (List ℕ) (List
   pub reads : (v : Event) → List·Memᴰ v (g .events) → (q : ℕ) (f : Found) → List·Memᴰ (q, f) (v .reads) →
       (d : Made) → List·Memᴰ d (g .log) → List·Memᴰ (idOf (d .entry)) (v .past) → d .entry .plot ≡ q →
       (e : Entry) × (f ≡ Some e) × (outranks (d .entry) e ≡ false)
+  -- what a reading hands back is on that plot, and is the entry made under its id, whole
+  pub handed : (v : Event) → List·Memᴰ v (g .events) → (q : ℕ) (e : Entry) → List·Memᴰ (q, Some e) (v .reads) →
+      (e .plot ≡ q) × ((m : Made) × List·Memᴰ m (g .log) × (m .entry ≡ e))
   -- no call is refused with 10, 11 or 12
   pub not10 : (v : Event) → List·Memᴰ v (g .events) → v .code ≡ 10 → ⊥
   pub not11 : (v : Event) → List·Memᴰ v (g .events) → v .code ≡ 11 → ⊥
@@ -76,7 +88,13 @@ pub record Holds (n : ℕ) (rows : ℕ → List ℕ) (g : State (List ℕ) (List
   -- and all is as the rules have it
   pub same : Same n rows g c
 
--- for every ring size and number of plots in range, all rows long enough to be opened, and every list of calls
+-- every office of a ring in range is opened over any row long enough: the opening is accepted
+abbrev pub Opens : Type 0
+Opens =
+    (n p : ℕ) → 2 ≤ n → n ≤ 8 → 1 ≤ p → p ≤ 64 → (rows : ℕ → List ℕ) → ((o : ℕ) → o < n → need n ≤ length (rows o)) →
+    (o : ℕ) → o < n → openOffice n o p (rows o) .0 ≡ 0
+
+-- for every ring size and number of plots in range, all rows long enough to be opened (`Opens`: they are), and every list of calls
 abbrev pub Demand3 : Type 0
 Demand3 =
     (n p : ℕ) → 2 ≤ n → n ≤ 8 → 1 ≤ p → p ≤ 64 → (rows : ℕ → List ℕ) → ((o : ℕ) → o < n → need n ≤ length (rows o)) →

@@ -120,12 +120,14 @@ module _ (plot : ℕ) where
       (rw x (consider-new (eqb (e .plot) plot) e b (eq-eqb (e .plot) plot (ap (λ (y : Entry). y .plot) (sym x) ∙ h)))))
       (λ x. own-over es (consider (eqb (e .plot) plot) e b) q x h) (List·Memᴰ·cases-cons m)
 
-  pub own-from : (es : List Entry) (b : Found) (h : Entry) → bestOwn plot b es ≡ Some h → (b ≡ Some h) ⊎ List·Memᴰ h es
+  pub own-from : (es : List Entry) (b : Found) (h : Entry) → bestOwn plot b es ≡ Some h → (b ≡ Some h) ⊎ (List·Memᴰ h es × (h .plot ≡ plot))
   unfolding bestOwn
   own-from [] b h q = inl q
   own-from (e ∷ es) b h q =
       ⊎-elim (λ (x : consider (eqb (e .plot) plot) e b ≡ Some h).
-      ⊎-elim (λ y. inl y) (λ (y : (eqb (e .plot) plot ≡ true) × (h ≡ e)). inr (List·Memᴰ·head (y .1))) (consider-from (eqb (e .plot) plot) e h b x)) (λ x. inr (List·Memᴰ·tail x))
+      ⊎-elim (λ y. inl y)
+      (λ (y : (eqb (e .plot) plot ≡ true) × (h ≡ e)). inr (List·Memᴰ·head (y .1), ap (λ (z : Entry). z .plot) (y .1) ∙ eqb-true (e .plot) plot (y .0)))
+      (consider-from (eqb (e .plot) plot) e h b x)) (λ (x : List·Memᴰ h es × (h .plot ≡ plot)). inr (List·Memᴰ·tail (x .0), x .1))
       (own-from es (consider (eqb (e .plot) plot) e b) h q)
 
 -- "Where an own entry of the same name and clock but other content ties with the presented one, the presented one is handed back"
