@@ -132,7 +132,7 @@ events-more E log l v old new x m =
 
 -- a call that is refused leaves all but the events
 pub noted-whole : (n p : ℕ) (two : 2 ≤ n) (eight : n ≤ 8) (E : ℕ → Entry) (P : ℕ → List ℕ) (g : Sys) → Whole n p two E P g → (v : Event)
-    → EventFit E (g .log) v → Whole n p two E P (noted-event onContents n g v)
+    → EventFit E (g .log) v → Whole n p two E P (noted-event g v)
 noted-whole n p two eight E P g w v F =
     record {
       inv = w .inv;
@@ -183,7 +183,7 @@ Fine c = (c ≡ 10 → ⊥) × (c ≡ 11 → ⊥) × (c ≡ 12 → ⊥)
 module _ (n p : ℕ) (two : 2 ≤ n) (eight : n ≤ 8) (E : ℕ → Entry) (P : ℕ → List ℕ) (g : Sys) (w : Whole n p two E P g) (o c : ℕ)
     (row : List ℕ) where
   left : (s : Content) → Fine c
-      → Whole n p two E P (noted-event onContents n g (eventOf (refusal {A = Office} {B = Frame} c (g .stores o) s row)))
+      → Whole n p two E P (noted-event g (eventOf (refusal {A = Office} {B = Frame} c (g .stores o) s row)))
   left s f =
       noted-whole n p two eight E P g w (eventOf (refusal {A = Office} {B = Frame} c (g .stores o) s row))
       (event-fine E _ _ (f .0) (f .1) (f .2) refl refl)

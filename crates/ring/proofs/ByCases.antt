@@ -28,8 +28,8 @@ module _ {A B C : Type 0} (F : Calls A B C) (n : ℕ) (g : State A B C) where
     pub token-writes : (r : Tracked) (row : List ℕ) → List·Memᴰ r (g .sessions)
         → Q (tokenBy F n g r row (writeTokenCode (r .session) (length row)))
     pub token-reads : (r : TrackedToken C) (m p : ℕ) → List·Memᴰ r (g .tokens) → Q (fromToken F n g r (F .token-code m p (r .token)))
-    pub copies : (r : Tracked) → List·Memᴰ r (g .sessions) → Q (withSession F n g r)
-    pub token-copies : (r : TrackedToken C) → List·Memᴰ r (g .tokens) → Q (withToken F n g r)
+    pub copies : (r : Tracked) → List·Memᴰ r (g .sessions) → Q (withSession g r)
+    pub token-copies : (r : TrackedToken C) → List·Memᴰ r (g .tokens) → Q (withToken g r)
 
   module _ (Q : State A B C → Type 0) (E : Each Q) where
     -- a call at an office of the ring

@@ -29,7 +29,7 @@ use Rattle.office.specs.Steps.{earlyCode}
 use Rattle.office.proofs.OwnCodes.{check-le, early-le, or-le, receive-le, write-code}
 use Rattle.office.proofs.Refused.{receive-words-refused, write-words-refused}
 use Rattle.ring.specs.Answers.{Ring}
-use Rattle.ring.specs.Claim.{Absent, Answered, Opened, Runs, Step, absent, begins-fresh, copies-session, copies-token, hears, hears-words, more, none, reads, reads-jointly, reads-token, writes, writes-token}
+use Rattle.ring.specs.Claim.{Absent, Answered, Opened, Runs, Step, absent, begins-fresh, copies-session, copies-token, more, none, reads, reads-jointly, reads-token, receives, receives-words, writes, writes-token}
 use Rattle.ring.specs.Run.{Call, at, copy-session, copy-token, fresh, joint, reading, receiving, receiving-words, token-reading, token-writing, writing}
 use Rattle.ring.proofs.Theorem.{opens}
 
@@ -104,9 +104,9 @@ joint-le ws s plots row =
     (check-le _ 8 _ (omega arith) (check-le _ 12 _ (omega arith) (check-le _ 13 0 (omega arith) (omega arith))))))
     (omega arith))
 
-hear-le : (ws frame row : List ℕ) → receive ws frame row .code ≤ 13
+receive-words-le : (ws frame row : List ℕ) → receive ws frame row .code ≤ 13
 unfolding receive receiveOn
-hear-le ws frame row =
+receive-words-le ws frame row =
     worded-le (soundStore ws) ws (freshContent 0) row _ (go (accepts (officeOf ws .offices) (officeOf ws .plots) frame))
   where
     go : (a : Bool) → parsed a (officeOf ws) row (receiveOn (officeOf ws) (frameOf frame) row) .code ≤ 13
@@ -205,16 +205,16 @@ module _ (n : ℕ) (σ : Ring) where
       ⊎-elim (λ e. (σ, absent (receiving o row) (inr e)))
       (λ a.
       let R = receive (σ .stores o) (a .0) row in
-      let t = written-for (R .code) (R .count) (hear-le (σ .stores o) (a .0) row) (λ z. receive-words-refused (σ .stores o) (a .0) row z .count) in
-      (_, hears o row (a .0) (a .1) (t .0) (R .store) (R .row) lt (a .2) (t .1, refl, refl)))
+      let t = written-for (R .code) (R .count) (receive-words-le (σ .stores o) (a .0) row) (λ z. receive-words-refused (σ .stores o) (a .0) row z .count) in
+      (_, receives o row (a .0) (a .1) (t .0) (R .store) (R .row) lt (a .2) (t .1, refl, refl)))
       (line-one (σ .lines o)))
       (λ (le : n ≤ o). (σ, absent (receiving o row) (inl le))) (lt-or-le o n)
   answer (receiving-words o words row) =
       ⊎-elim
       (λ (lt : o < n).
       let R = receive (σ .stores o) words row in
-      let t = written-for (R .code) (R .count) (hear-le (σ .stores o) words row) (λ z. receive-words-refused (σ .stores o) words row z .count) in
-      (_, hears-words o words row (t .0) (R .store) (R .row) lt (t .1, refl, refl)))
+      let t = written-for (R .code) (R .count) (receive-words-le (σ .stores o) words row) (λ z. receive-words-refused (σ .stores o) words row z .count) in
+      (_, receives-words o words row (t .0) (R .store) (R .row) lt (t .1, refl, refl)))
       (λ (le : n ≤ o). (σ, absent (receiving-words o words row) le)) (lt-or-le o n)
   answer (fresh m) =
       let t = status-for (freshCode m) (fresh-le m) in

@@ -34,10 +34,10 @@ use Rattle.office.specs.declared.joint.JointRead.{JointRead}
 use Rattle.office.specs.declared.read.PlotRead.{PlotRead}
 use Rattle.office.specs.declared.write.Wrote.{Wrote}
 use Rattle.office.proofs.Refused.{receive-words-refused, write-words-refused}
-use Rattle.ring.specs.Answers.{Carried, Ring, Said, begins, contentIn, heardLeft, heardSaid, jointBack, jointSaid, namedIn, readLeft, readSaid, refused, shown, tokenLeft, turned, withCopy, writeLeft, wroteSaid}
-use Rattle.ring.specs.Claim.{Absent, Claim, Opened, Runs, Step, absent, begins-fresh, begun, copies-session, copies-token, hears, hears-words, more, none, reads, reads-jointly, reads-token, writes, writes-token}
+use Rattle.ring.specs.Answers.{Carried, Ring, Said, contentIn, jointBack, jointSaid, namedIn, ownOf, readSaid, receivedSaid, shown, tokenWritten, wroteSaid}
+use Rattle.ring.specs.Claim.{Absent, Claim, Opened, Runs, Step, absent, begins-fresh, begun, copies-session, copies-token, more, none, reads, reads-jointly, reads-token, receives, receives-words, writes, writes-token}
 use Rattle.ring.specs.Holds.{Holds, Same}
-use Rattle.ring.specs.Run.{Call, Made, Tracked, TrackedToken, answered, at, contentsRun, copy-session, copy-token, copySession, copyToken, fresh, freshBy, fromToken, fromTokenAt, joint, jointAt, nextOf, noted-event, onContents, onWords, readAt, readBy, reading, receiveAt, receiveBy, receiving, receiving-words, refusedBy, run, starting, step, token-reading, token-writing, tokenAt, tokenBy, turnedBy, upd, withSession, wordsBy, wordsRun, writeAt, writeBy, writerPast, writing}
+use Rattle.ring.specs.Run.{Call, Made, Tracked, TrackedToken, answered, at, begins, contentsRun, copy-session, copy-token, copySession, copyToken, fresh, freshBy, fromToken, fromTokenAt, joint, jointAt, nextOf, noted-event, onContents, onWords, readAt, readBy, readLeft, reading, receiveAt, receiveBy, receiveLeft, receiving, receiving-words, refused, refusedBy, run, starting, step, token-reading, token-writing, tokenAt, tokenBy, turned, turnedBy, upd, withSession, wordsBy, wordsRun, writeAt, writeBy, writeLeft, writerPast, writing}
 use Rattle.ring.proofs.Base.{held-made, visible-held}
 use Rattle.ring.proofs.Cuts.{cut-row, found-row, named-is}
 use Rattle.ring.proofs.Fit.{Agrees, Sys, Whole, upd-same}
@@ -126,12 +126,12 @@ receive-blank : (ws frame row : List ℕ)
 unfolding onWords receive receiveOn
 receive-blank ws frame row = go (soundStore ws) (accepts (officeOf ws .offices) (officeOf ws .plots) frame)
   where
-    heard : Result Office Frame
-    heard = receiveOn (officeOf ws) (frameOf frame) row
+    received : Result Office Frame
+    received = receiveOn (officeOf ws) (frameOf frame) row
 
     go : (t a : Bool)
-        → (worded t ws (freshContent 0) row (parsed a (officeOf ws) row heard) .found ≡ [])
-        × (worded t ws (freshContent 0) row (parsed a (officeOf ws) row heard) .session ≡ freshContent 0)
+        → (worded t ws (freshContent 0) row (parsed a (officeOf ws) row received) .found ≡ [])
+        × (worded t ws (freshContent 0) row (parsed a (officeOf ws) row received) .session ≡ freshContent 0)
     go t true = (
       no-found t (receiveCode (officeOf ws) (frameOf frame) (length row)) ws (freshContent 0) row (officeOf ws) _ refl,
       no-session t (receiveCode (officeOf ws) (frameOf frame) (length row)) ws (freshContent 0) row (officeOf ws) _ refl,
@@ -158,8 +158,8 @@ module _ (n : ℕ) (σ : Ring) where
       ap (withIn (shown (refused σ o i s a))) (map-set contentIn (σ .sessions) i (record { session = a .session; past = s .past }))
 
   write-shown : (o i : ℕ) (s : Carried) (a : Said) (c : ℕ)
-      → shown (writeLeft n σ o i s a c) ≡ writeBy onWords n (shown σ) o i (contentIn s) (resultOf a) c
-  write-shown o i s a zero = ap (withIn (shown (writeLeft n σ o i s a zero))) (map-set contentIn (σ .sessions) i _)
+      → shown (writeLeft ownOf n σ o i s a c) ≡ writeBy onWords n (shown σ) o i (contentIn s) (resultOf a) c
+  write-shown o i s a zero = ap (withIn (shown (writeLeft ownOf n σ o i s a zero))) (map-set contentIn (σ .sessions) i _)
   write-shown o i s a (suc c) = refused-shown o i s a
 
   read-shown : (o i : ℕ) (s : Carried) (plots : List ℕ) (a : Said) (c : ℕ)
@@ -167,23 +167,23 @@ module _ (n : ℕ) (σ : Ring) where
   read-shown o i s plots a zero = ap (withIn (shown (readLeft σ o i s plots a zero))) (map-set contentIn (σ .sessions) i _)
   read-shown o i s plots a (suc c) = refused-shown o i s a
 
-  heard-shown : (o : ℕ) (rest : List (List ℕ)) (a : Said) (c : ℕ)
-      → shown (heardLeft n σ o rest a c) ≡ receiveBy onWords n (shown σ) o rest (resultOf a) c
-  heard-shown o rest a zero = refl
-  heard-shown o rest a (suc c) = refl
+  receive-shown : (o : ℕ) (rest : List (List ℕ)) (a : Said) (c : ℕ)
+      → shown (receiveLeft n σ o rest a c) ≡ receiveBy onWords n (shown σ) o rest (resultOf a) c
+  receive-shown o rest a zero = refl
+  receive-shown o rest a (suc c) = refl
 
   words-shown : (o : ℕ) (a : Said) (t : Bool)
       → shown (cond t (turned σ o a) σ) ≡ cond t (turnedBy onWords n (shown σ) o (resultOf a)) (shown σ)
   words-shown o a true = refl
   words-shown o a false = refl
 
-  copy-shown : (s : Carried) → shown (withCopy σ s) ≡ withSession onWords n (shown σ) (contentIn s)
+  copy-shown : (s : Carried) → shown (withSession σ s) ≡ withSession (shown σ) (contentIn s)
   copy-shown s = ap (withIn (shown σ)) (map-append contentIn (σ .sessions) (s ∷ []))
 
   -- a session that is handed out, of the content that the run has
   begins-zero : (s : Session) (past : List ℕ) (t : Content) → contentOf s ≡ t
       → shown (begins σ s past 0)
-      ≡ withSession onWords n (noted-event onWords n (shown σ) (answered 0 0 [])) (record { session = t; past = past })
+      ≡ withSession (noted-event (shown σ) (answered 0 0 [])) (record { session = t; past = past })
   begins-zero s past t e =
       ap (withIn (shown (begins σ s past 0)))
       (map-append contentIn (σ .sessions) (record { session = s; past = past } ∷ [])
@@ -201,7 +201,7 @@ module _ (n : ℕ) (σ : Ring) where
 
   token-shown : (s : Carried) (row : List ℕ) (r : Written) (row′ : List ℕ) → WriteTokenPromise (s .session) row (replyOf r) row′ → (c : ℕ)
       → writeTokenCode (contentOf (s .session)) (length row) ≡ c
-      → shown (tokenLeft σ s r row′ c) ≡ tokenBy onWords n (shown σ) (contentIn s) row c
+      → shown (tokenWritten σ s r row′ c) ≡ tokenBy onWords n (shown σ) (contentIn s) row c
   unfolding writeToken replied laid onWords
   token-shown s row r row′ h zero e =
       let t = write-token-step (s .session) row r row′ h in
@@ -343,11 +343,11 @@ module _ (n p : ℕ) (two : 2 ≤ n) (eight : n ≤ 8) (one : 1 ≤ p) (p64 : p 
         line-accepted (writeBy onWords n (shown σ) o i s R 0) c′ T K (nextOf n o) w (behind o (σ .lines) R w m)
     write-frames o i s R c′ K empty (suc x) e T w m = absurd (sent-none R x e empty w m)
 
-    heard-frames : (o : ℕ) (rest : List (List ℕ)) (R : Res) (c′ : Sys) → Ok n p two eight c′ → ((R .code ≡ 0 → ⊥) → R .sent ≡ []) → (x : ℕ)
+    receive-frames : (o : ℕ) (rest : List (List ℕ)) (R : Res) (c′ : Sys) → Ok n p two eight c′ → ((R .code ≡ 0 → ⊥) → R .sent ≡ []) → (x : ℕ)
         → R .code ≡ x → Same n rows (receiveBy onWords n (shown σ) o rest R x) c′ → (w : List ℕ) → List·Memᴰ w (R .sent) → accepts n p w ≡ true
-    heard-frames o rest R c′ K empty zero e T w m =
+    receive-frames o rest R c′ K empty zero e T w m =
         line-accepted (receiveBy onWords n (shown σ) o rest R 0) c′ T K (nextOf n o) w (behind o (upd (σ .lines) o rest) R w m)
-    heard-frames o rest R c′ K empty (suc x) e T w m = absurd (sent-none R x e empty w m)
+    receive-frames o rest R c′ K empty (suc x) e T w m = absurd (sent-none R x e empty w m)
 
     -- a write
     module _ (o i plot value : ℕ) (row : List ℕ) (s : Carried) (lt : o < n) (e : at (σ .sessions) i ≡ s ∷ []) where
@@ -371,7 +371,7 @@ module _ (n p : ℕ) (two : 2 ≤ n) (eight : n ≤ 8) (one : 1 ≤ p) (p64 : p 
           (same-at n rows _ _ _ write-runs (next (writing o i plot value row)))
 
       write-is : (r : Wrote) (ws′ row′ : List ℕ) → WritePromise (σ .stores o) (s .session) plot value row (replyOf (r .written)) (r .session) ws′ row′
-          → shown (writeLeft n σ o i s (wroteSaid r ws′ row′) (replyOf (r .written) .code)) ≡ step onWords n (shown σ) (writing o i plot value row)
+          → shown (writeLeft ownOf n σ o i s (wroteSaid r ws′ row′) (replyOf (r .written) .code)) ≡ step onWords n (shown σ) (writing o i plot value row)
       write-is r ws′ row′ h =
           let t = write-step (σ .stores o) (s .session) (sized-at n σ z i s e) plot value row r ws′ row′ h in
           let u = write-sends (σ .stores o) (contentOf (s .session)) plot value row in
@@ -472,15 +472,15 @@ module _ (n p : ℕ) (two : 2 ≤ n) (eight : n ≤ 8) (one : 1 ≤ p) (p64 : p 
           (on-office o (jointAt onWords n (shown σ) o i plots row (at (map contentIn (σ .sessions)) i)) lt
           ∙ ap (jointAt onWords n (shown σ) o i plots row) (there i s e))
 
-    -- a hearing
-    heard-is : (o : ℕ) (f row : List ℕ) (r : Written) (ws′ row′ : List ℕ) → ReceivePromise (σ .stores o) f row (replyOf r) ws′ row′
+    -- a receive
+    received-is : (o : ℕ) (f row : List ℕ) (r : Written) (ws′ row′ : List ℕ) → ReceivePromise (σ .stores o) f row (replyOf r) ws′ row′
         → ((w : List ℕ) → List·Memᴰ w (onWords .on-receive (σ .stores o) f row .sent) → accepts n p w ≡ true)
-        → resultOf (heardSaid r ws′ row′) ≡ onWords .on-receive (σ .stores o) f row
-    heard-is o f row r ws′ row′ h frames =
+        → resultOf (receivedSaid r ws′ row′) ≡ onWords .on-receive (σ .stores o) f row
+    received-is o f row r ws′ row′ h frames =
         let t = receive-step (σ .stores o) f row r ws′ row′ h in
         let u = receive-sends (σ .stores o) f row in
         let b = receive-blank (σ .stores o) f row in
-        result-is (heardSaid r ws′ row′) (onWords .on-receive (σ .stores o) f row) (t .0) (t .1) (sym (b .0)) (t .2)
+        result-is (receivedSaid r ws′ row′) (onWords .on-receive (σ .stores o) f row) (t .0) (t .1) (sym (b .0)) (t .2)
         (content-back (freshContent 0) (omega arith) ∙ sym (b .1)) (t .3)
         (cut-row n p p64 (onWords .on-receive (σ .stores o) f row .sent) frames row row′ (replyOf r .words) (t .3 ∙ u .0) (t .1 ∙ u .1))
 
@@ -492,28 +492,28 @@ module _ (n p : ℕ) (two : 2 ≤ n) (eight : n ≤ 8) (one : 1 ≤ p) (p64 : p 
       abbrev Rh : Res
       Rh = onWords .on-receive (σ .stores o) f row
 
-      hear-runs : step onWords n (shown σ) (receiving o row) ≡ receiveBy onWords n (shown σ) o rest Rh (Rh .code)
+      receive-runs : step onWords n (shown σ) (receiving o row) ≡ receiveBy onWords n (shown σ) o rest Rh (Rh .code)
       unfolding step
-      hear-runs = on-office o (receiveAt onWords n (shown σ) o row (σ .lines o)) lt ∙ ap (receiveAt onWords n (shown σ) o row) e
+      receive-runs = on-office o (receiveAt onWords n (shown σ) o row (σ .lines o)) lt ∙ ap (receiveAt onWords n (shown σ) o row) e
 
-      hear-is : (r : Written) (ws′ row′ : List ℕ) → ReceivePromise (σ .stores o) f row (replyOf r) ws′ row′
-          → shown (heardLeft n σ o rest (heardSaid r ws′ row′) (replyOf r .code)) ≡ step onWords n (shown σ) (receiving o row)
-      hear-is r ws′ row′ h =
-          heard-shown n σ o rest (heardSaid r ws′ row′) (replyOf r .code)
+      receive-is : (r : Written) (ws′ row′ : List ℕ) → ReceivePromise (σ .stores o) f row (replyOf r) ws′ row′
+          → shown (receiveLeft n σ o rest (receivedSaid r ws′ row′) (replyOf r .code)) ≡ step onWords n (shown σ) (receiving o row)
+      receive-is r ws′ row′ h =
+          receive-shown n σ o rest (receivedSaid r ws′ row′) (replyOf r .code)
           ∙ ap (λ (x : Res). receiveBy onWords n (shown σ) o rest x (x .code))
-          (heard-is o f row r ws′ row′ h
-          (heard-frames o rest Rh (step onContents n c (receiving o row)) (step-ok n p two eight c k (receiving o row)) (receive-empty (σ .stores o) f row)
+          (received-is o f row r ws′ row′ h
+          (receive-frames o rest Rh (step onContents n c (receiving o row)) (step-ok n p two eight c k (receiving o row)) (receive-empty (σ .stores o) f row)
           (Rh .code) refl
-          (same-at n rows _ _ _ hear-runs (next (receiving o row)))))
-          ∙ sym hear-runs
+          (same-at n rows _ _ _ receive-runs (next (receiving o row)))))
+          ∙ sym receive-runs
 
     -- words that nobody sent: the code, the store and the row are all that a run has of them
     words-is : (o : ℕ) (words row : List ℕ) (r : Written) (ws′ row′ : List ℕ) → o < n → ReceivePromise (σ .stores o) words row (replyOf r) ws′ row′
-        → shown (cond (eqb (replyOf r .code) 9) (turned σ o (heardSaid r ws′ row′)) σ) ≡ step onWords n (shown σ) (receiving-words o words row)
+        → shown (cond (eqb (replyOf r .code) 9) (turned σ o (receivedSaid r ws′ row′)) σ) ≡ step onWords n (shown σ) (receiving-words o words row)
     unfolding step onWords
     words-is o words row r ws′ row′ lt h =
         let t = receive-step (σ .stores o) words row r ws′ row′ h in
-        words-shown n σ o (heardSaid r ws′ row′) (eqb (replyOf r .code) 9)
+        words-shown n σ o (receivedSaid r ws′ row′) (eqb (replyOf r .code) 9)
         ∙ (λ i.
         cond (eqb (t .0 i) 9)
         (record {
@@ -533,13 +533,13 @@ module _ (n p : ℕ) (two : 2 ≤ n) (eight : n ≤ 8) (one : 1 ≤ p) (p64 : p 
     step-is (writes o i plot value row s r ws′ row′ lt e h) = write-is o i plot value row s lt e r ws′ row′ h
     step-is (reads o i plot s r ws′ lt e h) = read-is o i plot s r ws′ lt e h
     step-is (reads-jointly o i plots row s r ws′ row′ lt e h) = joint-holds o i plots row s lt e r ws′ row′ h
-    step-is (hears o row f rest r ws′ row′ lt e h) = hear-is o row f rest lt e r ws′ row′ h
-    step-is (hears-words o words row r ws′ row′ lt h) = words-is o words row r ws′ row′ lt h
+    step-is (receives o row f rest r ws′ row′ lt e h) = receive-is o row f rest lt e r ws′ row′ h
+    step-is (receives-words o words row r ws′ row′ lt h) = words-is o words row r ws′ row′ lt h
     step-is (begins-fresh m r h) =
         let t = fresh-step m r h in
         ap (λ (x : ℕ). shown (begins σ (r .session) [] x)) (t .0) ∙ fresh-shown n σ (r .session) m (freshCode m) (t .1)
     step-is (writes-token i row s r row′ e h) =
-        ap (λ (x : ℕ). shown (tokenLeft σ s r row′ x)) (write-token-step (s .session) row r row′ h .0)
+        ap (λ (x : ℕ). shown (tokenWritten σ s r row′ x)) (write-token-step (s .session) row r row′ h .0)
         ∙ token-shown n σ s row r row′ h (writeTokenCode (contentOf (s .session)) (length row)) refl
         ∙ sym (ap (tokenAt onWords n (shown σ) row) (there i s e))
     step-is (reads-token t m q x r e h) =

@@ -39,10 +39,10 @@ pub record Later (e d : Entry) : Type 0 where
 
 module _ (n p : ℕ) (two : 2 ≤ n) (eight : n ≤ 8) where
   module _ (E : ℕ → Entry) (P : ℕ → List ℕ) where
-    noted : (g : Sys) (v : Event) → Clocks n E g → Clocks n E (noted-event onContents n g v)
+    noted : (g : Sys) (v : Event) → Clocks n E g → Clocks n E (noted-event g v)
     noted g v K = record { sessions = K .sessions; tokens = K .tokens; bound = K .bound; deps = K .deps }
 
-    with-session : (g : Sys) (r : Tracked) → ClockFit n E (g .stores) (r .session) → Clocks n E g → Clocks n E (withSession onContents n g r)
+    with-session : (g : Sys) (r : Tracked) → ClockFit n E (g .stores) (r .session) → Clocks n E g → Clocks n E (withSession g r)
     with-session g r F K =
         record {
           sessions =
@@ -55,7 +55,7 @@ module _ (n p : ℕ) (two : 2 ≤ n) (eight : n ≤ 8) where
         }
 
     with-token : (g : Sys) (r : TrackedToken Content) → ClockFit n E (g .stores) (r .token) → Clocks n E g
-        → Clocks n E (withToken onContents n g r)
+        → Clocks n E (withToken g r)
     with-token g r F K =
         record {
           sessions = K .sessions;
@@ -111,18 +111,18 @@ module _ (n p : ℕ) (two : 2 ≤ n) (eight : n ≤ 8) where
 
         by-start : (m c : ℕ) → Clocks n E (freshBy onContents n g m c)
         by-start m zero =
-            with-session (noted-event onContents n g (answered 0 0 [])) (record { session = freshContent m; past = [] }) (blank (g .stores) m)
+            with-session (noted-event g (answered 0 0 [])) (record { session = freshContent m; past = [] }) (blank (g .stores) m)
             (noted g (answered 0 0 []) K)
         by-start m (suc c) = noted g (answered (suc c) 0 []) K
 
         by-token : (r : Tracked) (row : List ℕ) → List·Memᴰ r (g .sessions) → (c : ℕ) → Clocks n E (tokenBy onContents n g r row c)
         by-token r row m zero =
-            with-token (noted-event onContents n g _) (record { token = r .session; past = r .past }) (K .sessions r m) (noted g _ K)
+            with-token (noted-event g _) (record { token = r .session; past = r .past }) (K .sessions r m) (noted g _ K)
         by-token r row m (suc c) = noted g _ K
 
         by-from : (r : TrackedToken Content) → List·Memᴰ r (g .tokens) → (c : ℕ) → Clocks n E (fromToken onContents n g r c)
         by-from r i zero =
-            with-session (noted-event onContents n g (answered 0 0 [])) (record { session = r .token; past = r .past }) (K .tokens r i)
+            with-session (noted-event g (answered 0 0 [])) (record { session = r .token; past = r .past }) (K .tokens r i)
             (noted g (answered 0 0 []) K)
         by-from r i (suc c) = noted g (answered (suc c) 0 []) K
 

@@ -21,3 +21,4 @@ pub mod Cuts
 pub mod Sized
 pub mod Claim
 pub mod Chain
+pub mod Demand

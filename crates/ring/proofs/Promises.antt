@@ -24,7 +24,7 @@ use Rattle.frame.proofs.OwnTurns.{content-back}
 use Rattle.frame.proofs.Sessions.{session-facts}
 use Rattle.store.specs.Offices.{Found, None, Office, Some, current, officeOf, reveal, soundStore}
 use Rattle.office.specs.Answers.{anyFound, entryFound, freshBy}
-use Rattle.office.specs.Calls.{Result, answerWords, freshCode, given, handed, jointCode, jointOn, noted, notedAll, openOffice, parsed, readCode, readJoint, readOn, readPlot, receive, receiveCode, receiveOn, receiveSends, receivedBy, threeWords, worded, write, writeCode, writeOn, writeSends, holdAll, sentOf, wroteSession}
+use Rattle.office.specs.Calls.{Result, answerWords, freshCode, given, handed, holdAll, jointCode, jointOn, noted, notedAll, openOffice, parsed, readCode, readJoint, readOn, readPlot, receive, receiveCode, receiveOn, receiveSends, receivedBy, sentOf, threeWords, worded, write, writeCode, writeOn, writeSends, wroteSession}
 use Rattle.office.specs.Promises.{FreshPromise, JointPromise, OpenPromise, ReadPromise, ReceivePromise, WritePromise}
 use Rattle.office.specs.declared.joint.JointRead.{JointRead}
 use Rattle.office.specs.declared.open.Fresh.{Fresh}
@@ -158,7 +158,7 @@ joint-found ws s plots row = go (soundStore ws) (jointCode (officeOf ws) s plots
     go true (suc c) = refl
     go false c = refl
 
--- ---- a hearing
+-- ---- a receive
 
 pub receive-step : (ws frame row : List ℕ) (r : Written) (ws′ row′ : List ℕ) → ReceivePromise ws frame row (replyOf r) ws′ row′
     → (replyOf r .code ≡ onWords .on-receive ws frame row .code)
@@ -172,10 +172,10 @@ pub receive-sends : (ws frame row : List ℕ) → Sent row (onWords .on-receive 
 unfolding onWords receive receiveOn joined laid
 receive-sends ws frame row = go (soundStore ws) (accepts (officeOf ws .offices) (officeOf ws .plots) frame)
   where
-    heard : Result Office Frame
-    heard = receiveOn (officeOf ws) (frameOf frame) row
+    received : Result Office Frame
+    received = receiveOn (officeOf ws) (frameOf frame) row
 
-    go : (t a : Bool) → Sent row (worded t ws (freshContent 0) row (parsed a (officeOf ws) row heard))
+    go : (t a : Bool) → Sent row (worded t ws (freshContent 0) row (parsed a (officeOf ws) row received))
     go t true =
         sent-by t (receiveCode (officeOf ws) (frameOf frame) (length row)) ws (freshContent 0) row (officeOf ws) (receivedBy (officeOf ws) (frameOf frame))
         (freshContent 0) (receiveSends (frameOf frame))

@@ -106,7 +106,7 @@ module _ (n p : ℕ) (two : 2 ≤ n) (eight : n ≤ 8) (one : 1 ≤ p) (p64 : p 
         let T = office-sound n p two eight one p64 (entryIn (c .log)) (writerPast (c .log)) c w o lt in
         ap soundStore (S .words o lt) ∙ sound-store (rows o) (c .stores o) T (rw (w .offices o .offices) (enough o lt))
 
-    noted-same : (v : Event) → Same n rows (noted-event onWords n g v) (noted-event onContents n c v)
+    noted-same : (v : Event) → Same n rows (noted-event g v) (noted-event c v)
     noted-same v =
         record {
           stores = S .stores;
@@ -353,7 +353,7 @@ module _ (n p : ℕ) (two : 2 ≤ n) (eight : n ≤ 8) (one : 1 ≤ p) (p64 : p 
           (token-accepted (r .token) (w .tokens-ok r m .0) (w .tokens-ok r m .1) sane a b)
 
     with-session-same : (v : Event) (r : Tracked)
-        → Same n rows (withSession onWords n (noted-event onWords n g v) r) (withSession onContents n (noted-event onContents n c v) r)
+        → Same n rows (withSession (noted-event g v) r) (withSession (noted-event c v) r)
     with-session-same v r =
         record {
           stores = S .stores;

@@ -17,9 +17,9 @@ use Rattle.frame.specs.declared.session.Session.{Session}
 use Rattle.store.specs.Offices.{Found, None, Office, Some, current, officeOf, reveal}
 use Rattle.office.specs.Answers.{extendedBy, freshBy, notedAllIn, notedIn, readJointSession, readPlotSession, sessionIf, writeSession}
 use Rattle.office.specs.Calls.{freshCode, newEntry, readJoint, readPlot, write}
-use Rattle.ring.specs.Answers.{Carried, Ring, Said, begins, heardLeft, heardSaid, jointSaid, readLeft, readSaid, tokenLeft, turned, writeLeft, wroteSaid}
-use Rattle.ring.specs.Claim.{Step, absent, begins-fresh, copies-session, copies-token, hears, hears-words, reads, reads-jointly, reads-token, writes, writes-token}
-use Rattle.ring.specs.Run.{Call, at}
+use Rattle.ring.specs.Answers.{Carried, Ring, Said, jointSaid, ownOf, readSaid, receivedSaid, tokenWritten, wroteSaid}
+use Rattle.ring.specs.Claim.{Step, absent, begins-fresh, copies-session, copies-token, reads, reads-jointly, reads-token, receives, receives-words, writes, writes-token}
+use Rattle.ring.specs.Run.{Call, at, begins, readLeft, receiveLeft, turned, writeLeft}
 use Rattle.ring.proofs.Fit.{mem-at, mem-set}
 use Rattle.ring.proofs.Promises.{token-few}
 
@@ -97,7 +97,7 @@ module _ (n : ℕ) (σ : Ring) (z : Sized σ) where
   more-sized x h s m =
       ⊎-elim (λ j. z s j) (λ (j : List·Memᴰ s (x ∷ [])). rw (List·Memᴰ·eq-of-singleton j) h) (List·Memᴰ·append-cases (σ .sessions) m)
 
-  write-sized : (o i : ℕ) (s : Carried) (a : Said) → length (a .session .own) ≡ 16 → (c : ℕ) → Sized (writeLeft n σ o i s a c)
+  write-sized : (o i : ℕ) (s : Carried) (a : Said) → length (a .session .own) ≡ 16 → (c : ℕ) → Sized (writeLeft ownOf n σ o i s a c)
   write-sized o i s a h zero = set-sized i _ h
   write-sized o i s a h (suc c) = set-sized i _ h
 
@@ -105,9 +105,9 @@ module _ (n : ℕ) (σ : Ring) (z : Sized σ) where
   read-sized o i s plots a h zero = set-sized i _ h
   read-sized o i s plots a h (suc c) = set-sized i _ h
 
-  heard-sized : (o : ℕ) (rest : List (List ℕ)) (a : Said) (c : ℕ) → Sized (heardLeft n σ o rest a c)
-  heard-sized o rest a zero = z
-  heard-sized o rest a (suc c) = z
+  receive-sized : (o : ℕ) (rest : List (List ℕ)) (a : Said) (c : ℕ) → Sized (receiveLeft n σ o rest a c)
+  receive-sized o rest a zero = z
+  receive-sized o rest a (suc c) = z
 
   words-sized : (o : ℕ) (a : Said) (t : Bool) → Sized (cond t (turned σ o a) σ)
   words-sized o a true = z
@@ -117,7 +117,7 @@ module _ (n : ℕ) (σ : Ring) (z : Sized σ) where
   begins-sized s past h zero = more-sized _ h
   begins-sized s past h (suc c) = z
 
-  token-sized : (s : Carried) (r : Written) (row′ : List ℕ) (c : ℕ) → Sized (tokenLeft σ s r row′ c)
+  token-sized : (s : Carried) (r : Written) (row′ : List ℕ) (c : ℕ) → Sized (tokenWritten σ s r row′ c)
   token-sized s r row′ zero = z
   token-sized s r row′ (suc c) = z
 
@@ -135,8 +135,8 @@ module _ (n : ℕ) (σ : Ring) (z : Sized σ) where
   step-sized (reads-jointly o i plots row s r ws′ row′ lt e h) =
       read-sized o i s plots (jointSaid (σ .log) plots r ws′ row′)
       (own-is (r .session) _ (h .1) (sized-joint (σ .stores o) (s .session) plots row (sized-at i s e))) (codeOf (r .status))
-  step-sized (hears o row f rest r ws′ row′ lt e h) = heard-sized o rest (heardSaid r ws′ row′) (replyOf r .code)
-  step-sized (hears-words o words row r ws′ row′ lt h) = words-sized o (heardSaid r ws′ row′) (eqb (replyOf r .code) 9)
+  step-sized (receives o row f rest r ws′ row′ lt e h) = receive-sized o rest (receivedSaid r ws′ row′) (replyOf r .code)
+  step-sized (receives-words o words row r ws′ row′ lt h) = words-sized o (receivedSaid r ws′ row′) (eqb (replyOf r .code) 9)
   step-sized (begins-fresh m r h) = begins-sized (r .session) [] (own-is (r .session) _ (h .1) (sized-fresh m)) (codeOf (r .status))
   step-sized (writes-token i row s r row′ e h) = token-sized s r row′ (replyOf r .code)
   step-sized (reads-token t m p x r e h) =

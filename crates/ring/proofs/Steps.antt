@@ -48,10 +48,10 @@ module _ (n p : ℕ) (two : 2 ≤ n) (eight : n ≤ 8) where
 
     module _ (g : Sys) (w : Whole n p two E P g) where
       noted : (c k : ℕ) (row : List ℕ) → (c ≡ 10 → ⊥) → (c ≡ 11 → ⊥) → (c ≡ 12 → ⊥)
-          → Whole n p two E P (noted-event onContents n g (answered c k row))
+          → Whole n p two E P (noted-event g (answered c k row))
       noted c k row x y z = noted-whole n p two eight E P g w (answered c k row) (event-fine E _ _ x y z refl refl)
 
-      with-session : (r : Tracked) → TrackedFit n two E P (world g) (r .session) (r .past) → Whole n p two E P (withSession onContents n g r)
+      with-session : (r : Tracked) → TrackedFit n two E P (world g) (r .session) (r .past) → Whole n p two E P (withSession g r)
       with-session r F =
           record {
             inv = w .inv;
@@ -71,7 +71,7 @@ module _ (n p : ℕ) (two : 2 ≤ n) (eight : n ≤ 8) where
 
       with-token : (r : TrackedToken Content) → TrackedFit n two E P (world g) (r .token) (r .past)
           → (ringOk (r .token .offices) 64 ≡ true) × (sessionOk (r .token .offices) 64 (r .token) ≡ true) →
-          Whole n p two E P (withToken onContents n g r)
+          Whole n p two E P (withToken g r)
       with-token r F ok =
           record {
             inv = w .inv;

@@ -1,11 +1,11 @@
--- What crosses, what a run reads off an answer, and what it leaves: as specs/Run.antt has it, with sessions as structs and nothing but the
--- answer. specs/Claim.antt makes a run of it. Assumes nothing.
+-- What really crosses in a run, and what is read off an answer: nothing but the answer. What it leaves is said in specs/Run.antt, and
+-- specs/Claim.antt makes a run of it. Assumes nothing.
 use Prim.Native.Nat.{ℕ, _+_, suc, zero}
 use mathlib.Core.Bool.{Bool, cond, false, true}
-use mathlib.Core.List.{List, [], _++_, _∷_, map}
+use mathlib.Core.List.{List, [], _∷_, map}
 use lib.Dec.{eqb}
-use lib.ListN.{drop, getD, length, set, take}
-use Rattle.frame.specs.Entries.{blankEntry, idOf, nameOf}
+use lib.ListN.{drop, getD, length, take}
+use Rattle.frame.specs.Entries.{blankEntry, nameOf}
 use Rattle.frame.specs.Frames.{countIn, officesIn}
 use Rattle.frame.specs.Refusals.{codeOf, replyOf}
 use Rattle.frame.specs.Sessions.{contentOf, freshContent, sessionOf}
@@ -16,24 +16,24 @@ use Rattle.store.specs.Offices.{Found, None, Some}
 use Rattle.office.specs.declared.joint.JointRead.{JointRead}
 use Rattle.office.specs.declared.read.PlotRead.{PlotRead}
 use Rattle.office.specs.declared.write.Wrote.{Wrote}
-use Rattle.ring.specs.Run.{Event, Made, State, Tracked, TrackedToken, answered, gained, lastOf, nextOf, together, upd}
+use Rattle.ring.specs.Run.{Made, SaidAs, State, StateAs, Tracked, TrackedAs, tokenLeft}
 
 -- ---- what crosses
 
--- a session as the struct that crosses, with its past
-pub record Carried : Type 0 where
-  pub session : Session
-  pub past : List ℕ
+-- a session as the struct that crosses, with its past; the ring, with stores, frames and tokens as words; an answer of a call
+abbrev pub Carried : Type 0
+Carried = TrackedAs Session
 
-pub record Ring : Type 0 where
-  pub stores : ℕ → List ℕ
-  pub lines : ℕ → List (List ℕ)
-  pub sessions : List Carried
-  pub tokens : List (TrackedToken (List ℕ))
-  pub log : List Made
-  pub events : List Event
+abbrev pub Ring : Type 0
+Ring = StateAs Session (List ℕ) (List ℕ) (List ℕ)
 
--- what it says: of each session its content (what stands beyond its count means nothing)
+abbrev pub Said : Type 0
+Said = SaidAs Session (List ℕ) (List ℕ)
+
+abbrev pub ownOf : Session → List Entry
+ownOf s = contentOf s .own
+
+-- what it says: of each session its content (the slots beyond its count mean nothing, whatever a call leaves there)
 abbrev pub contentIn : Carried → Tracked
 contentIn s = record { session = contentOf (s .session); past = s .past }
 
@@ -54,7 +54,7 @@ shown σ =
 abbrev pub firstWords : List ℕ → ℕ
 firstWords ws = officesIn ws + countIn ws + 4
 
--- at most k frames, one behind the other
+-- at most k frames, each right after the one before
 unfoldable pub cutTo : ℕ → List ℕ → List (List ℕ)
 cutTo zero ws = []
 cutTo (suc k) [] = []
@@ -64,18 +64,18 @@ cutTo (suc k) (w ∷ ws) = take (firstWords (w ∷ ws)) (w ∷ ws) ∷ cutTo k (
 unfoldable pub framesIn : List ℕ → List (List ℕ)
 framesIn ws = cutTo (length ws) ws
 
--- what a reading handed back, of its refusal number and its answer
+-- what a single reading handed back, of its refusal number and its answer: a refused one nothing, not even none
 unfoldable pub handedBack : ℕ → Bool → Entry → List Found
 handedBack zero true e = Some e ∷ []
 handedBack zero false e = None ∷ []
 handedBack (suc c) f e = []
 
--- the entry made under a name
+-- the entry made under a name (as a payload, 256 × office + serial)
 unfoldable pub namedIn : List Made → ℕ → Entry
 namedIn [] k = blankEntry
 namedIn (m ∷ ms) k = cond (eqb (nameOf (m .entry)) k) (m .entry) (namedIn ms k)
 
--- "three words each: 1, value, name payload; or 0, 0, 0"
+-- "three words each: 1, value, name payload; or 0, 0, 0". The row does not have the entry's clock and deps: the log has
 unfoldable pub foundAs : List Made → ℕ → ℕ → Found
 foundAs log zero name = None
 foundAs log (suc b) name = Some (namedIn log name)
@@ -88,15 +88,6 @@ foundIn log (q ∷ qs) row = foundAs log (getD row 0 0) (getD row 2 0) ∷ found
 unfoldable pub jointBack : ℕ → List Made → List ℕ → List ℕ → List Found
 jointBack zero log plots row = foundIn log plots row
 jointBack (suc c) log plots row = []
-
-pub record Said : Type 0 where
-  pub code : ℕ
-  pub count : ℕ
-  pub found : List Found
-  pub store : List ℕ
-  pub session : Session
-  pub row : List ℕ
-  pub sent : List (List ℕ)
 
 abbrev pub wroteSaid : Wrote → List ℕ → List ℕ → Said
 wroteSaid r ws′ row′ =
@@ -134,9 +125,9 @@ jointSaid log plots r ws′ row′ =
       sent = [];
     }
 
--- a hearing has no session: that field is a fixed blank
-abbrev pub heardSaid : Written → List ℕ → List ℕ → Said
-heardSaid r ws′ row′ =
+-- a receive has no session: that field is a fixed blank
+abbrev pub receivedSaid : Written → List ℕ → List ℕ → Said
+receivedSaid r ws′ row′ =
     record {
       code = replyOf r .code;
       count = replyOf r .words;
@@ -147,71 +138,6 @@ heardSaid r ws′ row′ =
       sent = framesIn (take (replyOf r .words) row′);
     }
 
--- ---- what an answer leaves (as in specs/Run.antt)
-
-abbrev pub left : Ring → (ℕ → List ℕ) → (ℕ → List (List ℕ)) → List Carried → List Made → Event → Ring
-left σ stores lines sessions log v =
-    record { stores = stores; lines = lines; sessions = sessions; tokens = σ .tokens; log = log; events = σ .events ++ (v ∷ []) }
-
-abbrev pub saidEvent : Said → Event
-saidEvent a = record { code = a .code; count = a .count; row = a .row; reads = []; past = [] }
-
-abbrev pub turned : Ring → ℕ → Said → Ring
-turned σ o a = left σ (upd (σ .stores) o (a .store)) (σ .lines) (σ .sessions) (σ .log) (saidEvent a)
-
-abbrev pub refused : Ring → ℕ → ℕ → Carried → Said → Ring
-refused σ o i s a =
-    left σ (upd (σ .stores) o (a .store)) (σ .lines) (set (σ .sessions) i (record { session = a .session; past = s .past })) (σ .log)
-    (saidEvent a)
-
--- the entry made is the last of the session's own
-abbrev pub newest : Said → Entry
-newest a = lastOf (contentOf (a .session) .own)
-
-abbrev pub writeLeft : ℕ → Ring → ℕ → ℕ → Carried → Said → ℕ → Ring
-writeLeft n σ o i s a zero =
-    left σ (upd (σ .stores) o (a .store)) (upd (σ .lines) (nextOf n o) (σ .lines (nextOf n o) ++ a .sent))
-    (set (σ .sessions) i (record { session = a .session; past = idOf (newest a) ∷ s .past }))
-    (σ .log ++ (record { entry = newest a; past = s .past } ∷ []))
-    (saidEvent a)
-writeLeft n σ o i s a (suc c) = refused σ o i s a
-
-abbrev pub readLeft : Ring → ℕ → ℕ → Carried → List ℕ → Said → ℕ → Ring
-readLeft σ o i s plots a zero =
-    left σ (upd (σ .stores) o (a .store)) (σ .lines)
-    (set (σ .sessions) i (record { session = a .session; past = gained (σ .log) (a .found) (s .past) }))
-    (σ .log)
-    (record {
-      code = a .code;
-      count = a .count;
-      row = a .row;
-      reads = together plots (a .found);
-      past = gained (σ .log) (a .found) (s .past);
-    })
-readLeft σ o i s plots a (suc c) = refused σ o i s a
-
-abbrev pub heardLeft : ℕ → Ring → ℕ → List (List ℕ) → Said → ℕ → Ring
-heardLeft n σ o rest a zero =
-    left σ (upd (σ .stores) o (a .store)) (upd (upd (σ .lines) o rest) (nextOf n o) (σ .lines (nextOf n o) ++ a .sent)) (σ .sessions) (σ .log)
-    (saidEvent a)
-heardLeft n σ o rest a (suc c) = turned σ o a
-
--- a session that is handed out
-abbrev pub begins : Ring → Session → List ℕ → ℕ → Ring
-begins σ s past zero = left σ (σ .stores) (σ .lines) (σ .sessions ++ (record { session = s; past = past } ∷ [])) (σ .log) (answered 0 0 [])
-begins σ s past (suc c) = left σ (σ .stores) (σ .lines) (σ .sessions) (σ .log) (answered (suc c) 0 [])
-
-abbrev pub withTokens : Ring → List (TrackedToken (List ℕ)) → Ring
-withTokens σ l =
-    record { stores = σ .stores; lines = σ .lines; sessions = σ .sessions; tokens = σ .tokens ++ l; log = σ .log; events = σ .events }
-
 -- a token is the words written in front of the row
-abbrev pub tokenLeft : Ring → Carried → Written → List ℕ → ℕ → Ring
-tokenLeft σ s r row′ zero =
-    withTokens (left σ (σ .stores) (σ .lines) (σ .sessions) (σ .log) (answered 0 (replyOf r .words) row′))
-    (record { token = take (replyOf r .words) row′; past = s .past } ∷ [])
-tokenLeft σ s r row′ (suc c) = left σ (σ .stores) (σ .lines) (σ .sessions) (σ .log) (answered (suc c) (replyOf r .words) row′)
-
-abbrev pub withCopy : Ring → Carried → Ring
-withCopy σ s =
-    record { stores = σ .stores; lines = σ .lines; sessions = σ .sessions ++ (s ∷ []); tokens = σ .tokens; log = σ .log; events = σ .events }
+abbrev pub tokenWritten : Ring → Carried → Written → List ℕ → ℕ → Ring
+tokenWritten σ s r row′ c = tokenLeft σ (take (replyOf r .words) row′) (s .past) (replyOf r .words) row′ c

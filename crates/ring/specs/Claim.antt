@@ -1,7 +1,8 @@
--- THE CLAIM OVER ANSWERS: promises → run → Holds. `Step` is one call on what really crosses (stores, frames, tokens and rows as words,
--- sessions as structs), made with ANY answer that keeps the call's promise (frame/specs/Promises.antt, office/specs/Promises.antt: its contract), and leaves what that answer
--- says. `Claim`: from offices opened by answers that keep their promise, every chain of such steps leads to what `wordsRun` says, so
--- `Holds`. `Answered`: there is such a chain for every list of calls. Assumes nothing.
+-- THE CLAIM OVER ANSWERS (paper 01, "Runs"): promises → run → Holds. `Step` is one call on what really crosses: stores, frames, tokens and
+-- lent rows as words, sessions as structs. It is made with ANY answer that keeps the call's promise (frame/specs/Promises.antt,
+-- office/specs/Promises.antt), and leaves what that answer says, read off it by specs/Answers.antt. `Claim`: from offices opened by answers
+-- that keep their promise, every chain of such steps leads to what `wordsRun` says, so `Holds`. `Answered`: there is such a chain for every
+-- list of calls. That the promises are the contracts of the code, and the code keeps them: specs/Demand.antt. Assumes nothing.
 use Prim.Native.Nat.{ℕ, _<_, _≤_}
 use mathlib.Core.Bool.{cond}
 use mathlib.Core.List.{List, [], _∷_}
@@ -21,12 +22,13 @@ use Rattle.office.specs.declared.open.Fresh.{Fresh}
 use Rattle.office.specs.declared.read.PlotRead.{PlotRead}
 use Rattle.office.specs.declared.write.Wrote.{Wrote}
 use Rattle.ring.specs.Holds.{Holds}
-use Rattle.ring.specs.Run.{Call, TrackedToken, at, contentsRun, copy-session, copy-token, fresh, joint, reading, receiving, receiving-words, token-reading, token-writing, wordsRun, writing}
-use Rattle.ring.specs.Answers.{Carried, Ring, begins, heardLeft, heardSaid, jointSaid, readLeft, readSaid, shown, tokenLeft, turned, withCopy, withTokens, writeLeft, wroteSaid}
+use Rattle.ring.specs.Run.{Call, TrackedToken, at, begins, contentsRun, copy-session, copy-token, fresh, joint, readLeft, reading, receiveLeft, receiving, receiving-words, token-reading, token-writing, turned, withSession, withToken, wordsRun, writeLeft, writing}
+use Rattle.ring.specs.Answers.{Carried, Ring, jointSaid, ownOf, readSaid, receivedSaid, shown, tokenWritten, wroteSaid}
 
 -- ---- one call
 
--- no call: no office of the ring, or no such session, token or waiting frame
+-- no call: no office of the ring; no such session or token ("errands and slips (or copies) from earlier calls only"); "with none waiting, no
+-- frame is heard"
 unfoldable pub Absent : ℕ → Ring → Call → Type 0
 Absent n σ (writing o i plot value row) = (n ≤ o) ⊎ (at (σ .sessions) i ≡ [])
 Absent n σ (reading o i plot) = (n ≤ o) ⊎ (at (σ .sessions) i ≡ [])
@@ -39,31 +41,36 @@ Absent n σ (token-reading t m p) = at (σ .tokens) t ≡ []
 Absent n σ (copy-session i) = at (σ .sessions) i ≡ []
 Absent n σ (copy-token t) = at (σ .tokens) t ≡ []
 
--- In each: the answer r and the lent rows as they are left, which keep the promise; then the ring that they leave
+-- In each: the answer r and the lent rows as they are left (ws′, row′), which keep the promise; then the ring that they leave. The numbers and
+-- the lent row are any. "A call gets store and errand as the last call on them left them": refused or accepted, what is left is what the answer
+-- says
 pub data Step (n : ℕ) (σ : Ring) : Call → Ring → Type 0 where
   absent : (c : Call) → Absent n σ c → Step n σ c σ
   writes : (o i plot value : ℕ) (row : List ℕ) (s : Carried) (r : Wrote) (ws′ row′ : List ℕ) → o < n → at (σ .sessions) i ≡ s ∷ []
       → WritePromise (σ .stores o) (s .session) plot value row (replyOf (r .written)) (r .session) ws′ row′
-      → Step n σ (writing o i plot value row) (writeLeft n σ o i s (wroteSaid r ws′ row′) (replyOf (r .written) .code))
+      → Step n σ (writing o i plot value row) (writeLeft ownOf n σ o i s (wroteSaid r ws′ row′) (replyOf (r .written) .code))
   reads : (o i plot : ℕ) (s : Carried) (r : PlotRead) (ws′ : List ℕ) → o < n → at (σ .sessions) i ≡ s ∷ []
       → ReadPromise (σ .stores o) (s .session) plot (codeOf (r .status)) (r .found) (r .entry) (r .session) ws′
       → Step n σ (reading o i plot) (readLeft σ o i s (plot ∷ []) (readSaid r ws′) (codeOf (r .status)))
+  -- its row has the name of an entry, not the entry: that is looked up in the log, where each name is once (`Holds`, distinct)
   reads-jointly : (o i : ℕ) (plots row : List ℕ) (s : Carried) (r : JointRead) (ws′ row′ : List ℕ) → o < n → at (σ .sessions) i ≡ s ∷ []
       → JointPromise (σ .stores o) (s .session) plots row (codeOf (r .status)) (r .session) ws′ row′
       → Step n σ (joint o i plots row) (readLeft σ o i s plots (jointSaid (σ .log) plots r ws′ row′) (codeOf (r .status)))
-  -- "a hearing gets, unaltered, the oldest one that its office hasn't heard"
-  hears : (o : ℕ) (row f : List ℕ) (rest : List (List ℕ)) (r : Written) (ws′ row′ : List ℕ) → o < n → σ .lines o ≡ f ∷ rest
-      → ReceivePromise (σ .stores o) f row (replyOf r) ws′ row′ → Step n σ (receiving o row) (heardLeft n σ o rest (heardSaid r ws′ row′) (replyOf r .code))
-  -- "or else words that it refuses with 9": other words are no call of a run
-  hears-words : (o : ℕ) (words row : List ℕ) (r : Written) (ws′ row′ : List ℕ) → o < n → ReceivePromise (σ .stores o) words row (replyOf r) ws′ row′
-      → Step n σ (receiving-words o words row) (cond (eqb (replyOf r .code) 9) (turned σ o (heardSaid r ws′ row′)) σ)
+  -- "a hearing gets, unaltered, the oldest one that its office hasn't heard from its predecessor"; refused, it stays the oldest
+  receives : (o : ℕ) (row f : List ℕ) (rest : List (List ℕ)) (r : Written) (ws′ row′ : List ℕ) → o < n → σ .lines o ≡ f ∷ rest
+      → ReceivePromise (σ .stores o) f row (replyOf r) ws′ row′ → Step n σ (receiving o row) (receiveLeft n σ o rest (receivedSaid r ws′ row′) (replyOf r .code))
+  -- "or else words that it refuses with 9", whether or not a frame waits: other words are no call of a run
+  receives-words : (o : ℕ) (words row : List ℕ) (r : Written) (ws′ row′ : List ℕ) → o < n → ReceivePromise (σ .stores o) words row (replyOf r) ws′ row′
+      → Step n σ (receiving-words o words row) (cond (eqb (replyOf r .code) 9) (turned σ o (receivedSaid r ws′ row′)) σ)
+  -- of any ring size: one that the ring does not have makes a session that its offices refuse
   begins-fresh : (m : ℕ) (r : Fresh) → FreshPromise m (codeOf (r .status)) (r .session) → Step n σ (fresh m) (begins σ (r .session) [] (codeOf (r .status)))
   writes-token : (i : ℕ) (row : List ℕ) (s : Carried) (r : Written) (row′ : List ℕ) → at (σ .sessions) i ≡ s ∷ []
-      → WriteTokenPromise (s .session) row (replyOf r) row′ → Step n σ (token-writing i row) (tokenLeft σ s r row′ (replyOf r .code))
+      → WriteTokenPromise (s .session) row (replyOf r) row′ → Step n σ (token-writing i row) (tokenWritten σ s r row′ (replyOf r .code))
+  -- with any ring size and plots, of the words that were written as that token
   reads-token : (t m p : ℕ) (x : TrackedToken (List ℕ)) (r : TokenRead) → at (σ .tokens) t ≡ x ∷ [] → ReadTokenPromise (x .token) m p (codeOf (r .status)) (r .session)
       → Step n σ (token-reading t m p) (begins σ (r .session) (x .past) (codeOf (r .status)))
-  copies-session : (i : ℕ) (s : Carried) → at (σ .sessions) i ≡ s ∷ [] → Step n σ (copy-session i) (withCopy σ s)
-  copies-token : (t : ℕ) (x : TrackedToken (List ℕ)) → at (σ .tokens) t ≡ x ∷ [] → Step n σ (copy-token t) (withTokens σ (x ∷ []))
+  copies-session : (i : ℕ) (s : Carried) → at (σ .sessions) i ≡ s ∷ [] → Step n σ (copy-session i) (withSession σ s)
+  copies-token : (t : ℕ) (x : TrackedToken (List ℕ)) → at (σ .tokens) t ≡ x ∷ [] → Step n σ (copy-token t) (withToken σ x)
 
 -- ---- a list of calls
 
@@ -80,7 +87,8 @@ abbrev pub begun : ℕ → (ℕ → List ℕ) → (ℕ → List ℕ) → Ring
 begun n rows ws =
     record { stores = λ o. cond (ltb o n) (ws o) (rows o); lines = λ o. []; sessions = []; tokens = []; log = []; events = [] }
 
--- THE CLAIM: whatever the answers, if they keep the promises
+-- THE CLAIM: whatever the answers, if they keep the promises. A ring has an office; that its openings were accepted says the rest of the
+-- settings: sizes in range, and rows long enough
 abbrev pub Claim : Type 0
 Claim =
     (n p : ℕ) → 1 ≤ n → (rows ws : ℕ → List ℕ) → Opened n p rows ws → (cs : List Call) (τ : Ring) → Runs n (begun n rows ws) cs τ →

@@ -3,3 +3,4 @@ pub mod Holds
 pub mod Lines
 pub mod Answers
 pub mod Claim
+pub mod Demand

@@ -18,10 +18,13 @@ use Rattle.office.specs.Calls.{Result, freshCode, jointOn, openOffice, parsed, 
 
 -- ---- what there is about
 
--- a session with its past, as ids
-pub record Tracked : Type 0 where
-  pub session : Content
+-- a session (S: its content, or the struct that crosses) with its past, as ids
+pub record TrackedAs (S : Type 0) : Type 0 where
+  pub session : S
   pub past : List ℕ
+
+abbrev pub Tracked : Type 0
+Tracked = TrackedAs Content
 
 -- a token (C: its content) with its past
 pub record TrackedToken (C : Type 0) : Type 0 where
@@ -42,13 +45,27 @@ pub record Event : Type 0 where
   pub reads : List (ℕ × Found)
   pub past : List ℕ
 
-pub record State (A B C : Type 0) : Type 0 where
+-- stores A, frames B, tokens C
+pub record StateAs (S A B C : Type 0) : Type 0 where
   pub stores : ℕ → A
   pub lines : ℕ → List B
-  pub sessions : List Tracked
+  pub sessions : List (TrackedAs S)
   pub tokens : List (TrackedToken C)
   pub log : List Made
   pub events : List Event
+
+abbrev pub State : Type 0 → Type 0 → Type 0 → Type 0
+State A B C = StateAs Content A B C
+
+-- an answer as a run takes it: `Result` of office/specs/Calls.antt, whatever a session is
+pub record SaidAs (S A B : Type 0) : Type 0 where
+  pub code : ℕ
+  pub count : ℕ
+  pub found : List Found
+  pub store : A
+  pub session : S
+  pub row : List ℕ
+  pub sent : List B
 
 -- "any list of writes, single and joint readings, hearings, fresh errands, slip writings and slip readings, with any numbers and room"
 pub data Call : Type 0 where
@@ -111,89 +128,130 @@ lastOf [] = blankEntry
 lastOf (e ∷ []) = e
 lastOf (e ∷ (f ∷ es)) = lastOf (f ∷ es)
 
-abbrev pub eventOf : {A B : Type 0} → Result A B → Event
-eventOf r = record { code = r .code; count = r .count; row = r .row; reads = []; past = [] }
-
 abbrev pub answered : ℕ → ℕ → List ℕ → Event
 answered c k row = record { code = c; count = k; row = row; reads = []; past = [] }
 
-module _ {A B C : Type 0} (F : Calls A B C) (n : ℕ) where
-  abbrev pub noted-event : State A B C → Event → State A B C
-  noted-event g v =
-      record { stores = g .stores; lines = g .lines; sessions = g .sessions; tokens = g .tokens; log = g .log; events = g .events ++ (v ∷ []) }
+abbrev pub eventOf : {A B : Type 0} → Result A B → Event
+eventOf r = answered (r .code) (r .count) (r .row)
 
-  -- after a refused call "A call gets store and errand as the last call on them left them"
-  abbrev pub turnedBy : State A B C → ℕ → Result A B → State A B C
-  turnedBy g o R =
-      record {
-        stores = upd (g .stores) o (R .store);
-        lines = g .lines;
-        sessions = g .sessions;
-        tokens = g .tokens;
-        log = g .log;
-        events = g .events ++ (eventOf R ∷ []);
-      }
+-- ---- what an answer leaves, whatever a session is
 
-  abbrev pub refusedBy : State A B C → ℕ → ℕ → Tracked → Result A B → State A B C
-  refusedBy g o i r R =
-      record {
-        stores = upd (g .stores) o (R .store);
-        lines = g .lines;
-        sessions = set (g .sessions) i (record { session = R .session; past = r .past });
-        tokens = g .tokens;
-        log = g .log;
-        events = g .events ++ (eventOf R ∷ []);
-      }
+module _ {S A B C : Type 0} (g : StateAs S A B C) where
+  abbrev pub left : (ℕ → A) → (ℕ → List B) → List (TrackedAs S) → List Made → Event → StateAs S A B C
+  left stores lines sessions log v =
+      record { stores = stores; lines = lines; sessions = sessions; tokens = g .tokens; log = log; events = g .events ++ (v ∷ []) }
 
-  -- an accepted write: "adds the new entry, whose writer's past is the errand's just before"
-  abbrev pub wrote : State A B C → ℕ → ℕ → Tracked → Result A B → State A B C
-  wrote g o i r R =
-      record {
-        stores = upd (g .stores) o (R .store);
-        lines = upd (g .lines) (nextOf n o) (g .lines (nextOf n o) ++ R .sent);
-        sessions = set (g .sessions) i (record { session = R .session; past = idOf (lastOf (R .session .own)) ∷ r .past });
-        tokens = g .tokens;
-        log = g .log ++ (record { entry = lastOf (R .session .own); past = r .past } ∷ []);
-        events = g .events ++ (eventOf R ∷ []);
-      }
+  abbrev pub noted-event : Event → StateAs S A B C
+  noted-event v = left (g .stores) (g .lines) (g .sessions) (g .log) v
 
-  abbrev pub writeBy : State A B C → ℕ → ℕ → Tracked → Result A B → ℕ → State A B C
-  writeBy g o i r R zero = wrote g o i r R
-  writeBy g o i r R (suc c) = refusedBy g o i r R
+  abbrev pub withSession : TrackedAs S → StateAs S A B C
+  withSession r =
+      record { stores = g .stores; lines = g .lines; sessions = g .sessions ++ (r ∷ []); tokens = g .tokens; log = g .log; events = g .events }
+
+  abbrev pub withToken : TrackedToken C → StateAs S A B C
+  withToken r =
+      record { stores = g .stores; lines = g .lines; sessions = g .sessions; tokens = g .tokens ++ (r ∷ []); log = g .log; events = g .events }
+
+  -- after a refused call, without a session and with one, "A call gets store and errand as the last call on them left them"
+  abbrev pub turned : ℕ → SaidAs S A B → StateAs S A B C
+  turned o a = left (upd (g .stores) o (a .store)) (g .lines) (g .sessions) (g .log) (answered (a .code) (a .count) (a .row))
+
+  abbrev pub refused : ℕ → ℕ → TrackedAs S → SaidAs S A B → StateAs S A B C
+  refused o i r a =
+      left (upd (g .stores) o (a .store)) (g .lines) (set (g .sessions) i (record { session = a .session; past = r .past })) (g .log)
+      (answered (a .code) (a .count) (a .row))
 
   -- an accepted reading of plots
+  abbrev pub readPlots : ℕ → ℕ → TrackedAs S → List ℕ → SaidAs S A B → StateAs S A B C
+  readPlots o i r plots a =
+      left (upd (g .stores) o (a .store)) (g .lines)
+      (set (g .sessions) i (record { session = a .session; past = gained (g .log) (a .found) (r .past) }))
+      (g .log)
+      (record {
+        code = a .code;
+        count = a .count;
+        row = a .row;
+        reads = together plots (a .found);
+        past = gained (g .log) (a .found) (r .past);
+      })
+
+  abbrev pub readLeft : ℕ → ℕ → TrackedAs S → List ℕ → SaidAs S A B → ℕ → StateAs S A B C
+  readLeft o i r plots a zero = readPlots o i r plots a
+  readLeft o i r plots a (suc c) = refused o i r a
+
+module _ {S A B C : Type 0} (own : S → List Entry) (n : ℕ) (g : StateAs S A B C) where
+  -- an accepted write: "adds the new entry, whose writer's past is the errand's just before"; it is the last of the session's own
+  abbrev pub wroteLeft : ℕ → ℕ → TrackedAs S → SaidAs S A B → StateAs S A B C
+  wroteLeft o i r a =
+      left g (upd (g .stores) o (a .store)) (upd (g .lines) (nextOf n o) (g .lines (nextOf n o) ++ a .sent))
+      (set (g .sessions) i (record { session = a .session; past = idOf (lastOf (own (a .session))) ∷ r .past }))
+      (g .log ++ (record { entry = lastOf (own (a .session)); past = r .past } ∷ []))
+      (answered (a .code) (a .count) (a .row))
+
+  abbrev pub writeLeft : ℕ → ℕ → TrackedAs S → SaidAs S A B → ℕ → StateAs S A B C
+  writeLeft o i r a zero = wroteLeft o i r a
+  writeLeft o i r a (suc c) = refused g o i r a
+
+module _ {S A B C : Type 0} (n : ℕ) (g : StateAs S A B C) where
+  abbrev pub receivedLeft : ℕ → List B → SaidAs S A B → StateAs S A B C
+  receivedLeft o rest a =
+      left g (upd (g .stores) o (a .store)) (upd (upd (g .lines) o rest) (nextOf n o) (g .lines (nextOf n o) ++ a .sent)) (g .sessions) (g .log)
+      (answered (a .code) (a .count) (a .row))
+
+  -- "A frame whose hearing is refused has not been heard": its line is as it was
+  abbrev pub receiveLeft : ℕ → List B → SaidAs S A B → ℕ → StateAs S A B C
+  receiveLeft o rest a zero = receivedLeft o rest a
+  receiveLeft o rest a (suc c) = turned g o a
+
+module _ {S A B C : Type 0} (g : StateAs S A B C) where
+  -- a session handed out, fresh or read from a token; a refused call hands none out
+  abbrev pub begins : S → List ℕ → ℕ → StateAs S A B C
+  begins s past zero = withSession (noted-event g (answered 0 0 [])) (record { session = s; past = past })
+  begins s past (suc c) = noted-event g (answered (suc c) 0 [])
+
+  -- "Copies, slips and errands read from them keep the past of their origin"
+  abbrev pub tokenLeft : C → List ℕ → ℕ → List ℕ → ℕ → StateAs S A B C
+  tokenLeft t past k row zero = withToken (noted-event g (answered 0 k row)) (record { token = t; past = past })
+  tokenLeft t past k row (suc c) = noted-event g (answered (suc c) k row)
+
+-- ---- a step, by the calls F
+
+abbrev said : {A B : Type 0} → Result A B → SaidAs Content A B
+said R =
+    record {
+      code = R .code;
+      count = R .count;
+      found = R .found;
+      store = R .store;
+      session = R .session;
+      row = R .row;
+      sent = R .sent;
+    }
+
+module _ {A B C : Type 0} (F : Calls A B C) (n : ℕ) where
+  abbrev pub turnedBy : State A B C → ℕ → Result A B → State A B C
+  turnedBy g o R = turned g o (said R)
+
+  abbrev pub refusedBy : State A B C → ℕ → ℕ → Tracked → Result A B → State A B C
+  refusedBy g o i r R = refused g o i r (said R)
+
+  abbrev pub wrote : State A B C → ℕ → ℕ → Tracked → Result A B → State A B C
+  wrote g o i r R = wroteLeft (λ (s : Content). s .own) n g o i r (said R)
+
+  abbrev pub writeBy : State A B C → ℕ → ℕ → Tracked → Result A B → ℕ → State A B C
+  writeBy g o i r R c = writeLeft (λ (s : Content). s .own) n g o i r (said R) c
+
   abbrev pub readIn : State A B C → ℕ → ℕ → Tracked → List ℕ → Result A B → State A B C
-  readIn g o i r plots R =
-      record {
-        stores = upd (g .stores) o (R .store);
-        lines = g .lines;
-        sessions = set (g .sessions) i (record { session = R .session; past = gained (g .log) (R .found) (r .past) });
-        tokens = g .tokens;
-        log = g .log;
-        events =
-            g .events ++
-            (record { code = R .code; count = R .count; row = R .row; reads = together plots (R .found); past = gained (g .log) (R .found) (r .past) } ∷ []);
-      }
+  readIn g o i r plots R = readPlots g o i r plots (said R)
 
   abbrev pub readBy : State A B C → ℕ → ℕ → Tracked → List ℕ → Result A B → ℕ → State A B C
-  readBy g o i r plots R zero = readIn g o i r plots R
-  readBy g o i r plots R (suc c) = refusedBy g o i r R
+  readBy g o i r plots R c = readLeft g o i r plots (said R) c
 
   abbrev pub received : State A B C → ℕ → List B → Result A B → State A B C
-  received g o rest R =
-      record {
-        stores = upd (g .stores) o (R .store);
-        lines = upd (upd (g .lines) o rest) (nextOf n o) (g .lines (nextOf n o) ++ R .sent);
-        sessions = g .sessions;
-        tokens = g .tokens;
-        log = g .log;
-        events = g .events ++ (eventOf R ∷ []);
-      }
+  received g o rest R = receivedLeft n g o rest (said R)
 
-  -- "A frame whose hearing is refused has not been heard"
   abbrev pub receiveBy : State A B C → ℕ → List B → Result A B → ℕ → State A B C
-  receiveBy g o rest R zero = received g o rest R
-  receiveBy g o rest R (suc c) = turnedBy g o R
+  receiveBy g o rest R c = receiveLeft n g o rest (said R) c
 
   abbrev pub writeAt : State A B C → ℕ → ℕ → ℕ → ℕ → List ℕ → List Tracked → State A B C
   writeAt g o i plot value row [] = g
@@ -215,33 +273,20 @@ module _ {A B C : Type 0} (F : Calls A B C) (n : ℕ) where
   receiveAt g o row [] = g
   receiveAt g o row (f ∷ rest) = receiveBy g o rest (F .on-receive (g .stores o) f row) (F .on-receive (g .stores o) f row .code)
 
-  abbrev pub withSession : State A B C → Tracked → State A B C
-  withSession g r =
-      record { stores = g .stores; lines = g .lines; sessions = g .sessions ++ (r ∷ []); tokens = g .tokens; log = g .log; events = g .events }
-
-  abbrev pub withToken : State A B C → TrackedToken C → State A B C
-  withToken g r =
-      record { stores = g .stores; lines = g .lines; sessions = g .sessions; tokens = g .tokens ++ (r ∷ []); log = g .log; events = g .events }
-
   -- "a fresh errand ..; its past is empty"
   abbrev pub freshBy : State A B C → ℕ → ℕ → State A B C
-  freshBy g m zero = withSession (noted-event g (answered 0 0 [])) (record { session = freshContent m; past = [] })
-  freshBy g m (suc c) = noted-event g (answered (suc c) 0 [])
+  freshBy g m c = begins g (freshContent m) [] c
 
-  -- "Copies, slips and errands read from them keep the past of their origin"
   abbrev pub tokenBy : State A B C → Tracked → List ℕ → ℕ → State A B C
-  tokenBy g r row zero =
-      withToken (noted-event g (answered 0 (length (tokenWords (r .session))) (writeTokenRow (r .session) row)))
-      (record { token = F .token-of (r .session); past = r .past })
-  tokenBy g r row (suc c) = noted-event g (answered (suc c) 0 (writeTokenRow (r .session) row))
+  tokenBy g r row zero = tokenLeft g (F .token-of (r .session)) (r .past) (length (tokenWords (r .session))) (writeTokenRow (r .session) row) 0
+  tokenBy g r row (suc c) = tokenLeft g (F .token-of (r .session)) (r .past) 0 (writeTokenRow (r .session) row) (suc c)
 
   abbrev pub tokenAt : State A B C → List ℕ → List Tracked → State A B C
   tokenAt g row [] = g
   tokenAt g row (r ∷ rs) = tokenBy g r row (writeTokenCode (r .session) (length row))
 
   abbrev pub fromToken : State A B C → TrackedToken C → ℕ → State A B C
-  fromToken g r zero = withSession (noted-event g (answered 0 0 [])) (record { session = F .token-read (r .token); past = r .past })
-  fromToken g r (suc c) = noted-event g (answered (suc c) 0 [])
+  fromToken g r c = begins g (F .token-read (r .token)) (r .past) c
 
   abbrev pub fromTokenAt : State A B C → ℕ → ℕ → List (TrackedToken C) → State A B C
   fromTokenAt g m p [] = g

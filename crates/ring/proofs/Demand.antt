@@ -1,0 +1,18 @@
+-- THE THEOREM of the third demand (specs/Demand.antt). Assumes nothing.
+use Rattle.frame.proofs.Contract.{frame-contracts}
+use Rattle.office.proofs.Contract.{office-contracts}
+use Rattle.ring.specs.Demand.{ThirdDemand}
+use Rattle.ring.proofs.Chain.{all-answered}
+use Rattle.ring.proofs.Claim.{claim}
+use Rattle.ring.proofs.Theorem.{demand3, opens}
+
+pub third-demand : ThirdDemand
+third-demand =
+    record {
+      frame = λ 𝓤 H A mem run. frame-contracts 𝓤 H A mem run;
+      office = λ 𝓤 H A mem run. office-contracts 𝓤 H A mem run;
+      claim = claim;
+      answered = all-answered;
+      opens = opens;
+      demand3 = demand3;
+    }
