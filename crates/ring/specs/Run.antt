@@ -26,7 +26,7 @@ pub record TrackedAs (S : Type 0) : Type 0 where
 abbrev pub Tracked : Type 0
 Tracked = TrackedAs Content
 
--- a token (C: its content) with its past
+-- a token (C: its words, or its content) with its past
 pub record TrackedToken (C : Type 0) : Type 0 where
   pub token : C
   pub past : List ℕ
@@ -45,7 +45,7 @@ pub record Event : Type 0 where
   pub reads : List (ℕ × Found)
   pub past : List ℕ
 
--- stores A, frames B, tokens C
+-- the ring at a moment: stores A, lines of frames B, sessions S, tokens C; the entries made and the calls made so far, oldest first
 pub record StateAs (S A B C : Type 0) : Type 0 where
   pub stores : ℕ → A
   pub lines : ℕ → List B
@@ -57,7 +57,7 @@ pub record StateAs (S A B C : Type 0) : Type 0 where
 abbrev pub State : Type 0 → Type 0 → Type 0 → Type 0
 State A B C = StateAs Content A B C
 
--- an answer as a run takes it: `Result` of office/specs/Calls.antt, whatever a session is
+-- an answer as a run takes it: `Result` of office/specs/Calls.antt, with any form S of session
 pub record SaidAs (S A B : Type 0) : Type 0 where
   pub code : ℕ
   pub count : ℕ
@@ -134,7 +134,7 @@ answered c k row = record { code = c; count = k; row = row; reads = []; past = [
 abbrev pub eventOf : {A B : Type 0} → Result A B → Event
 eventOf r = answered (r .code) (r .count) (r .row)
 
--- ---- what an answer leaves, whatever a session is
+-- ---- what an answer leaves, with any form S of session
 
 module _ {S A B C : Type 0} (g : StateAs S A B C) where
   abbrev pub left : (ℕ → A) → (ℕ → List B) → List (TrackedAs S) → List Made → Event → StateAs S A B C
@@ -214,7 +214,7 @@ module _ {S A B C : Type 0} (g : StateAs S A B C) where
   tokenLeft t past k row zero = withToken (noted-event g (answered 0 k row)) (record { token = t; past = past })
   tokenLeft t past k row (suc c) = noted-event g (answered (suc c) k row)
 
--- ---- a step, by the calls F
+-- ---- a step, with the calls F
 
 abbrev said : {A B : Type 0} → Result A B → SaidAs Content A B
 said R =
