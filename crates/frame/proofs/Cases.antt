@@ -1,13 +1,12 @@
--- The paper's own cases of frames and rank, by computing: frames A and B, the three clocks. Assumes nothing.
+-- The paper's own frames, A and B, by computing. Assumes nothing.
 use Prim.Native.Nat.{ℕ}
 use mathlib.Core.Bool.{false, true}
 use mathlib.Core.List.{List, [], _∷_}
 use mathlib.Core.Path.{_≡_, refl}
 use Rattle.causal.specs.Lists.{eqWords, part, tab, zeros}
-use Rattle.causal.specs.Rank.{higher, ranksAbove}
 use Rattle.causal.specs.Sets.{bit, has, inserted, isIn}
 use Rattle.causal.specs.Tests.{allBelow, both, either}
-use Rattle.frame.specs.Entries.{boundsOk, clockOk, clockPlaceOk, entryOk, idsOk, idsPlaceOk, outranks}
+use Rattle.frame.specs.Entries.{boundsOk, clockOk, clockPlaceOk, entryOk, idsOk, idsPlaceOk}
 use Rattle.frame.specs.Frames.{accepts, bodyWords, frameOf, frameOk, frameWords, framed}
 use Rattle.frame.specs.Words.{clockFrom, clockWords, idWordIf, idWords, idWordsTo, idsFrom, summed, total}
 use Rattle.frame.specs.declared.entry.Entry.{Entry}
@@ -25,10 +24,6 @@ rowA = 0x10011300 ∷ 0x30000005 ∷ 0x400002C5 ∷ 0x50000001 ∷ 0x50000000 �
 abbrev pub rowB : List ℕ
 rowB = 0x11011301 ∷ 0x30000006 ∷ 0x40000001 ∷ 0x50000001 ∷ 0x50000001 ∷ 0x50000000 ∷ 0x60000001 ∷ 0xF101130B ∷ []
 
--- an entry with the clock [a, b]
-abbrev pub clocked : ℕ → ℕ → ℕ → Entry
-clocked o a b = record { office = o; serial = 1; plot = 0; value = 0; clock = a ∷ b ∷ 0 ∷ 0 ∷ 0 ∷ 0 ∷ 0 ∷ 0 ∷ []; deps = zeros }
-
 pub record Cases : Type 0 where
   pub case-A : frameWords (framed 3 1 entryA) ≡ rowA
   pub case-B : frameWords (framed 3 1 entryB) ≡ rowB
@@ -38,13 +33,9 @@ pub record Cases : Type 0 where
   pub accepts-B : accepts 3 64 rowB ≡ true
   -- the last words are in the check
   pub sum-short : accepts 3 64 (0x10011300 ∷ 0x30000005 ∷ 0x400002C5 ∷ 0x50000001 ∷ 0x50000000 ∷ 0x50000000 ∷ 0xF00115CA ∷ []) ≡ false
-  -- [2,0], [0,3], [2,1]: whatever the order in which they are met, the last one named is kept
-  pub three-1 : outranks (clocked 1 2 1) (clocked 0 2 0) ≡ true
-  pub three-2 : outranks (clocked 1 2 1) (clocked 1 0 3) ≡ true
-  pub three-3 : outranks (clocked 0 2 0) (clocked 1 0 3) ≡ true
 
 pub cases : Cases
-unfolding both either allBelow eqWords part tab bit has isIn inserted higher ranksAbove outranks clockWords clockFrom idWordIf idWordsTo idWords idsFrom total summed clockPlaceOk clockOk idsPlaceOk idsOk boundsOk entryOk bodyWords frameWords frameOk frameOf accepts
+unfolding both either allBelow eqWords part tab bit has isIn inserted clockWords clockFrom idWordIf idWordsTo idWords idsFrom total summed clockPlaceOk clockOk idsPlaceOk idsOk boundsOk entryOk bodyWords frameWords frameOk frameOf accepts
 cases =
     record {
       case-A = refl;
@@ -54,7 +45,4 @@ cases =
       accepts-A = refl;
       accepts-B = refl;
       sum-short = refl;
-      three-1 = refl;
-      three-2 = refl;
-      three-3 = refl;
     }

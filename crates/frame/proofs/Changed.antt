@@ -222,7 +222,7 @@ tokenBody s =
     tokenHead (s .offices) (length (s .own)) (length (idWords (s .read)))
     ∷ (clockWords (s .offices) (s .clock) ++ (idWords (s .read) ++ rowsOf (map (framed (s .offices) 0) (s .own))))
 
--- plots that cover it
+-- what is sound for p plots is sound for more
 own-wider : (n p q : ℕ) (read seen : List ℕ) (es : List Entry) → p ≤ q → ownOk n p read seen es ≡ true → ownOk n q read seen es ≡ true
 unfolding ownOk
 own-wider n p q read seen [] l h = refl

@@ -158,7 +158,7 @@ facts-entry n p e f =
     )
     refl
 
--- plots that cover it
+-- what keeps the rules for p plots keeps them for more
 pub entry-wider : (n p q : ℕ) (e : Entry) → p ≤ q → entryOk n p e ≡ true → entryOk n q e ≡ true
 entry-wider n p q e l h =
     let f = entry-facts n p e h in
@@ -193,7 +193,7 @@ unfolding frameOk both
 facts-frame n p f h =
     rw (eq-eqb (f .offices) n (h .ring), le-leb 2 n (h .low), le-leb n 8 (h .high), le-leb (f .hops) (n - 2) (h .hops-ok)) (h .entry)
 
--- what is a frame for a ring and its plots is content that a frame may have
+-- what is a frame for p plots is one for more
 pub frame-wider : (n p q : ℕ) (f : Frame) → p ≤ q → frameOk n p f ≡ true → frameOk (f .offices) q f ≡ true
 frame-wider n p q f l h =
     let a = frame-facts n p f h in

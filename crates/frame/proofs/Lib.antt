@@ -16,3 +16,6 @@ pub mod TokenTurns
 pub mod TokenChecks
 pub mod TokenReads
 pub mod Contract
+pub mod SameContent
+pub mod ReadBack
+pub mod Bounds

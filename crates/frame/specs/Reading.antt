@@ -1,4 +1,4 @@
--- What the reader of a frame checks, word by word. `checks-accept` of proofs/Checks.antt: these checks accept a row just where it is the
+-- What the reader of a frame checks, word by word. `checks-accept` of proofs/Frames.antt: these checks accept a row just where it is the
 -- writing of what a frame may say (`accepts`). Assumes nothing.
 use Prim.Native.Nat.{ℕ, _+_, _-_, _/_, _%_}
 use mathlib.Core.Bool.{Bool, true}

@@ -21,3 +21,7 @@ pub mod Writes
 pub mod Receives
 pub mod Answers
 pub mod Contract
+pub mod Opened
+pub mod Three
+pub mod Bounds
+pub mod Orders

@@ -1,0 +1,25 @@
+-- Entries of one name with the same content are the same entry: refusal 11, "it is held with other content", leaves no part of the content
+-- out: plot, value, clock and dependencies. Assumes nothing.
+use mathlib.Core.Bool.{true}
+use mathlib.Core.Path.{_≡_}
+use lib.Dec.{eqb}
+use borrow.Author.Tests.{eqb-true}
+use Rattle.causal.specs.Lists.{eqWords}
+use Rattle.causal.proofs.Lists.{eqWords-eq}
+use Rattle.causal.proofs.Tests.{both-true}
+use Rattle.frame.specs.Entries.{sameContent}
+use Rattle.frame.specs.declared.entry.Entry.{Entry}
+
+-- "a name (office, serial) and, as its content, a plot, a value, a clock and a set of names it depends on"
+entry-is : (e f : Entry) → e .office ≡ f .office → e .serial ≡ f .serial → e .plot ≡ f .plot → e .value ≡ f .value → e .clock ≡ f .clock
+    → e .deps ≡ f .deps → e ≡ f
+entry-is e f o s p v c d i = record { office = o i; serial = s i; plot = p i; value = v i; clock = c i; deps = d i }
+
+pub same-content-is : (e f : Entry) → sameContent e f ≡ true → e .office ≡ f .office → e .serial ≡ f .serial → e ≡ f
+unfolding sameContent
+same-content-is e f h o s =
+    let a = both-true (eqb (e .plot) (f .plot)) _ h in
+    let b = both-true (eqb (e .value) (f .value)) _ (a .1) in
+    let c = both-true (eqWords (e .clock) (f .clock)) _ (b .1) in
+    entry-is e f o s (eqb-true (e .plot) (f .plot) (a .0)) (eqb-true (e .value) (f .value) (b .0)) (eqWords-eq (e .clock) (f .clock) (c .0))
+    (eqWords-eq (e .deps) (f .deps) (c .1))
