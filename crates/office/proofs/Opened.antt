@@ -68,11 +68,10 @@ unfolding freshCode both check
 fresh-given n low high = rw (le-leb 2 n low, le-leb n 8 high) refl
 
 pub fresh-refused : (n : ℕ) → (n < 2) ⊎ (8 < n) → freshCode n ≡ 1
-unfolding freshCode
+unfolding freshCode both check
 fresh-refused n h = go (leb 2 n) refl (leb n 8) refl
   where
     go : (t : Bool) → leb 2 n ≡ t → (u : Bool) → leb n 8 ≡ u → check (both t u) 1 0 ≡ 1
-    unfolding both check
     go true x true y =
         let a = leb-true 2 n x in
         let b = leb-true n 8 y in
