@@ -22,6 +22,10 @@ use Rattle.frame.proofs.Cases.{entryA, entryB, rowA}
 abbrev pub numbered : ℕ → List ℕ → Entry
 numbered s d = record { office = 1; serial = s; plot = 5; value = s; clock = 0 ∷ s ∷ 0 ∷ 0 ∷ 0 ∷ 0 ∷ 0 ∷ 0 ∷ []; deps = d }
 
+-- the same on a plot, with the number a at its own place of the clock
+abbrev clocked : ℕ → ℕ → ℕ → Entry
+clocked s a plot = record { office = 1; serial = s; plot = plot; value = s; clock = 0 ∷ a ∷ 0 ∷ 0 ∷ 0 ∷ 0 ∷ 0 ∷ 0 ∷ []; deps = zeros }
+
 -- a session of a ring of three that carries the entries es; one that carries n
 abbrev pub carrying : List Entry → Content
 carrying es = record { offices = 3; clock = zeros; read = zeros; own = es }
@@ -67,7 +71,7 @@ pub record Rules : Type 0 where
   pub clock-unused : clockOk 3 (0 ∷ 0 ∷ 0 ∷ 1 ∷ 0 ∷ 0 ∷ 0 ∷ 0 ∷ []) ≡ false
   -- "its own office's number equals its serial"; "No entry depends on itself"; names of offices that the ring has
   pub own-number : entryOk 3 64 (numbered 4 zeros) ≡ true
-  pub other-number : entryOk 3 64 (record { office = 1; serial = 4; plot = 5; value = 4; clock = 0 ∷ 3 ∷ 0 ∷ 0 ∷ 0 ∷ 0 ∷ 0 ∷ 0 ∷ []; deps = zeros }) ≡ false
+  pub other-number : entryOk 3 64 (clocked 4 3 5) ≡ false
   pub on-another : entryOk 3 64 (numbered 4 (only 2)) ≡ true
   pub on-itself : entryOk 3 64 (numbered 4 (only 3)) ≡ false
   pub on-a-stranger : entryOk 3 64 (numbered 4 (0 ∷ 0 ∷ 0 ∷ 1 ∷ 0 ∷ 0 ∷ 0 ∷ 0 ∷ [])) ≡ false
@@ -138,8 +142,8 @@ pub record Frames : Type 0 where
   pub order-3-8 : writeFrameCode (framed 3 2 entryB) 7 ∷ writeFrameCode (framed 3 1 entryB) 7 ∷ [] ≡ 3 ∷ 8 ∷ []
   pub order-3-8-ring : writeFrameCode (framed 9 1 entryB) 0 ∷ writeFrameCode (framed 8 1 entryB) 0 ∷ [] ≡ 3 ∷ 8 ∷ []
   -- plot 63 is in a frame of its ring size with 64 plots, 64 is not
-  pub last-plot : writeFrameCode (framed 3 1 (record { office = 0; serial = 1; plot = 63; value = 0; clock = 1 ∷ 0 ∷ 0 ∷ 0 ∷ 0 ∷ 0 ∷ 0 ∷ 0 ∷ []; deps = zeros })) 7 ≡ 0
-  pub plot-over : writeFrameCode (framed 3 1 (record { office = 0; serial = 1; plot = 64; value = 0; clock = 1 ∷ 0 ∷ 0 ∷ 0 ∷ 0 ∷ 0 ∷ 0 ∷ 0 ∷ []; deps = zeros })) 7 ≡ 3
+  pub last-plot : writeFrameCode (framed 3 1 (clocked 1 1 63)) 7 ≡ 0
+  pub plot-over : writeFrameCode (framed 3 1 (clocked 1 1 64)) 7 ≡ 3
 
 pub frames : Frames
 unfolding both either allBelow check eqWords part tab bit has isIn inserted clockWords clockFrom idWordIf idWordsTo idWords idsFrom total summed clockPlaceOk clockOk idsPlaceOk idsOk boundsOk entryOk ringOk bodyWords frameWords frameOk frameOf accepts readFrameCode writeFrameCode

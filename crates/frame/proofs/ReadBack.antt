@@ -60,7 +60,7 @@ frame-reads-back f room p s w l m =
     let ac : accepts (f .offices) p (frameWords f) ≡ true =
     frame-accepted (f .offices) p 64 (f .offices) f (omega arith) ok s ∙ frame-covered (f .offices) p 64 f l ok
     in
-    let c : check (ringOk (f .offices) p) 1 (check (accepts (f .offices) p (frameWords f)) 9 0) ≡ 0 = code (ringOk (f .offices) p) (accepts (f .offices) p (frameWords f)) r ac in
+    let c : readFrameCode (f .offices) p (frameWords f) ≡ 0 = code (ringOk (f .offices) p) (accepts (f .offices) p (frameWords f)) r ac in
     (c, ap (λ (x : ℕ). frameIf x (frameWords f)) c ∙ back (frame-back (f .offices) 64 f (omega arith) ok s))
   where
     back : frameOf (frameWords f) ≡ f → frameIf 0 (frameWords f) ≡ f
@@ -95,7 +95,7 @@ token-reads-back s room p sane w l m1 m =
     (record { offices = F .offices; few = F .few; clock = F .clock; ids = F .ids; own = owns-covered (s .offices) p 64 (s .read) zeros (s .own) l (F .own) })
     in
     let ac : acceptsToken (s .offices) p (tokenWords s) ≡ true = token-accepted s (t .0) (t .1) sane (s .offices) p ∙ ok in
-    let c : check (ringOk (s .offices) p) 1 (check (acceptsToken (s .offices) p (tokenWords s)) 9 0) ≡ 0 = code (ringOk (s .offices) p) (acceptsToken (s .offices) p (tokenWords s)) r ac in
+    let c : readTokenCode (s .offices) p (tokenWords s) ≡ 0 = code (ringOk (s .offices) p) (acceptsToken (s .offices) p (tokenWords s)) r ac in
     (c, ap (λ (x : ℕ). contentIf x (tokenWords s)) c ∙ back (token-back s (t .0) (t .1) sane))
   where
     back : contentFrom (tokenWords s) ≡ s → contentIf 0 (tokenWords s) ≡ s

@@ -15,7 +15,7 @@ use Rattle.causal.specs.Tests.{allBelow, both, either, implies}
 use Rattle.frame.specs.Calls.{laid}
 use Rattle.frame.specs.Entries.{boundsOk, clockOk, clockPlaceOk, entryOk, idsOk, idsPlaceOk, outranks, sameContent}
 use Rattle.frame.specs.Frames.{accepts, bodyWords, frameOf, frameOk, frameWords, framed, ringOk}
-use Rattle.frame.specs.Sessions.{Content, freshContent, idsOf, ownOk, sessionOk}
+use Rattle.frame.specs.Sessions.{freshContent, idsOf, ownOk, sessionOk}
 use Rattle.frame.specs.Tokens.{rowsOf}
 use Rattle.frame.specs.Words.{clockFrom, clockWords, idWordIf, idWords, idWordsTo, idsFrom, summed, total}
 use Rattle.frame.specs.declared.entry.Entry.{Entry}
@@ -63,7 +63,8 @@ abbrev pub otherClock : Entry
 otherClock = first 5 709 1
 
 abbrev pub otherDeps : Entry
-otherDeps = record { office = 0; serial = 1; plot = 5; value = 709; clock = 1 ∷ 0 ∷ 0 ∷ 0 ∷ 0 ∷ 0 ∷ 0 ∷ 0 ∷ []; deps = 0 ∷ 1 ∷ 0 ∷ 0 ∷ 0 ∷ 0 ∷ 0 ∷ 0 ∷ [] }
+otherDeps =
+    record { office = 0; serial = 1; plot = 5; value = 709; clock = 1 ∷ 0 ∷ 0 ∷ 0 ∷ 0 ∷ 0 ∷ 0 ∷ 0 ∷ []; deps = 0 ∷ 1 ∷ 0 ∷ 0 ∷ 0 ∷ 0 ∷ 0 ∷ 0 ∷ [] }
 
 -- entries on plot 5 that outrank A, and that A outranks
 abbrev higherThanA : Entry

@@ -20,9 +20,9 @@ use Rattle.frame.specs.Words.{clockFrom, clockWords, idWordIf, idWords, idWords
 use Rattle.frame.specs.declared.entry.Entry.{Entry}
 use Rattle.frame.proofs.Bounds.{carrying, loaded}
 use Rattle.frame.proofs.Cases.{entryA, entryB}
-use Rattle.store.specs.Offices.{Office, bestOwn, bestTo, better, clockOf, consider, current, entryAt, gapless, heldOk, hold, made, maxTo, officeOf, reveal, settingsOk, slotWords, slotsTo, soundOffice, soundStore, storeWords}
+use Rattle.store.specs.Offices.{bestOwn, bestTo, better, clockOf, consider, current, entryAt, gapless, heldOk, hold, made, maxTo, officeOf, reveal, settingsOk, slotWords, slotsTo, soundOffice, soundStore, storeWords}
 use Rattle.store.specs.Reveal.{revealed, steps}
-use Rattle.office.specs.Calls.{allNoneOver, answerWords, entryCode, handed, holdAll, holdNew, jointCode, jointOn, missing, newEntry, noneOver, noted, notedAll, openOffice, ownCode, plotsOk, readCode, readJoint, readOn, readPlot, receive, receiveCode, receiveOn, receiveSends, receivedBy, sentOf, threeWords, write, writeCode, writeOn, wroteSession}
+use Rattle.office.specs.Calls.{Result, allNoneOver, answerWords, entryCode, handed, holdAll, holdNew, jointCode, jointOn, missing, newEntry, noneOver, noted, notedAll, openOffice, ownCode, plotsOk, readCode, readJoint, readOn, readPlot, receive, receiveCode, receiveOn, receiveSends, receivedBy, sentOf, threeWords, write, writeCode, writeOn, wroteSession}
 use Rattle.office.proofs.Bounds.{made32, otherDeps, otherValue}
 use Rattle.office.proofs.Cases.{before, gotA, gotB, readB}
 
@@ -50,6 +50,9 @@ elsewhere = record { office = 1; serial = 2; plot = 7; value = 1; clock = 0 ∷ 
 abbrev row : List ℕ
 row = replicate 40 0
 
+abbrev codes : {A B : Type 0} → Result A B → Result A B → List ℕ
+codes r s = r .code ∷ s .code ∷ []
+
 -- "Open an office. 1 .. 2"
 pub record Opening : Type 0 where
   pub order-1-2 : openOffice 9 0 64 [] .0 ∷ openOffice 8 0 64 [] .0 ∷ [] ≡ 1 ∷ 2 ∷ []
@@ -63,9 +66,9 @@ opening =
 
 -- "Read one plot. 2 .. 3 .. 4 .. 12"
 pub record Reading : Type 0 where
-  pub order-2-3 : readPlot [] stranger 5 .code ∷ readPlot opened stranger 5 .code ∷ [] ≡ 2 ∷ 3 ∷ []
-  pub order-3-4 : readOn before stranger 64 .code ∷ readOn before (freshContent 3) 64 .code ∷ [] ≡ 3 ∷ 4 ∷ []
-  pub order-4-12 : readOn before readB 64 .code ∷ readOn before readB 5 .code ∷ [] ≡ 4 ∷ 12 ∷ []
+  pub order-2-3 : codes (readPlot [] stranger 5) (readPlot opened stranger 5) ≡ 2 ∷ 3 ∷ []
+  pub order-3-4 : codes (readOn before stranger 64) (readOn before (freshContent 3) 64) ≡ 3 ∷ 4 ∷ []
+  pub order-4-12 : codes (readOn before readB 64) (readOn before readB 5) ≡ 4 ∷ 12 ∷ []
 
 pub reading : Reading
 unfolding trailingZeros both either implies allBelow check orElse part tab sumBelow eqWords bit has isIn unite minus inserted wordIn subsetOf lowestIn lowestOf join higher ranksAbove outranks clockWords clockFrom idWordIf idWordsTo idWords idsFrom total summed clockPlaceOk clockOk idsPlaceOk idsOk boundsOk entryOk sameContent ringOk bodyWords frameWords frameOk frameOf accepts laid idsOf ownOk sessionOk rowsOf steps revealed settingsOk made maxTo clockOf reveal hold better consider bestTo current bestOwn entryCode ownCode noted readCode handed plotsOk noneOver allNoneOver jointCode notedAll threeWords answerWords newEntry missing sentOf writeCode holdAll wroteSession receiveCode holdNew receivedBy receiveSends readOn jointOn writeOn receiveOn entryAt officeOf slotWords slotsTo storeWords heldOk gapless soundOffice soundStore openOffice readPlot readJoint write receive
@@ -78,12 +81,13 @@ reading =
 
 -- "Read jointly. 2, 3 as before. 4 .. 8 .. 12 .. 13"
 pub record Joint : Type 0 where
-  pub order-2-3 : readJoint [] stranger [] [] .code ∷ readJoint opened stranger [] [] .code ∷ [] ≡ 2 ∷ 3 ∷ []
-  pub order-3-4 : jointOn before stranger (64 ∷ []) row .code ∷ jointOn before (freshContent 3) (64 ∷ []) row .code ∷ [] ≡ 3 ∷ 4 ∷ []
-  pub order-4-8 : jointOn before (freshContent 3) (64 ∷ []) [] .code ∷ jointOn before (freshContent 3) (63 ∷ []) [] .code ∷ [] ≡ 4 ∷ 8 ∷ []
-  pub order-17-8 : jointOn before (freshContent 3) (replicate 17 5) [] .code ∷ jointOn before (freshContent 3) (replicate 16 5) [] .code ∷ [] ≡ 4 ∷ 8 ∷ []
-  pub order-8-12 : jointOn before readB (5 ∷ []) [] .code ∷ jointOn before readB (5 ∷ []) row .code ∷ [] ≡ 8 ∷ 12 ∷ []
-  pub order-12-13 : jointOn before (readBWith (elsewhere ∷ [])) (7 ∷ []) row .code ∷ jointOn gotB (readBWith (elsewhere ∷ [])) (7 ∷ []) row .code ∷ [] ≡ 12 ∷ 13 ∷ []
+  pub order-2-3 : codes (readJoint [] stranger [] []) (readJoint opened stranger [] []) ≡ 2 ∷ 3 ∷ []
+  pub order-3-4 : codes (jointOn before stranger (64 ∷ []) row) (jointOn before (freshContent 3) (64 ∷ []) row) ≡ 3 ∷ 4 ∷ []
+  pub order-4-8 : codes (jointOn before (freshContent 3) (64 ∷ []) []) (jointOn before (freshContent 3) (63 ∷ []) []) ≡ 4 ∷ 8 ∷ []
+  pub order-17-8 : codes (jointOn before (freshContent 3) (replicate 17 5) []) (jointOn before (freshContent 3) (replicate 16 5) []) ≡ 4 ∷ 8 ∷ []
+  pub order-8-12 : codes (jointOn before readB (5 ∷ []) []) (jointOn before readB (5 ∷ []) row) ≡ 8 ∷ 12 ∷ []
+  pub order-12-13 : codes (jointOn before (readBWith (elsewhere ∷ [])) (7 ∷ []) row)
+      (jointOn gotB (readBWith (elsewhere ∷ [])) (7 ∷ []) row) ≡ 12 ∷ 13 ∷ []
 
 pub joint : Joint
 unfolding trailingZeros both either implies allBelow check orElse part tab sumBelow eqWords bit has isIn unite minus inserted wordIn subsetOf lowestIn lowestOf join higher ranksAbove outranks clockWords clockFrom idWordIf idWordsTo idWords idsFrom total summed clockPlaceOk clockOk idsPlaceOk idsOk boundsOk entryOk sameContent ringOk bodyWords frameWords frameOk frameOf accepts laid idsOf ownOk sessionOk rowsOf steps revealed settingsOk made maxTo clockOf reveal hold better consider bestTo current bestOwn entryCode ownCode noted readCode handed plotsOk noneOver allNoneOver jointCode notedAll threeWords answerWords newEntry missing sentOf writeCode holdAll wroteSession receiveCode holdNew receivedBy receiveSends readOn jointOn writeOn receiveOn entryAt officeOf slotWords slotsTo storeWords heldOk gapless soundOffice soundStore openOffice readPlot readJoint write receive
@@ -99,19 +103,22 @@ joint =
 
 -- "Write. 2, 3, 4 as before. 5 .. 7 .. 6 .. 12 as before. Then for each own entry in order: 10 .. 11 .. 8"
 pub record Writing : Type 0 where
-  pub order-2-3 : write [] stranger 5 1 row .code ∷ write opened stranger 5 1 row .code ∷ [] ≡ 2 ∷ 3 ∷ []
-  pub order-3-4 : writeOn before stranger 64 1 row .code ∷ writeOn before (freshContent 3) 64 1 row .code ∷ [] ≡ 3 ∷ 4 ∷ []
-  pub order-4-5 : writeOn before (freshContent 3) 64 268435456 row .code ∷ writeOn before (freshContent 3) 63 268435456 row .code ∷ [] ≡ 4 ∷ 5 ∷ []
-  pub order-5-7 : writeOn before (loaded 16) 5 268435456 row .code ∷ writeOn before (loaded 16) 5 268435455 row .code ∷ [] ≡ 5 ∷ 7 ∷ []
-  pub order-7-6 : writeOn made32 (loaded 16) 5 1 row .code ∷ writeOn made32 (loaded 15) 5 1 row .code ∷ [] ≡ 7 ∷ 6 ∷ []
-  pub order-6-12 : writeOn made32 readB 5 1 row .code ∷ writeOn before readB 5 1 row .code ∷ [] ≡ 6 ∷ 12 ∷ []
-  pub order-12-10 : writeOn before (readBWith (unmade zeros ∷ [])) 5 1 row .code ∷ writeOn gotB (readBWith (unmade zeros ∷ [])) 5 1 row .code ∷ [] ≡ 12 ∷ 10 ∷ []
-  pub order-12-11 : writeOn (gotA 1) (readBWith (otherValue ∷ [])) 5 1 row .code ∷ writeOn gotB (readBWith (otherValue ∷ [])) 5 1 row .code ∷ [] ≡ 12 ∷ 11 ∷ []
+  pub order-2-3 : codes (write [] stranger 5 1 row) (write opened stranger 5 1 row) ≡ 2 ∷ 3 ∷ []
+  pub order-3-4 : codes (writeOn before stranger 64 1 row) (writeOn before (freshContent 3) 64 1 row) ≡ 3 ∷ 4 ∷ []
+  pub order-4-5 : codes (writeOn before (freshContent 3) 64 268435456 row) (writeOn before (freshContent 3) 63 268435456 row) ≡ 4 ∷ 5 ∷ []
+  pub order-5-7 : codes (writeOn before (loaded 16) 5 268435456 row) (writeOn before (loaded 16) 5 268435455 row) ≡ 5 ∷ 7 ∷ []
+  pub order-7-6 : codes (writeOn made32 (loaded 16) 5 1 row) (writeOn made32 (loaded 15) 5 1 row) ≡ 7 ∷ 6 ∷ []
+  pub order-6-12 : codes (writeOn made32 readB 5 1 row) (writeOn before readB 5 1 row) ≡ 6 ∷ 12 ∷ []
+  pub order-12-10 : codes (writeOn before (readBWith (unmade zeros ∷ [])) 5 1 row)
+      (writeOn gotB (readBWith (unmade zeros ∷ [])) 5 1 row) ≡ 12 ∷ 10 ∷ []
+  pub order-12-11 : codes (writeOn (gotA 1) (readBWith (otherValue ∷ [])) 5 1 row) (writeOn gotB (readBWith (otherValue ∷ [])) 5 1 row) ≡ 12 ∷ 11 ∷ []
   -- no entry is refused with both 10 and 11: the one is not held, the other is. "for each own entry in order": of two, the earlier one's comes first
-  pub earlier-11 : writeOn (gotA 1) (carrying (otherValue ∷ unmade zeros ∷ [])) 5 1 row .code ∷ writeOn (gotA 1) (carrying (entryA ∷ unmade zeros ∷ [])) 5 1 row .code ∷ [] ≡ 11 ∷ 10 ∷ []
-  pub earlier-10 : writeOn (gotA 1) (carrying (unmade zeros ∷ otherValue ∷ [])) 5 1 row .code ∷ writeOn (gotA 1) (carrying (elsewhere ∷ otherValue ∷ [])) 5 1 row .code ∷ [] ≡ 10 ∷ 11 ∷ []
-  pub order-10-8 : writeOn before (carrying (unmade zeros ∷ [])) 5 1 [] .code ∷ writeOn before (carrying (elsewhere ∷ [])) 5 1 [] .code ∷ [] ≡ 10 ∷ 8 ∷ []
-  pub order-11-8 : writeOn (gotA 1) (carrying (otherValue ∷ [])) 5 1 [] .code ∷ writeOn (gotA 1) (carrying (entryA ∷ [])) 5 1 [] .code ∷ [] ≡ 11 ∷ 8 ∷ []
+  pub earlier-11 : codes (writeOn (gotA 1) (carrying (otherValue ∷ unmade zeros ∷ [])) 5 1 row)
+      (writeOn (gotA 1) (carrying (entryA ∷ unmade zeros ∷ [])) 5 1 row) ≡ 11 ∷ 10 ∷ []
+  pub earlier-10 : codes (writeOn (gotA 1) (carrying (unmade zeros ∷ otherValue ∷ [])) 5 1 row)
+      (writeOn (gotA 1) (carrying (elsewhere ∷ otherValue ∷ [])) 5 1 row) ≡ 10 ∷ 11 ∷ []
+  pub order-10-8 : codes (writeOn before (carrying (unmade zeros ∷ [])) 5 1 []) (writeOn before (carrying (elsewhere ∷ [])) 5 1 []) ≡ 10 ∷ 8 ∷ []
+  pub order-11-8 : codes (writeOn (gotA 1) (carrying (otherValue ∷ [])) 5 1 []) (writeOn (gotA 1) (carrying (entryA ∷ [])) 5 1 []) ≡ 11 ∷ 8 ∷ []
 
 pub writing : Writing
 unfolding trailingZeros both either implies allBelow check orElse part tab sumBelow eqWords bit has isIn unite minus inserted wordIn subsetOf lowestIn lowestOf join higher ranksAbove outranks clockWords clockFrom idWordIf idWordsTo idWords idsFrom total summed clockPlaceOk clockOk idsPlaceOk idsOk boundsOk entryOk sameContent ringOk bodyWords frameWords frameOk frameOf accepts laid idsOf ownOk sessionOk rowsOf steps revealed settingsOk made maxTo clockOf reveal hold better consider bestTo current bestOwn entryCode ownCode noted readCode handed plotsOk noneOver allNoneOver jointCode notedAll threeWords answerWords newEntry missing sentOf writeCode holdAll wroteSession receiveCode holdNew receivedBy receiveSends readOn jointOn writeOn receiveOn entryAt officeOf slotWords slotsTo storeWords heldOk gapless soundOffice soundStore openOffice readPlot readJoint write receive
@@ -133,16 +140,19 @@ writing =
 
 -- "Hear a frame. 2 as before. 9 .. 10, 11 .. 12 .. 8"
 pub record Receiving : Type 0 where
-  pub order-2-9 : receive [] [] [] .code ∷ receive opened [] [] .code ∷ [] ≡ 2 ∷ 9 ∷ []
+  pub order-2-9 : codes (receive [] [] []) (receive opened [] []) ≡ 2 ∷ 9 ∷ []
   -- one word more than the frame: what it says of its entry is as before
-  pub order-9-10 : receive opened (frameWords (framed 3 1 (unmade zeros)) ++ (0 ∷ [])) row .code ∷ receive opened (frameWords (framed 3 1 (unmade zeros))) row .code ∷ [] ≡ 9 ∷ 10 ∷ []
-  pub order-9-11 : receive storedA (frameWords (framed 3 1 otherValue) ++ (0 ∷ [])) row .code ∷ receive storedA (frameWords (framed 3 1 otherValue)) row .code ∷ [] ≡ 9 ∷ 11 ∷ []
+  pub order-9-10 : codes (receive opened (frameWords (framed 3 1 (unmade zeros)) ++ (0 ∷ [])) row)
+      (receive opened (frameWords (framed 3 1 (unmade zeros))) row) ≡ 9 ∷ 10 ∷ []
+  pub order-9-11 : codes (receive storedA (frameWords (framed 3 1 otherValue) ++ (0 ∷ [])) row)
+      (receive storedA (frameWords (framed 3 1 otherValue)) row) ≡ 9 ∷ 11 ∷ []
   -- 10 and 11 exclude each other, as above
-  pub order-10-12 : receiveOn before (framed 3 1 (unmade (1 ∷ 0 ∷ 0 ∷ 0 ∷ 0 ∷ 0 ∷ 0 ∷ 0 ∷ []))) row .code ∷ receiveOn before (framed 3 1 entryB) row .code ∷ [] ≡ 10 ∷ 12 ∷ []
-  pub order-11-12 : receiveOn (gotA 1) (framed 3 1 otherDeps) row .code ∷ receiveOn before (framed 3 1 otherDeps) row .code ∷ [] ≡ 11 ∷ 12 ∷ []
-  pub order-12-8 : receiveOn before (framed 3 1 entryB) [] .code ∷ receiveOn (gotA 1) (framed 3 1 entryB) [] .code ∷ [] ≡ 12 ∷ 8 ∷ []
-  pub order-10-8 : receiveOn before (framed 3 1 (unmade zeros)) [] .code ∷ receiveOn before (framed 3 1 elsewhere) [] .code ∷ [] ≡ 10 ∷ 8 ∷ []
-  pub order-11-8 : receiveOn (gotA 1) (framed 3 1 otherValue) [] .code ∷ receiveOn (gotA 1) (framed 3 1 entryA) [] .code ∷ [] ≡ 11 ∷ 8 ∷ []
+  pub order-10-12 : codes (receiveOn before (framed 3 1 (unmade (1 ∷ 0 ∷ 0 ∷ 0 ∷ 0 ∷ 0 ∷ 0 ∷ 0 ∷ []))) row)
+      (receiveOn before (framed 3 1 entryB) row) ≡ 10 ∷ 12 ∷ []
+  pub order-11-12 : codes (receiveOn (gotA 1) (framed 3 1 otherDeps) row) (receiveOn before (framed 3 1 otherDeps) row) ≡ 11 ∷ 12 ∷ []
+  pub order-12-8 : codes (receiveOn before (framed 3 1 entryB) []) (receiveOn (gotA 1) (framed 3 1 entryB) []) ≡ 12 ∷ 8 ∷ []
+  pub order-10-8 : codes (receiveOn before (framed 3 1 (unmade zeros)) []) (receiveOn before (framed 3 1 elsewhere) []) ≡ 10 ∷ 8 ∷ []
+  pub order-11-8 : codes (receiveOn (gotA 1) (framed 3 1 otherValue) []) (receiveOn (gotA 1) (framed 3 1 entryA) []) ≡ 11 ∷ 8 ∷ []
 
 pub receiving : Receiving
 unfolding trailingZeros both either implies allBelow check orElse part tab sumBelow eqWords bit has isIn unite minus inserted wordIn subsetOf lowestIn lowestOf join higher ranksAbove outranks clockWords clockFrom idWordIf idWordsTo idWords idsFrom total summed clockPlaceOk clockOk idsPlaceOk idsOk boundsOk entryOk sameContent ringOk bodyWords frameWords frameOk frameOf accepts laid idsOf ownOk sessionOk rowsOf steps revealed settingsOk made maxTo clockOf reveal hold better consider bestTo current bestOwn entryCode ownCode noted readCode handed plotsOk noneOver allNoneOver jointCode notedAll threeWords answerWords newEntry missing sentOf writeCode holdAll wroteSession receiveCode holdNew receivedBy receiveSends readOn jointOn writeOn receiveOn entryAt officeOf slotWords slotsTo storeWords heldOk gapless soundOffice soundStore openOffice readPlot readJoint write receive

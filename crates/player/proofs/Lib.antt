@@ -17,5 +17,6 @@ pub mod Runs
 pub mod Started
 pub mod Enough
 pub mod Table
+pub mod Full
 pub mod Rows
 pub mod Never

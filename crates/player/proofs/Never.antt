@@ -11,7 +11,6 @@ use borrow.Author.Tests.{ltb-true}
 use Rattle.causal.specs.Tests.{both}
 use Rattle.causal.proofs.Tests.{both-true}
 use Rattle.store.specs.Offices.{Office, officeOf}
-use Rattle.ring.specs.Lines.{starts}
 use Rattle.ring.specs.Run.{Call, Tracked, at, contentsRun, onWords, run, step, wordsRun}
 use Rattle.ring.proofs.Steps.{contents-ok, ok-whole}
 use Rattle.ring.proofs.Theorem.{demand3}
@@ -19,7 +18,7 @@ use Rattle.script.specs.declared.line.Line.{Line}
 use Rattle.script.specs.declared.line.Line.the-variants.{Move, Other, Read, Receive, Write}
 use Rattle.script.specs.declared.reply.Reply.{Reply}
 use Rattle.script.specs.declared.reply.Reply.the-variants.{Full, Moved, Odd, Refused}
-use Rattle.player.specs.Play.{Ring, Scene, called, crowded, moved, opening, placeOf, play, playAll, playRead, playReceive, playWrite, settled}
+use Rattle.player.specs.Play.{Ring, Scene, called, crowded, moved, opening, placeOf, play, playAll, playRead, playReceive, playWrite, settled, starts}
 use Rattle.player.proofs.Enough.{never-8-at}
 use Rattle.player.proofs.Runs.{play-run, run-append}
 

@@ -8,14 +8,13 @@ use lib.Dec.{ltb}
 use lib.ListN.{length}
 use Rattle.causal.specs.Tests.{both}
 use Rattle.ring.specs.Holds.{Holds}
-use Rattle.ring.specs.Lines.{starts}
 use Rattle.ring.specs.Run.{Call, Tracked, at, contentsRun, onWords, run, step, wordsRun}
 use Rattle.ring.proofs.Theorem.{demand3}
 use Rattle.script.specs.declared.line.Line.{Line}
 use Rattle.script.specs.declared.line.Line.the-variants.{Move, Other, Read, Receive, Write}
 use Rattle.script.specs.declared.reply.Reply.{Reply}
 use Rattle.script.specs.declared.reply.Reply.the-variants.{Full, Odd}
-use Rattle.player.specs.Play.{Ring, Scene, called, crowded, opening, placeOf, play, playAll, playRead, playReceive, playWrite, settled}
+use Rattle.player.specs.Play.{Ring, Scene, called, crowded, opening, placeOf, play, playAll, playRead, playReceive, playWrite, settled, starts}
 
 -- the ring h is the ring g after some calls
 abbrev pub After : Ring → Ring → Type 0

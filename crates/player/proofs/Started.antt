@@ -17,11 +17,10 @@ use Rattle.frame.proofs.OwnTurns.{content-back}
 use Rattle.store.specs.Offices.{emptyOffice, settingsOk, storeWords}
 use Rattle.office.specs.Answers.{freshBy}
 use Rattle.office.specs.Calls.{freshCode, openOffice}
-use Rattle.ring.specs.Lines.{starts}
 use Rattle.ring.specs.Run.{Tracked, at, run, step, wordsRun}
 use Rattle.player.specs.declared.desk.Desk.{Desk}
 use Rattle.player.specs.Desks.{countAt, firstAt, noSession, sessionAt}
-use Rattle.player.specs.Play.{opening}
+use Rattle.player.specs.Play.{opening, starts}
 use Rattle.player.specs.Shows.{Queue, Session-is, Shows, storesIn}
 use Rattle.player.proofs.Delivery.{put-back}
 

@@ -1,8 +1,10 @@
--- The table of paper 01, "The ring program": the eleven replies by computing, over stores and rows of zeros. Assumes nothing.
+-- The script of paper 01, "The ring program", by computing over stores and rows of zeros, as the program has them: the eleven replies, and the
+-- frames that the first and the third line send. Assumes nothing.
+use Prim.Native.Nat.{ℕ}
 use mathlib.Core.List.{List, [], _∷_, map}
 use mathlib.Core.Path.{_≡_, refl}
 use lib.Count.{trailingZeros}
-use lib.ListN.{replicate}
+use lib.ListN.{replicate, take}
 use Rattle.causal.specs.Clocks.{join}
 use Rattle.causal.specs.Codes.{check, orElse}
 use Rattle.causal.specs.Lists.{eqWords, part, sumBelow, tab}
@@ -23,19 +25,25 @@ use Rattle.store.specs.Offices.{entryAt, gapless, heldOk, officeOf, slotWords, 
 use Rattle.office.specs.Calls.{openOffice, readPlot, receive, write}
 use Rattle.ring.specs.Run.{onWords, wordsRun}
 use Rattle.script.specs.declared.line.Line.{Line}
-use Rattle.script.specs.declared.line.Line.the-variants.{Move, Read, Receive, Write}
-use Rattle.script.specs.declared.reply.Reply.{Reply}
-use Rattle.script.specs.declared.reply.Reply.the-variants.{Found, Moved, NoEntry, Received, Wrote}
-use Rattle.player.specs.Play.{crowded, opening, play, playAll, playRead, playReceive, playWrite, readReply, settled, wroteReply}
+use Rattle.script.proofs.Cases.{tableLines, tableReplies}
+use Rattle.frame.proofs.Cases.{rowA, rowB}
+use Rattle.player.specs.Play.{Scene, crowded, opening, play, playAll, playRead, playReceive, playWrite, readReply, settled, wroteReply}
 
-abbrev pub tableLines : List Line
-tableLines =
-    Write 0 5 709 ∷ Move 0 1 ∷ Write 0 6 1 ∷ Read 1 6 ∷ Receive 2 ∷ Receive 2 ∷ Receive 0 ∷ Receive 0 ∷ Read 1 6 ∷ Move 1 2 ∷ Read 1 5 ∷ []
+abbrev pub zeroRows : ℕ → List ℕ
+zeroRows o = replicate 1747 0
 
-abbrev pub tableReplies : List Reply
-tableReplies =
-    Wrote 0 1 ∷ Moved ∷ Wrote 1 1 ∷ NoEntry ∷ Received 1 ∷ Received 0 ∷ Received 1 ∷ Received 0 ∷ Found 1 1 1 ∷ Moved ∷ Found 709 0 1 ∷ []
+-- the lines, each with an out row of zeros, played from the opening on
+abbrev pub zeroRowed : List Line → List (List ℕ × Line)
+zeroRowed ls = map (λ (l : Line). (replicate 1751 0, l)) ls
 
-pub table-plays : playAll (opening (λ o. replicate 1747 0)) (map (λ (l : Line). (replicate 1751 0, l)) tableLines) .1 ≡ tableReplies
+abbrev sceneAfter : List Line → Scene
+sceneAfter ls = playAll (opening zeroRows) (zeroRowed ls) .0
+
+pub record Plays : Type 0 where
+  pub replies : playAll (opening zeroRows) (zeroRowed tableLines) .1 ≡ tableReplies
+  pub first-sends : sceneAfter (take 1 tableLines) .ring .lines 1 ≡ rowA ∷ []
+  pub third-sends : sceneAfter (take 3 tableLines) .ring .lines 2 ≡ rowA ∷ rowB ∷ []
+
+pub table-plays : Plays
 unfolding trailingZeros both either implies allBelow check orElse part tab sumBelow eqWords bit has isIn unite minus inserted wordIn subsetOf lowestIn lowestOf join higher ranksAbove outranks clockWords clockFrom idWordIf idWordsTo idWords idsFrom total summed clockPlaceOk clockOk idsPlaceOk idsOk boundsOk entryOk sameContent ringOk bodyWords frameWords frameOk frameOf accepts laid idsOf ownOk sessionOk rowsOf steps revealed settingsOk made maxTo clockOf reveal hold better consider bestTo current bestOwn entryCode ownCode noted readCode handed newEntry missing sentOf writeCode holdAll wroteSession receiveCode holdNew receivedBy receiveSends readOn writeOn receiveOn readPlot write receive openOffice entryAt officeOf slotWords slotsTo storeWords heldOk gapless soundOffice soundStore freshCode at upd nextOf writerPast gained together lastOf step run onWords wordsRun crowded settled wroteReply readReply playWrite playRead playReceive play playAll
-table-plays = refl
+table-plays = record { replies = refl; first-sends = refl; third-sends = refl }

@@ -8,8 +8,7 @@ use Rattle.causal.specs.Tests.{allBelow, both}
 use Rattle.frame.specs.declared.entry.Entry.{Entry}
 use Rattle.store.specs.Offices.{Found, None, Some}
 use Rattle.office.specs.Calls.{readPlot, receive, write}
-use Rattle.ring.specs.Lines.{starts}
-use Rattle.ring.specs.Run.{Call, State, Tracked, at, lastOf, onWords, reading, receiving, step, wordsRun, writing}
+use Rattle.ring.specs.Run.{Call, State, Tracked, at, fresh, lastOf, onWords, reading, receiving, step, wordsRun, writing}
 use Rattle.script.specs.declared.line.Line.{Line}
 use Rattle.script.specs.declared.line.Line.the-variants.{Move, Other, Read, Receive, Write}
 use Rattle.script.specs.declared.reply.Reply.{Reply}
@@ -76,6 +75,10 @@ play row g (Read i plot) = cond (ltb i 4) (playRead g (placeOf g i) i plot (at (
 play row g (Move i o) = cond (both (ltb i 4) (ltb o 3)) (moved g i o, Moved) (g, Odd)
 play row g (Receive o) = cond (ltb o 3) (playReceive row g o (g .ring .lines o)) (g, Odd)
 play row g Other = (g, Odd)
+
+-- "errands 0 to 3": four fresh ones
+abbrev pub starts : List Call
+starts = fresh 3 ∷ fresh 3 ∷ fresh 3 ∷ fresh 3 ∷ []
 
 -- "3 offices, 64 plots, errands 0 to 3 starting at office 0": rows are the stores as they came
 abbrev pub opening : (ℕ → List ℕ) → Scene

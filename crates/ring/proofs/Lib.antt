@@ -1,4 +1,3 @@
-pub mod Cases
 pub mod Fit
 pub mod ByCases
 pub mod Change
@@ -13,10 +12,9 @@ pub mod Sounds
 pub mod SameRun
 pub mod Theorem
 pub mod Corrects
-pub mod Played
 pub mod Promises
-pub mod Table
-pub mod More
+pub mod EveryCall
+pub mod NoCall
 pub mod Cuts
 pub mod Sized
 pub mod Claim

@@ -1,6 +1,5 @@
 pub mod Run
 pub mod Holds
-pub mod Lines
 pub mod Answers
 pub mod Claim
 pub mod Demand

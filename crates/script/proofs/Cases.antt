@@ -7,15 +7,16 @@ use Rattle.causal.specs.Lists.{eqWords}
 use Rattle.script.specs.Fields.{fields, inFront, isDigit, allDigits, proper, valueOf, isBelow}
 use Rattle.script.specs.Lines.{lineIn, lineOf}
 use Rattle.script.specs.Replies.{decimal, digitsIn, nameBytes, numbered, replyBytes}
+use Rattle.script.specs.declared.line.Line.{Line}
 use Rattle.script.specs.declared.line.Line.the-variants.{Write, Read, Move, Receive, Other}
 use Rattle.script.specs.declared.reply.Reply.{Reply}
 use Rattle.script.specs.declared.reply.Reply.the-variants.{Wrote, Found, NoEntry, Moved, Received, NoFrame, Refused, Full, Odd}
 
 -- ---- the table of 01
 
--- its input, line by line
-abbrev pub tableLines : List (List ℕ)
-tableLines =
+-- its input, line by line, as bytes
+abbrev pub tableInput : List (List ℕ)
+tableInput =
     (87 ∷ 32 ∷ 48 ∷ 32 ∷ 53 ∷ 32 ∷ 55 ∷ 48 ∷ 57 ∷ []) ∷  -- W 0 5 709
     (77 ∷ 32 ∷ 48 ∷ 32 ∷ 49 ∷ []) ∷  -- M 0 1
     (87 ∷ 32 ∷ 48 ∷ 32 ∷ 54 ∷ 32 ∷ 49 ∷ []) ∷  -- W 0 6 1
@@ -30,8 +31,9 @@ tableLines =
     []
 
 -- what each line asks for
-pub table-asks : map lineOf tableLines
-    ≡ Write 0 5 709
+abbrev pub tableLines : List Line
+tableLines =
+    Write 0 5 709
     ∷ Move 0 1
     ∷ Write 0 6 1
     ∷ Read 1 6
@@ -43,6 +45,8 @@ pub table-asks : map lineOf tableLines
     ∷ Move 1 2
     ∷ Read 1 5
     ∷ []
+
+pub table-asks : map lineOf tableInput ≡ tableLines
 unfolding lineOf lineIn fields inFront isDigit allDigits proper valueOf isBelow both eqWords
 table-asks = refl
 
@@ -61,20 +65,23 @@ tableReplies = Wrote 0 1
     ∷ Found 709 0 1
     ∷ []
 
--- and as bytes
-pub table-prints : map replyBytes tableReplies
-    ≡ (87 ∷ 32 ∷ 48 ∷ 46 ∷ 49 ∷ 10 ∷ [])
-    ∷ (77 ∷ 32 ∷ 111 ∷ 107 ∷ 10 ∷ [])
-    ∷ (87 ∷ 32 ∷ 49 ∷ 46 ∷ 49 ∷ 10 ∷ [])
-    ∷ (82 ∷ 32 ∷ 110 ∷ 111 ∷ 110 ∷ 101 ∷ 10 ∷ [])
-    ∷ (72 ∷ 32 ∷ 49 ∷ 10 ∷ [])
-    ∷ (72 ∷ 32 ∷ 48 ∷ 10 ∷ [])
-    ∷ (72 ∷ 32 ∷ 49 ∷ 10 ∷ [])
-    ∷ (72 ∷ 32 ∷ 48 ∷ 10 ∷ [])
-    ∷ (82 ∷ 32 ∷ 49 ∷ 32 ∷ 49 ∷ 46 ∷ 49 ∷ 10 ∷ [])
-    ∷ (77 ∷ 32 ∷ 111 ∷ 107 ∷ 10 ∷ [])
-    ∷ (82 ∷ 32 ∷ 55 ∷ 48 ∷ 57 ∷ 32 ∷ 48 ∷ 46 ∷ 49 ∷ 10 ∷ [])
-    ∷ []
+-- and as bytes, each with its newline
+abbrev pub tableOutput : List (List ℕ)
+tableOutput =
+    (87 ∷ 32 ∷ 48 ∷ 46 ∷ 49 ∷ 10 ∷ []) ∷  -- W 0.1
+    (77 ∷ 32 ∷ 111 ∷ 107 ∷ 10 ∷ []) ∷  -- M ok
+    (87 ∷ 32 ∷ 49 ∷ 46 ∷ 49 ∷ 10 ∷ []) ∷  -- W 1.1
+    (82 ∷ 32 ∷ 110 ∷ 111 ∷ 110 ∷ 101 ∷ 10 ∷ []) ∷  -- R none
+    (72 ∷ 32 ∷ 49 ∷ 10 ∷ []) ∷  -- H 1
+    (72 ∷ 32 ∷ 48 ∷ 10 ∷ []) ∷  -- H 0
+    (72 ∷ 32 ∷ 49 ∷ 10 ∷ []) ∷  -- H 1
+    (72 ∷ 32 ∷ 48 ∷ 10 ∷ []) ∷  -- H 0
+    (82 ∷ 32 ∷ 49 ∷ 32 ∷ 49 ∷ 46 ∷ 49 ∷ 10 ∷ []) ∷  -- R 1 1.1
+    (77 ∷ 32 ∷ 111 ∷ 107 ∷ 10 ∷ []) ∷  -- M ok
+    (82 ∷ 32 ∷ 55 ∷ 48 ∷ 57 ∷ 32 ∷ 48 ∷ 46 ∷ 49 ∷ 10 ∷ []) ∷  -- R 709 0.1
+    []
+
+pub table-prints : map replyBytes tableReplies ≡ tableOutput
 unfolding replyBytes nameBytes numbered decimal digitsIn
 table-prints = refl
 

@@ -1,0 +1,194 @@
+-- A run with every kind of call, accepted and refused, and with every way in which a call finds nothing to do: what it leads to, by computing on
+-- contents, and so on words whatever the rows held before they were opened. It begins as the script of paper 01's table. So the definitions
+-- of a run do what they say, also where the script does not go: joint readings, tokens, copies, refusals, other words. Assumes nothing.
+use Prim.Native.Nat.{ℕ, _<_, _≤_}
+use mathlib.Core.List.{List, [], _++_, _∷_, map}
+use mathlib.Core.Path.{_∙_, _≡_, refl}
+use native.Mathlib.Omega.{arith}
+use lib.Count.{trailingZeros}
+use lib.ListN.{length, replicate, take}
+use Rattle.causal.specs.Clocks.{join}
+use Rattle.causal.specs.Codes.{check, orElse}
+use Rattle.causal.specs.Lists.{eqWords, part, sumBelow, tab}
+use Rattle.causal.specs.Rank.{higher, ranksAbove}
+use Rattle.causal.specs.Sets.{bit, has, inserted, isIn, lowestIn, lowestOf, minus, subsetOf, unite, wordIn}
+use Rattle.causal.specs.Tests.{allBelow, both, either, implies}
+use Rattle.frame.specs.Calls.{laid, laidIf}
+use Rattle.frame.specs.Entries.{boundsOk, clockOk, clockPlaceOk, entryOk, idOf, idsOk, idsPlaceOk, outranks, sameContent}
+use Rattle.frame.specs.Frames.{accepts, bodyWords, frameOf, frameOk, frameWords, ringOk}
+use Rattle.frame.specs.Sessions.{idsOf, ownOk, sessionOk}
+use Rattle.frame.specs.TokenCalls.{writeTokenCode, writeTokenRow}
+use Rattle.frame.specs.Tokens.{rowsOf, tokenWords}
+use Rattle.frame.specs.Words.{clockFrom, clockWords, idWordIf, idWords, idWordsTo, idsFrom, summed, total}
+use Rattle.frame.proofs.Cases.{entryA, entryB, rowA, rowB}
+use Rattle.store.specs.Offices.{None, Some, bestOwn, bestTo, better, clockOf, consider, current, hold, made, maxTo, need, reveal, settingsOk}
+use Rattle.store.specs.Reveal.{revealed, steps}
+use Rattle.office.specs.Calls.{allNoneOver, answerWords, entryCode, freshCode, handed, holdAll, holdNew, jointCode, jointOn, missing, newEntry, noneOver, noted, notedAll, ownCode, plotsOk, readCode, readOn, receiveCode, receiveOn, receiveSends, receivedBy, sentOf, threeWords, writeCode, writeOn, wroteSession}
+use Rattle.ring.specs.Holds.{Same, tokenOn}
+use Rattle.ring.specs.Run.{Call, Event, Made, Tracked, at, contentsRun, copy-session, copy-token, fresh, gained, joint, lastOf, nextOf, onContents, reading, receiving, receiving-words, run, step, together, token-reading, token-writing, upd, wordsRun, writerPast, writing}
+use Rattle.ring.proofs.Theorem.{demand3}
+
+abbrev row : List ℕ
+row = replicate 64 0
+
+-- ---- the calls
+
+-- sessions 0 to 3 start; then the lines of the script, each with the office at which the session stands. A move is no call
+abbrev pub script : List Call
+script =
+    fresh 3
+    ∷ fresh 3
+    ∷ fresh 3
+    ∷ fresh 3
+    ∷ writing 0 0 5 709 row
+    ∷ writing 1 0 6 1 row
+    ∷ reading 0 1 6
+    ∷ receiving 2 row
+    ∷ receiving 2 row
+    ∷ receiving 0 row
+    ∷ receiving 0 row
+    ∷ reading 0 1 6
+    ∷ reading 2 1 5
+    ∷ []
+
+abbrev pub others : List Call
+others =
+    joint 2 1 (5 ∷ 6 ∷ 7 ∷ 5 ∷ []) row  -- A, B, none, A again
+    ∷ joint 2 1 (5 ∷ []) []  -- 8
+    ∷ token-writing 1 row
+    ∷ token-writing 1 []  -- 8
+    ∷ token-reading 0 3 4  -- no own entries, so four plots cover it: session 4
+    ∷ token-reading 0 4 64  -- of another ring size: 9
+    ∷ copy-session 4  -- session 5
+    ∷ copy-token 0  -- token 1
+    ∷ receiving-words 0 (1 ∷ 2 ∷ []) row  -- no frame: 9
+    ∷ writing 1 5 3 8 row  -- 1.2, by a copy of a session read from a token
+    ∷ receiving 2 []  -- 8, and its frame stays
+    ∷ joint 0 5 (3 ∷ []) row  -- 13
+    ∷ fresh 9  -- 1
+    ∷ writing 0 0 64 1 row  -- 4
+    ∷ reading 0 1 64  -- 4
+    ∷ token-reading 0 9 64  -- 1
+    ∷ fresh 4  -- session 6, of another ring
+    ∷ reading 0 6 5  -- 3
+    ∷ []
+
+-- no such office; no such session; no such token; no frame waits; words that would not be refused with 9 (proofs/NoCall.antt: they change nothing)
+abbrev pub absent : List Call
+absent =
+    writing 3 0 5 1 row
+    ∷ reading 3 0 5
+    ∷ joint 3 0 [] row
+    ∷ receiving 3 row
+    ∷ receiving-words 3 [] row
+    ∷ writing 0 7 5 1 row
+    ∷ reading 0 7 5
+    ∷ joint 0 7 [] row
+    ∷ token-writing 7 row
+    ∷ copy-session 7
+    ∷ token-reading 2 3 64
+    ∷ copy-token 2
+    ∷ receiving 0 row
+    ∷ receiving-words 2 rowA row
+    ∷ []
+
+abbrev pub everyCall : List Call
+everyCall = script ++ (others ++ absent)
+
+-- ---- what they lead to: replies, sessions, entries made
+
+-- the token of session 1; the frame of 1.2
+abbrev pub token : List ℕ
+token = 0x83000002 ∷ 0x50000001 ∷ 0x50000001 ∷ 0x50000000 ∷ 0x60000001 ∷ 0x60000101 ∷ 0xF3000106 ∷ []
+
+abbrev pub rowC : List ℕ
+rowC = 0x11021302 ∷ 0x30000003 ∷ 0x40000008 ∷ 0x50000001 ∷ 0x50000002 ∷ 0x50000000 ∷ 0x60000001 ∷ 0x60000101 ∷ 0xF1021412 ∷ []
+
+-- the past of session 1: it read 1.1 (id 32), whose writer had written 0.1 (id 0); 0.1; and jointly 0.1, 1.1 and 0.1 again
+abbrev pub past-1 : List ℕ
+past-1 = 0 ∷ 32 ∷ 0 ∷ 0 ∷ 0 ∷ 32 ∷ 0 ∷ []
+
+pub record Led (events : List Event) (sessions : List Tracked) (log : List Made) : Type 0 where
+  -- the script; then `others`; `absent` leaves no reply
+  pub codes : map (λ (v : Event). v .code) events
+      ≡ 0 ∷ 0 ∷ 0 ∷ 0 ∷ 0 ∷ 0 ∷ 0 ∷ 0 ∷ 0 ∷ 0 ∷ 0 ∷ 0 ∷ 0
+      ∷ 0 ∷ 8 ∷ 0 ∷ 8 ∷ 0 ∷ 9 ∷ 9 ∷ 0 ∷ 8 ∷ 13 ∷ 1 ∷ 4 ∷ 4 ∷ 1 ∷ 0 ∷ 3 ∷ []
+  -- the script's last reading, and the joint one: what was handed back, the past, the answer row
+  pub last-read : map (λ (v : Event). v .reads) (at events 12) ≡ ((5, Some entryA) ∷ []) ∷ []
+  pub last-past : map (λ (v : Event). v .past) (at events 12) ≡ (0 ∷ 32 ∷ 0 ∷ []) ∷ []
+  pub joint-read : map (λ (v : Event). v .reads) (at events 13)
+      ≡ ((5, Some entryA) ∷ (6, Some entryB) ∷ (7, None) ∷ (5, Some entryA) ∷ []) ∷ []
+  pub joint-past : map (λ (v : Event). v .past) (at events 13) ≡ past-1 ∷ []
+  pub joint-row : map (λ (v : Event). take 13 (v .row)) (at events 13) ≡ (1 ∷ 709 ∷ 1 ∷ 1 ∷ 1 ∷ 257 ∷ 0 ∷ 0 ∷ 0 ∷ 1 ∷ 709 ∷ 1 ∷ 0 ∷ []) ∷ []
+  -- the token's words in its row
+  pub token-count : map (λ (v : Event). v .count) (at events 15) ≡ 7 ∷ []
+  pub token-row : map (λ (v : Event). take 7 (v .row)) (at events 15) ≡ token ∷ []
+  -- sessions read from tokens, and copies, keep the past of their origin
+  pub pasts : map (λ (r : Tracked). r .past) sessions ≡ (32 ∷ 0 ∷ []) ∷ past-1 ∷ [] ∷ [] ∷ past-1 ∷ (33 ∷ past-1) ∷ [] ∷ []
+  pub entries-made : map (λ (m : Made). idOf (m .entry)) log ≡ 0 ∷ 32 ∷ 33 ∷ []
+
+-- .. and frames and tokens
+pub record EveryCall (rows : ℕ → List ℕ) : Type 0 where
+  pub led : Led (wordsRun 3 64 rows everyCall .events) (wordsRun 3 64 rows everyCall .sessions) (wordsRun 3 64 rows everyCall .log)
+  -- the first write sends A to office 1; the second sends "A again, then B" to office 2
+  pub sent-1 : wordsRun 3 64 rows (take 5 script) .lines 1 ≡ rowA ∷ []
+  pub sent-2 : wordsRun 3 64 rows (take 6 script) .lines 2 ≡ rowA ∷ rowB ∷ []
+  -- of those that wait at the end, that of 1.2 was refused with 8
+  pub waiting-0 : wordsRun 3 64 rows everyCall .lines 0 ≡ []
+  pub waiting-1 : wordsRun 3 64 rows everyCall .lines 1 ≡ rowA ∷ []
+  pub waiting-2 : wordsRun 3 64 rows everyCall .lines 2 ≡ rowC ∷ []
+  pub tokens : wordsRun 3 64 rows everyCall .tokens ≡ record { token = token; past = past-1 } ∷ record { token = token; past = past-1 } ∷ []
+
+-- ---- on contents, by computing
+
+pub record Computed : Type 0 where
+  pub led : Led (contentsRun 3 64 everyCall .events) (contentsRun 3 64 everyCall .sessions) (contentsRun 3 64 everyCall .log)
+  pub sent-1 : map frameWords (contentsRun 3 64 (take 5 script) .lines 1) ≡ rowA ∷ []
+  pub sent-2 : map frameWords (contentsRun 3 64 (take 6 script) .lines 2) ≡ rowA ∷ rowB ∷ []
+  pub waiting-0 : map frameWords (contentsRun 3 64 everyCall .lines 0) ≡ []
+  pub waiting-1 : map frameWords (contentsRun 3 64 everyCall .lines 1) ≡ rowA ∷ []
+  pub waiting-2 : map frameWords (contentsRun 3 64 everyCall .lines 2) ≡ rowC ∷ []
+  pub tokens : map tokenOn (contentsRun 3 64 everyCall .tokens) ≡ record { token = token; past = past-1 } ∷ record { token = token; past = past-1 } ∷ []
+
+pub computed : Computed
+unfolding trailingZeros both either implies allBelow check orElse part tab sumBelow eqWords bit has isIn unite minus inserted wordIn subsetOf lowestIn lowestOf join higher ranksAbove outranks clockWords clockFrom idWordIf idWordsTo idWords idsFrom total summed clockPlaceOk clockOk idsPlaceOk idsOk boundsOk entryOk sameContent ringOk bodyWords frameWords frameOk frameOf accepts laid laidIf idsOf ownOk sessionOk writeTokenCode writeTokenRow tokenWords rowsOf steps revealed settingsOk made maxTo clockOf reveal hold better consider bestTo current bestOwn entryCode ownCode noted notedAll plotsOk noneOver allNoneOver jointCode jointOn threeWords answerWords readCode handed newEntry missing sentOf writeCode holdAll wroteSession receiveCode holdNew receivedBy receiveSends readOn writeOn receiveOn freshCode at upd nextOf writerPast gained together lastOf step run onContents contentsRun
+computed =
+    record {
+      led =
+          record {
+            codes = refl;
+            last-read = refl;
+            last-past = refl;
+            joint-read = refl;
+            joint-past = refl;
+            joint-row = refl;
+            token-count = refl;
+            token-row = refl;
+            pasts = refl;
+            entries-made = refl;
+          };
+      sent-1 = refl;
+      sent-2 = refl;
+      waiting-0 = refl;
+      waiting-1 = refl;
+      waiting-2 = refl;
+      tokens = refl;
+    }
+
+-- ---- on words, by the theorem
+
+pub every-call : (rows : ℕ → List ℕ) → ((o : ℕ) → o < 3 → need 3 ≤ length (rows o)) → EveryCall rows
+every-call rows long =
+    record {
+      led =
+          rw (same everyCall .events, same everyCall .sessions, same everyCall .log) (computed .led);
+      sent-1 = same (take 5 script) .lines 1 ∙ computed .sent-1;
+      sent-2 = same (take 6 script) .lines 2 ∙ computed .sent-2;
+      waiting-0 = same everyCall .lines 0 ∙ computed .waiting-0;
+      waiting-1 = same everyCall .lines 1 ∙ computed .waiting-1;
+      waiting-2 = same everyCall .lines 2 ∙ computed .waiting-2;
+      tokens = same everyCall .tokens ∙ computed .tokens;
+    }
+  where
+    same : (cs : List Call) → Same 3 rows (wordsRun 3 64 rows cs) (contentsRun 3 64 cs)
+    same cs = demand3 3 64 (omega arith) (omega arith) (omega arith) (omega arith) rows long cs .same
