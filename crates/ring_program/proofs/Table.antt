@@ -23,12 +23,12 @@ use Rattle.ring_program.proofs.Script.{linesOf}
 use Rattle.ring_program.proofs.Whole.{fed-plays}
 
 -- rows of bytes one behind the other
-unfoldable joined : List (List ℕ) → List ℕ
+unfoldable pub joined : List (List ℕ) → List ℕ
 joined [] = []
 joined (l ∷ ls) = l ++ joined ls
 
 -- lines of the table's input, each ended by a newline
-abbrev ended : List (List ℕ) → List ℕ
+abbrev pub ended : List (List ℕ) → List ℕ
 ended ls = joined (map (λ (l : List ℕ). l ++ (10 ∷ [])) ls)
 
 abbrev pub script : List ℕ
