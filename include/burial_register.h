@@ -229,6 +229,78 @@ struct burial_token_read burial_read_token(const uint32_t *words, size_t words_l
 struct burial_written burial_write_token(struct burial_session session,
                                          uint32_t *out, size_t out_len);
 
+/* The layout to which the library is built (x86-64): the length of each struct and the place of each of its
+ * fields, in bytes. */
+#if defined(__cplusplus) && __cplusplus >= 201103L
+#define BURIAL_LAYOUT(holds) static_assert(holds, "a struct of the library has another layout here")
+#elif defined(__STDC_VERSION__) && __STDC_VERSION__ >= 201112L
+#define BURIAL_LAYOUT(holds) _Static_assert(holds, "a struct of the library has another layout here")
+#else
+#define BURIAL_LAYOUT(holds) extern char burial_layout[(holds) ? 1 : -1]
+#endif
+#define BURIAL_SIZE(name, bytes)     BURIAL_LAYOUT(sizeof(struct name) == (bytes))
+#define BURIAL_AT(name, field, byte) BURIAL_LAYOUT(offsetof(struct name, field) == (byte))
+
+BURIAL_AT(burial_entry, office, 0);
+BURIAL_AT(burial_entry, serial, 4);
+BURIAL_AT(burial_entry, plot, 8);
+BURIAL_AT(burial_entry, value, 12);
+BURIAL_AT(burial_entry, clock, 16);
+BURIAL_AT(burial_entry, deps, 48);
+BURIAL_SIZE(burial_entry, 80);
+
+BURIAL_AT(burial_frame, offices, 0);
+BURIAL_AT(burial_frame, hops, 4);
+BURIAL_AT(burial_frame, entry, 8);
+BURIAL_SIZE(burial_frame, 88);
+
+BURIAL_AT(burial_frame_read, refusal, 0);
+BURIAL_AT(burial_frame_read, frame, 4);
+BURIAL_SIZE(burial_frame_read, 92);
+
+BURIAL_AT(burial_written, refusal, 0);
+BURIAL_AT(burial_written, words, 8);
+BURIAL_SIZE(burial_written, 16);
+
+BURIAL_AT(burial_session, offices, 0);
+BURIAL_AT(burial_session, clock, 4);
+BURIAL_AT(burial_session, read, 36);
+BURIAL_AT(burial_session, count, 72);
+BURIAL_AT(burial_session, own, 80);
+BURIAL_SIZE(burial_session, 1360);
+
+BURIAL_AT(burial_read, refusal, 0);
+BURIAL_AT(burial_read, found, 4);
+BURIAL_AT(burial_read, entry, 8);
+BURIAL_AT(burial_read, session, 88);
+BURIAL_SIZE(burial_read, 1448);
+
+BURIAL_AT(burial_joint, refusal, 0);
+BURIAL_AT(burial_joint, session, 8);
+BURIAL_SIZE(burial_joint, 1368);
+
+BURIAL_AT(burial_wrote, refusal, 0);
+BURIAL_AT(burial_wrote, words, 8);
+BURIAL_AT(burial_wrote, session, 16);
+BURIAL_SIZE(burial_wrote, 1376);
+
+BURIAL_AT(burial_need, refusal, 0);
+BURIAL_AT(burial_need, words, 8);
+BURIAL_SIZE(burial_need, 16);
+
+BURIAL_AT(burial_plot_found, refusal, 0);
+BURIAL_AT(burial_plot_found, found, 4);
+BURIAL_AT(burial_plot_found, entry, 8);
+BURIAL_SIZE(burial_plot_found, 88);
+
+BURIAL_AT(burial_token_read, refusal, 0);
+BURIAL_AT(burial_token_read, session, 8);
+BURIAL_SIZE(burial_token_read, 1368);
+
+#undef BURIAL_AT
+#undef BURIAL_SIZE
+#undef BURIAL_LAYOUT
+
 #ifdef __cplusplus
 }
 #endif

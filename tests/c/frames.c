@@ -3,12 +3,6 @@
 #include "cases.h"
 #include "report.h"
 
-/* The archive was built to this layout. */
-_Static_assert(sizeof(struct burial_entry) == 80, "an entry is 20 words");
-_Static_assert(sizeof(struct burial_frame) == 88, "a frame is 22 words");
-_Static_assert(sizeof(struct burial_frame_read) == 92, "a frame that was read is 23 words");
-_Static_assert(sizeof(struct burial_written) == 16, "a count of words is aligned");
-
 enum { MOST = 16 };
 
 static const struct burial_frame content_a = {

@@ -4,14 +4,6 @@
 #include "cases.h"
 #include "report.h"
 
-/* The archive was built to this layout. */
-_Static_assert(sizeof(struct burial_session) == 1360, "a session is 17 words, a count and 16 entries");
-_Static_assert(sizeof(struct burial_read) == 1448, "a reading");
-_Static_assert(sizeof(struct burial_joint) == 1368, "a joint reading");
-_Static_assert(sizeof(struct burial_wrote) == 1376, "a write");
-_Static_assert(sizeof(struct burial_need) == 16, "a need");
-_Static_assert(sizeof(struct burial_token_read) == 1368, "a session that was read");
-
 /* A and B on their last way: none still to hear. */
 static const uint32_t last_a[] = {
     0x10010300, 0x30000005, 0x400002C5, 0x50000001, 0x50000000, 0x50000000, 0xF00105CB,

@@ -8,11 +8,15 @@ struct FrameRead {
     frame: Frame,
 }
 
+layout!(FrameRead: 92, refusal 0, frame 4);
+
 #[repr(C)]
 pub struct Written {
     pub refusal: u32,
     pub words: usize,
 }
+
+layout!(Written: 16, refusal 0, words 8);
 
 extern "C" {
     fn burial_check_frame(bytes: *const u8, len: usize, offices: u32, plots: u32) -> u32;

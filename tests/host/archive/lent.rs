@@ -11,6 +11,8 @@ struct PlotFound {
     entry: Entry,
 }
 
+layout!(PlotFound: 88, refusal 0, found 4, entry 8);
+
 extern "C" {
     fn burial_lent_read_plot(store: *mut u32, len: usize, session: *mut Session, plot: u32) -> PlotFound;
     fn burial_lent_read_joint(

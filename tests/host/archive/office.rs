@@ -12,11 +12,15 @@ struct PlotRead {
     session: Session,
 }
 
+layout!(PlotRead: 1448, refusal 0, found 4, entry 8, session 88);
+
 #[repr(C)]
 struct JointRead {
     refusal: u32,
     session: Session,
 }
+
+layout!(JointRead: 1368, refusal 0, session 8);
 
 #[repr(C)]
 struct Wrote {
@@ -25,11 +29,15 @@ struct Wrote {
     session: Session,
 }
 
+layout!(Wrote: 1376, refusal 0, words 8, session 16);
+
 #[repr(C)]
 struct Need {
     refusal: u32,
     words: usize,
 }
+
+layout!(Need: 16, refusal 0, words 8);
 
 extern "C" {
     fn burial_store_need(offices: u32, own: u32, plots: u32) -> Need;

@@ -9,6 +9,8 @@ struct TokenRead {
     session: Session,
 }
 
+layout!(TokenRead: 1368, refusal 0, session 8);
+
 extern "C" {
     fn burial_read_token(words: *const u32, len: usize, offices: u32, plots: u32) -> TokenRead;
     fn burial_write_token(session: Session, out: *mut u32, len: usize) -> Written;
