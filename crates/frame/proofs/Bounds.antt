@@ -48,11 +48,6 @@ pub record Rings : Type 0 where
   pub plots-64 : ringOk 3 64 ≡ true
   pub plots-65 : ringOk 3 65 ≡ false
 
-pub rings : Rings
-unfolding both ringOk
-rings =
-    record { ring-1 = refl; ring-2 = refl; ring-8 = refl; ring-9 = refl; plots-0 = refl; plots-1 = refl; plots-64 = refl; plots-65 = refl }
-
 -- the entry rules: office, serial, plot, value; then clock, own number and dependencies
 pub record Rules : Type 0 where
   pub office-2 : boundsOk 3 64 2 1 5 709 ≡ true
@@ -76,30 +71,6 @@ pub record Rules : Type 0 where
   pub on-itself : entryOk 3 64 (numbered 4 (only 3)) ≡ false
   pub on-a-stranger : entryOk 3 64 (numbered 4 (0 ∷ 0 ∷ 0 ∷ 1 ∷ 0 ∷ 0 ∷ 0 ∷ 0 ∷ [])) ≡ false
 
-pub rules : Rules
-unfolding both either allBelow bit has isIn inserted clockPlaceOk clockOk idsPlaceOk idsOk boundsOk entryOk
-rules =
-    record {
-      office-2 = refl;
-      office-3 = refl;
-      serial-0 = refl;
-      serial-1 = refl;
-      serial-32 = refl;
-      serial-33 = refl;
-      plot-63 = refl;
-      plot-64 = refl;
-      value-top = refl;
-      value-over = refl;
-      clock-32 = refl;
-      clock-33 = refl;
-      clock-unused = refl;
-      own-number = refl;
-      other-number = refl;
-      on-another = refl;
-      on-itself = refl;
-      on-a-stranger = refl;
-    }
-
 -- "own entries carried by an errand: 16"; "own entries have distinct names .., and each depends only on read names and earlier own entries"
 pub record Carried : Type 0 where
   pub carries-16 : sessionOk 3 64 (loaded 16) ≡ true
@@ -109,19 +80,6 @@ pub record Carried : Type 0 where
   pub same-name : sessionOk 3 64 (carrying (numbered 1 zeros ∷ numbered 1 zeros ∷ [])) ≡ false
   pub on-earlier : sessionOk 3 64 (carrying (numbered 1 zeros ∷ numbered 2 (only 0) ∷ [])) ≡ true
   pub on-later : sessionOk 3 64 (carrying (numbered 1 (only 1) ∷ numbered 2 zeros ∷ [])) ≡ false
-
-pub carried : Carried
-unfolding both either allBelow tab bit has isIn inserted unite wordIn subsetOf clockPlaceOk clockOk idsPlaceOk idsOk boundsOk entryOk ownOk sessionOk
-carried =
-    record {
-      carries-16 = refl;
-      carries-17 = refl;
-      other-ring = refl;
-      fewer-plots = refl;
-      same-name = refl;
-      on-earlier = refl;
-      on-later = refl;
-    }
 
 pub record Frames : Type 0 where
   -- "The "still to hear" count is at most offices − 2"
@@ -145,27 +103,6 @@ pub record Frames : Type 0 where
   pub last-plot : writeFrameCode (framed 3 1 (clocked 1 1 63)) 7 ≡ 0
   pub plot-over : writeFrameCode (framed 3 1 (clocked 1 1 64)) 7 ≡ 3
 
-pub frames : Frames
-unfolding both either allBelow check eqWords part tab bit has isIn inserted clockWords clockFrom idWordIf idWordsTo idWords idsFrom total summed clockPlaceOk clockOk idsPlaceOk idsOk boundsOk entryOk ringOk bodyWords frameWords frameOk frameOf accepts readFrameCode writeFrameCode
-frames =
-    record {
-      hops-in-2 = refl;
-      hops-over-2 = refl;
-      hops-in-3 = refl;
-      hops-over-3 = refl;
-      hops-in-8 = refl;
-      hops-over-8 = refl;
-      reads = refl;
-      other-ring = refl;
-      fewer-plots = refl;
-      order-1-9 = refl;
-      room = refl;
-      order-3-8 = refl;
-      order-3-8-ring = refl;
-      last-plot = refl;
-      plot-over = refl;
-    }
-
 pub record Tokens : Type 0 where
   -- twelve words, read with plots that cover its own entry, with too few, in another ring
   pub reads : readTokenCode 3 6 (tokenWords (loaded 1)) ≡ 0
@@ -179,16 +116,86 @@ pub record Tokens : Type 0 where
   pub order-3-8-ring : writeTokenCode (freshContent 9) 0 ∷ writeTokenCode (freshContent 8) 0 ∷ [] ≡ 3 ∷ 8 ∷ []
   pub carries-17 : writeTokenCode (loaded 17) 0 ≡ 3
 
-pub tokens : Tokens
-unfolding both either allBelow check eqWords part tab bit has isIn inserted unite wordIn subsetOf clockWords clockFrom idWordIf idWordsTo idWords idsFrom total summed clockPlaceOk clockOk idsPlaceOk idsOk boundsOk entryOk ringOk bodyWords frameWords frameOf ownOk sessionOk rowsOf tokenWords ownFrom contentFrom acceptsToken readTokenCode writeTokenCode
-tokens =
+pub record Bounds : Type 0 where
+  pub rings : Rings
+  pub rules : Rules
+  pub carried : Carried
+  pub frames : Frames
+  pub tokens : Tokens
+
+pub bounds : Bounds
+unfolding both ringOk either allBelow bit has isIn inserted clockPlaceOk clockOk idsPlaceOk idsOk boundsOk entryOk tab unite wordIn subsetOf ownOk sessionOk check eqWords part clockWords clockFrom idWordIf idWordsTo idWords idsFrom total summed bodyWords frameWords frameOk frameOf accepts readFrameCode writeFrameCode rowsOf tokenWords ownFrom contentFrom acceptsToken readTokenCode writeTokenCode
+bounds =
     record {
-      reads = refl;
-      fewer-plots = refl;
-      other-ring = refl;
-      order-1-9 = refl;
-      room = refl;
-      order-3-8 = refl;
-      order-3-8-ring = refl;
-      carries-17 = refl;
+      rings =
+          record {
+            ring-1 = refl;
+            ring-2 = refl;
+            ring-8 = refl;
+            ring-9 = refl;
+            plots-0 = refl;
+            plots-1 = refl;
+            plots-64 = refl;
+            plots-65 = refl;
+          };
+      rules =
+          record {
+            office-2 = refl;
+            office-3 = refl;
+            serial-0 = refl;
+            serial-1 = refl;
+            serial-32 = refl;
+            serial-33 = refl;
+            plot-63 = refl;
+            plot-64 = refl;
+            value-top = refl;
+            value-over = refl;
+            clock-32 = refl;
+            clock-33 = refl;
+            clock-unused = refl;
+            own-number = refl;
+            other-number = refl;
+            on-another = refl;
+            on-itself = refl;
+            on-a-stranger = refl;
+          };
+      carried =
+          record {
+            carries-16 = refl;
+            carries-17 = refl;
+            other-ring = refl;
+            fewer-plots = refl;
+            same-name = refl;
+            on-earlier = refl;
+            on-later = refl;
+          };
+      frames =
+          record {
+            hops-in-2 = refl;
+            hops-over-2 = refl;
+            hops-in-3 = refl;
+            hops-over-3 = refl;
+            hops-in-8 = refl;
+            hops-over-8 = refl;
+            reads = refl;
+            other-ring = refl;
+            fewer-plots = refl;
+            order-1-9 = refl;
+            room = refl;
+            order-3-8 = refl;
+            order-3-8-ring = refl;
+            last-plot = refl;
+            plot-over = refl;
+          };
+      tokens =
+          record {
+            reads = refl;
+            fewer-plots = refl;
+            other-ring = refl;
+            order-1-9 = refl;
+            room = refl;
+            order-3-8 = refl;
+            order-3-8-ring = refl;
+            carries-17 = refl;
+          };
     }

@@ -92,7 +92,13 @@ token-reads-back s room p sane w l m1 m =
     let r : ringOk (s .offices) p ≡ true = facts-ring (s .offices) p (record { low = R .low; high = R .high; from = m1; to = m }) in
     let ok : sessionOk (s .offices) p s ≡ true =
     facts-session (s .offices) p s
-    (record { offices = F .offices; few = F .few; clock = F .clock; ids = F .ids; own = owns-covered (s .offices) p 64 (s .read) zeros (s .own) l (F .own) })
+    (record {
+      offices = F .offices;
+      few = F .few;
+      clock = F .clock;
+      ids = F .ids;
+      own = owns-covered (s .offices) p 64 (s .read) zeros (s .own) l (F .own);
+    })
     in
     let ac : acceptsToken (s .offices) p (tokenWords s) ≡ true = token-accepted s (t .0) (t .1) sane (s .offices) p ∙ ok in
     let c : readTokenCode (s .offices) p (tokenWords s) ≡ 0 = code (ringOk (s .offices) p) (acceptsToken (s .offices) p (tokenWords s)) r ac in

@@ -91,28 +91,7 @@ pub record Openings : Type 0 where
   pub need-8 : storeNeed 8 7 64 ≡ (0, 4627)
   pub need-own-over : storeNeed 8 8 64 ≡ (1, 0)
 
-pub openings : Openings
-unfolding both ringOk settingsOk openOffice storeNeed
-openings =
-    record {
-      ring-1 = refl;
-      ring-2 = refl;
-      ring-8 = refl;
-      ring-9 = refl;
-      plots-0 = refl;
-      plots-1 = refl;
-      plots-64 = refl;
-      plots-65 = refl;
-      own-last = refl;
-      own-over = refl;
-      store-short = refl;
-      need-1 = refl;
-      need-2 = refl;
-      need-8 = refl;
-      need-own-over = refl;
-    }
-
-pub record Calls : Type 0 where
+pub record Limits : Type 0 where
   -- plots 0 to 63 of 64
   pub read-63 : readOn before (freshContent 3) 63 .code ≡ 0
   pub read-64 : readOn before (freshContent 3) 64 .code ≡ 4
@@ -137,29 +116,6 @@ pub record Calls : Type 0 where
   pub onward-short : receiveOn before (framed 3 1 entryA) (replicate 6 0) .code ≡ 8
   pub last-needs-none : receiveOn before (framed 3 0 entryA) [] .code ≡ 0
 
-pub calls : Calls
-unfolding trailingZeros both either implies allBelow check orElse part tab sumBelow eqWords bit has isIn unite minus inserted wordIn subsetOf lowestIn lowestOf join higher ranksAbove outranks clockWords clockFrom idWordIf idWordsTo idWords idsFrom total summed clockPlaceOk clockOk idsPlaceOk idsOk boundsOk entryOk sameContent ringOk bodyWords frameWords frameOk frameOf accepts laid idsOf ownOk sessionOk rowsOf steps revealed settingsOk made maxTo clockOf reveal hold better consider bestTo current bestOwn entryCode ownCode noted readCode handed plotsOk noneOver allNoneOver jointCode notedAll threeWords answerWords newEntry missing sentOf writeCode holdAll wroteSession receiveCode holdNew receivedBy receiveSends readOn jointOn writeOn receiveOn heldOk gapless soundOffice
-calls =
-    record {
-      read-63 = refl;
-      read-64 = refl;
-      joint-16 = refl;
-      joint-short = refl;
-      joint-17 = refl;
-      joint-64 = refl;
-      joint-none = refl;
-      sound-32 = refl;
-      makes-32 = refl;
-      makes-33 = refl;
-      carries-16 = refl;
-      carries-17 = refl;
-      write-64 = refl;
-      carried-short = refl;
-      onward-fits = refl;
-      onward-short = refl;
-      last-needs-none = refl;
-    }
-
 pub record Sides : Type 0 where
   -- 11: "it is held with other content", whichever part; and not with the same
   pub same-again : receiveOn (gotA 1) (framed 3 0 entryA) [] .code ≡ 0
@@ -181,23 +137,69 @@ pub record Sides : Type 0 where
   pub hands-presented : readOn (gotA 0) (carrying (lowerThanA ∷ [])) 5 .found ≡ Some entryA ∷ []
   pub tie : readOn (gotA 0) (carrying (otherValue ∷ [])) 5 .found ≡ Some entryA ∷ []
 
-pub sides : Sides
-unfolding trailingZeros both either implies allBelow check orElse part tab sumBelow eqWords bit has isIn unite minus inserted wordIn subsetOf lowestIn lowestOf join higher ranksAbove outranks clockWords clockFrom idWordIf idWordsTo idWords idsFrom total summed clockPlaceOk clockOk idsPlaceOk idsOk boundsOk entryOk sameContent ringOk bodyWords frameWords frameOk frameOf accepts laid idsOf ownOk sessionOk rowsOf steps revealed settingsOk made maxTo clockOf reveal hold better consider bestTo current bestOwn entryCode ownCode noted readCode handed plotsOk noneOver allNoneOver jointCode notedAll threeWords answerWords newEntry missing sentOf writeCode holdAll wroteSession receiveCode holdNew receivedBy receiveSends readOn jointOn writeOn receiveOn
-sides =
+pub record Bounds : Type 0 where
+  pub opening : Openings
+  pub limits : Limits
+  pub sides : Sides
+
+pub bounds : Bounds
+unfolding both ringOk settingsOk openOffice storeNeed trailingZeros either implies allBelow check orElse part tab sumBelow eqWords bit has isIn unite minus inserted wordIn subsetOf lowestIn lowestOf join higher ranksAbove outranks clockWords clockFrom idWordIf idWordsTo idWords idsFrom total summed clockPlaceOk clockOk idsPlaceOk idsOk boundsOk entryOk sameContent bodyWords frameWords frameOk frameOf accepts laid idsOf ownOk sessionOk rowsOf steps revealed made maxTo clockOf reveal hold better consider bestTo current bestOwn entryCode ownCode noted readCode handed plotsOk noneOver allNoneOver jointCode notedAll threeWords answerWords newEntry missing sentOf writeCode holdAll wroteSession receiveCode holdNew receivedBy receiveSends readOn jointOn writeOn receiveOn heldOk gapless soundOffice
+bounds =
     record {
-      same-again = refl;
-      other-plot = refl;
-      other-value = refl;
-      other-clock = refl;
-      other-deps = refl;
-      not-made = refl;
-      made-here = refl;
-      own-higher = refl;
-      own-alone = refl;
-      own-same = refl;
-      own-lower = refl;
-      own-elsewhere = refl;
-      hands-own = refl;
-      hands-presented = refl;
-      tie = refl;
+      opening =
+          record {
+            ring-1 = refl;
+            ring-2 = refl;
+            ring-8 = refl;
+            ring-9 = refl;
+            plots-0 = refl;
+            plots-1 = refl;
+            plots-64 = refl;
+            plots-65 = refl;
+            own-last = refl;
+            own-over = refl;
+            store-short = refl;
+            need-1 = refl;
+            need-2 = refl;
+            need-8 = refl;
+            need-own-over = refl;
+          };
+      limits =
+          record {
+            read-63 = refl;
+            read-64 = refl;
+            joint-16 = refl;
+            joint-short = refl;
+            joint-17 = refl;
+            joint-64 = refl;
+            joint-none = refl;
+            sound-32 = refl;
+            makes-32 = refl;
+            makes-33 = refl;
+            carries-16 = refl;
+            carries-17 = refl;
+            write-64 = refl;
+            carried-short = refl;
+            onward-fits = refl;
+            onward-short = refl;
+            last-needs-none = refl;
+          };
+      sides =
+          record {
+            same-again = refl;
+            other-plot = refl;
+            other-value = refl;
+            other-clock = refl;
+            other-deps = refl;
+            not-made = refl;
+            made-here = refl;
+            own-higher = refl;
+            own-alone = refl;
+            own-same = refl;
+            own-lower = refl;
+            own-elsewhere = refl;
+            hands-own = refl;
+            hands-presented = refl;
+            tie = refl;
+          };
     }

@@ -25,3 +25,4 @@ pub mod Opened
 pub mod Three
 pub mod Bounds
 pub mod Orders
+pub mod HeldSame

@@ -57,27 +57,11 @@ codes r s = r .code ∷ s .code ∷ []
 pub record Opening : Type 0 where
   pub order-1-2 : openOffice 9 0 64 [] .0 ∷ openOffice 8 0 64 [] .0 ∷ [] ≡ 1 ∷ 2 ∷ []
 
-pub opening : Opening
-unfolding both ringOk settingsOk openOffice
-opening =
-    record {
-      order-1-2 = refl;
-    }
-
 -- "Read one plot. 2 .. 3 .. 4 .. 12"
 pub record Reading : Type 0 where
   pub order-2-3 : codes (readPlot [] stranger 5) (readPlot opened stranger 5) ≡ 2 ∷ 3 ∷ []
   pub order-3-4 : codes (readOn before stranger 64) (readOn before (freshContent 3) 64) ≡ 3 ∷ 4 ∷ []
   pub order-4-12 : codes (readOn before readB 64) (readOn before readB 5) ≡ 4 ∷ 12 ∷ []
-
-pub reading : Reading
-unfolding trailingZeros both either implies allBelow check orElse part tab sumBelow eqWords bit has isIn unite minus inserted wordIn subsetOf lowestIn lowestOf join higher ranksAbove outranks clockWords clockFrom idWordIf idWordsTo idWords idsFrom total summed clockPlaceOk clockOk idsPlaceOk idsOk boundsOk entryOk sameContent ringOk bodyWords frameWords frameOk frameOf accepts laid idsOf ownOk sessionOk rowsOf steps revealed settingsOk made maxTo clockOf reveal hold better consider bestTo current bestOwn entryCode ownCode noted readCode handed plotsOk noneOver allNoneOver jointCode notedAll threeWords answerWords newEntry missing sentOf writeCode holdAll wroteSession receiveCode holdNew receivedBy receiveSends readOn jointOn writeOn receiveOn entryAt officeOf slotWords slotsTo storeWords heldOk gapless soundOffice soundStore openOffice readPlot readJoint write receive
-reading =
-    record {
-      order-2-3 = refl;
-      order-3-4 = refl;
-      order-4-12 = refl;
-    }
 
 -- "Read jointly. 2, 3 as before. 4 .. 8 .. 12 .. 13"
 pub record Joint : Type 0 where
@@ -88,18 +72,6 @@ pub record Joint : Type 0 where
   pub order-8-12 : codes (jointOn before readB (5 ∷ []) []) (jointOn before readB (5 ∷ []) row) ≡ 8 ∷ 12 ∷ []
   pub order-12-13 : codes (jointOn before (readBWith (elsewhere ∷ [])) (7 ∷ []) row)
       (jointOn gotB (readBWith (elsewhere ∷ [])) (7 ∷ []) row) ≡ 12 ∷ 13 ∷ []
-
-pub joint : Joint
-unfolding trailingZeros both either implies allBelow check orElse part tab sumBelow eqWords bit has isIn unite minus inserted wordIn subsetOf lowestIn lowestOf join higher ranksAbove outranks clockWords clockFrom idWordIf idWordsTo idWords idsFrom total summed clockPlaceOk clockOk idsPlaceOk idsOk boundsOk entryOk sameContent ringOk bodyWords frameWords frameOk frameOf accepts laid idsOf ownOk sessionOk rowsOf steps revealed settingsOk made maxTo clockOf reveal hold better consider bestTo current bestOwn entryCode ownCode noted readCode handed plotsOk noneOver allNoneOver jointCode notedAll threeWords answerWords newEntry missing sentOf writeCode holdAll wroteSession receiveCode holdNew receivedBy receiveSends readOn jointOn writeOn receiveOn entryAt officeOf slotWords slotsTo storeWords heldOk gapless soundOffice soundStore openOffice readPlot readJoint write receive
-joint =
-    record {
-      order-2-3 = refl;
-      order-3-4 = refl;
-      order-4-8 = refl;
-      order-17-8 = refl;
-      order-8-12 = refl;
-      order-12-13 = refl;
-    }
 
 -- "Write. 2, 3, 4 as before. 5 .. 7 .. 6 .. 12 as before. Then for each own entry in order: 10 .. 11 .. 8"
 pub record Writing : Type 0 where
@@ -120,24 +92,6 @@ pub record Writing : Type 0 where
   pub order-10-8 : codes (writeOn before (carrying (unmade zeros ∷ [])) 5 1 []) (writeOn before (carrying (elsewhere ∷ [])) 5 1 []) ≡ 10 ∷ 8 ∷ []
   pub order-11-8 : codes (writeOn (gotA 1) (carrying (otherValue ∷ [])) 5 1 []) (writeOn (gotA 1) (carrying (entryA ∷ [])) 5 1 []) ≡ 11 ∷ 8 ∷ []
 
-pub writing : Writing
-unfolding trailingZeros both either implies allBelow check orElse part tab sumBelow eqWords bit has isIn unite minus inserted wordIn subsetOf lowestIn lowestOf join higher ranksAbove outranks clockWords clockFrom idWordIf idWordsTo idWords idsFrom total summed clockPlaceOk clockOk idsPlaceOk idsOk boundsOk entryOk sameContent ringOk bodyWords frameWords frameOk frameOf accepts laid idsOf ownOk sessionOk rowsOf steps revealed settingsOk made maxTo clockOf reveal hold better consider bestTo current bestOwn entryCode ownCode noted readCode handed plotsOk noneOver allNoneOver jointCode notedAll threeWords answerWords newEntry missing sentOf writeCode holdAll wroteSession receiveCode holdNew receivedBy receiveSends readOn jointOn writeOn receiveOn entryAt officeOf slotWords slotsTo storeWords heldOk gapless soundOffice soundStore openOffice readPlot readJoint write receive
-writing =
-    record {
-      order-2-3 = refl;
-      order-3-4 = refl;
-      order-4-5 = refl;
-      order-5-7 = refl;
-      order-7-6 = refl;
-      order-6-12 = refl;
-      order-12-10 = refl;
-      order-12-11 = refl;
-      earlier-11 = refl;
-      earlier-10 = refl;
-      order-10-8 = refl;
-      order-11-8 = refl;
-    }
-
 -- "Hear a frame. 2 as before. 9 .. 10, 11 .. 12 .. 8"
 pub record Receiving : Type 0 where
   pub order-2-9 : codes (receive [] [] []) (receive opened [] []) ≡ 2 ∷ 9 ∷ []
@@ -154,16 +108,60 @@ pub record Receiving : Type 0 where
   pub order-10-8 : codes (receiveOn before (framed 3 1 (unmade zeros)) []) (receiveOn before (framed 3 1 elsewhere) []) ≡ 10 ∷ 8 ∷ []
   pub order-11-8 : codes (receiveOn (gotA 1) (framed 3 1 otherValue) []) (receiveOn (gotA 1) (framed 3 1 entryA) []) ≡ 11 ∷ 8 ∷ []
 
-pub receiving : Receiving
-unfolding trailingZeros both either implies allBelow check orElse part tab sumBelow eqWords bit has isIn unite minus inserted wordIn subsetOf lowestIn lowestOf join higher ranksAbove outranks clockWords clockFrom idWordIf idWordsTo idWords idsFrom total summed clockPlaceOk clockOk idsPlaceOk idsOk boundsOk entryOk sameContent ringOk bodyWords frameWords frameOk frameOf accepts laid idsOf ownOk sessionOk rowsOf steps revealed settingsOk made maxTo clockOf reveal hold better consider bestTo current bestOwn entryCode ownCode noted readCode handed plotsOk noneOver allNoneOver jointCode notedAll threeWords answerWords newEntry missing sentOf writeCode holdAll wroteSession receiveCode holdNew receivedBy receiveSends readOn jointOn writeOn receiveOn entryAt officeOf slotWords slotsTo storeWords heldOk gapless soundOffice soundStore openOffice readPlot readJoint write receive
-receiving =
+pub record Orders : Type 0 where
+  pub opening : Opening
+  pub reading : Reading
+  pub joint : Joint
+  pub writing : Writing
+  pub receiving : Receiving
+
+pub orders : Orders
+unfolding both ringOk settingsOk openOffice trailingZeros either implies allBelow check orElse part tab sumBelow eqWords bit has isIn unite minus inserted wordIn subsetOf lowestIn lowestOf join higher ranksAbove outranks clockWords clockFrom idWordIf idWordsTo idWords idsFrom total summed clockPlaceOk clockOk idsPlaceOk idsOk boundsOk entryOk sameContent bodyWords frameWords frameOk frameOf accepts laid idsOf ownOk sessionOk rowsOf steps revealed made maxTo clockOf reveal hold better consider bestTo current bestOwn entryCode ownCode noted readCode handed plotsOk noneOver allNoneOver jointCode notedAll threeWords answerWords newEntry missing sentOf writeCode holdAll wroteSession receiveCode holdNew receivedBy receiveSends readOn jointOn writeOn receiveOn entryAt officeOf slotWords slotsTo storeWords heldOk gapless soundOffice soundStore readPlot readJoint write receive
+orders =
     record {
-      order-2-9 = refl;
-      order-9-10 = refl;
-      order-9-11 = refl;
-      order-10-12 = refl;
-      order-11-12 = refl;
-      order-12-8 = refl;
-      order-10-8 = refl;
-      order-11-8 = refl;
+      opening =
+          record {
+            order-1-2 = refl;
+          };
+      reading =
+          record {
+            order-2-3 = refl;
+            order-3-4 = refl;
+            order-4-12 = refl;
+          };
+      joint =
+          record {
+            order-2-3 = refl;
+            order-3-4 = refl;
+            order-4-8 = refl;
+            order-17-8 = refl;
+            order-8-12 = refl;
+            order-12-13 = refl;
+          };
+      writing =
+          record {
+            order-2-3 = refl;
+            order-3-4 = refl;
+            order-4-5 = refl;
+            order-5-7 = refl;
+            order-7-6 = refl;
+            order-6-12 = refl;
+            order-12-10 = refl;
+            order-12-11 = refl;
+            earlier-11 = refl;
+            earlier-10 = refl;
+            order-10-8 = refl;
+            order-11-8 = refl;
+          };
+      receiving =
+          record {
+            order-2-9 = refl;
+            order-9-10 = refl;
+            order-9-11 = refl;
+            order-10-12 = refl;
+            order-11-12 = refl;
+            order-12-8 = refl;
+            order-10-8 = refl;
+            order-11-8 = refl;
+          };
     }

@@ -25,7 +25,7 @@ use Rattle.store.specs.Offices.{None, Some, bestOwn, bestTo, better, clockOf, c
 use Rattle.store.specs.Reveal.{revealed, steps}
 use Rattle.office.specs.Calls.{allNoneOver, answerWords, entryCode, freshCode, handed, holdAll, holdNew, jointCode, jointOn, missing, newEntry, noneOver, noted, notedAll, ownCode, plotsOk, readCode, readOn, receiveCode, receiveOn, receiveSends, receivedBy, sentOf, threeWords, writeCode, writeOn, wroteSession}
 use Rattle.ring.specs.Holds.{Same, tokenOn}
-use Rattle.ring.specs.Run.{Call, Event, Made, Tracked, at, contentsRun, copy-session, copy-token, fresh, gained, joint, lastOf, nextOf, onContents, reading, receiving, receiving-words, run, step, together, token-reading, token-writing, upd, wordsRun, writerPast, writing}
+use Rattle.ring.specs.Run.{Call, Event, Made, Tracked, TrackedToken, at, contentsRun, copy-session, copy-token, fresh, gained, joint, lastOf, nextOf, onContents, reading, receiving, receiving-words, run, step, together, token-reading, token-writing, upd, wordsRun, writerPast, writing}
 use Rattle.ring.proofs.Theorem.{demand3}
 
 abbrev row : List ℕ
@@ -108,6 +108,10 @@ rowC = 0x11021302 ∷ 0x30000003 ∷ 0x40000008 ∷ 0x50000001 ∷ 0x50000002 �
 abbrev pub past-1 : List ℕ
 past-1 = 0 ∷ 32 ∷ 0 ∷ 0 ∷ 0 ∷ 32 ∷ 0 ∷ []
 
+-- token 0 and its copy
+abbrev pub twice : List (TrackedToken (List ℕ))
+twice = record { token = token; past = past-1 } ∷ record { token = token; past = past-1 } ∷ []
+
 pub record Led (events : List Event) (sessions : List Tracked) (log : List Made) : Type 0 where
   -- the script; then `others`; `absent` leaves no reply
   pub codes : map (λ (v : Event). v .code) events
@@ -137,7 +141,7 @@ pub record EveryCall (rows : ℕ → List ℕ) : Type 0 where
   pub waiting-0 : wordsRun 3 64 rows everyCall .lines 0 ≡ []
   pub waiting-1 : wordsRun 3 64 rows everyCall .lines 1 ≡ rowA ∷ []
   pub waiting-2 : wordsRun 3 64 rows everyCall .lines 2 ≡ rowC ∷ []
-  pub tokens : wordsRun 3 64 rows everyCall .tokens ≡ record { token = token; past = past-1 } ∷ record { token = token; past = past-1 } ∷ []
+  pub tokens : wordsRun 3 64 rows everyCall .tokens ≡ twice
 
 -- ---- on contents, by computing
 
@@ -148,7 +152,7 @@ pub record Computed : Type 0 where
   pub waiting-0 : map frameWords (contentsRun 3 64 everyCall .lines 0) ≡ []
   pub waiting-1 : map frameWords (contentsRun 3 64 everyCall .lines 1) ≡ rowA ∷ []
   pub waiting-2 : map frameWords (contentsRun 3 64 everyCall .lines 2) ≡ rowC ∷ []
-  pub tokens : map tokenOn (contentsRun 3 64 everyCall .tokens) ≡ record { token = token; past = past-1 } ∷ record { token = token; past = past-1 } ∷ []
+  pub tokens : map tokenOn (contentsRun 3 64 everyCall .tokens) ≡ twice
 
 pub computed : Computed
 unfolding trailingZeros both either implies allBelow check orElse part tab sumBelow eqWords bit has isIn unite minus inserted wordIn subsetOf lowestIn lowestOf join higher ranksAbove outranks clockWords clockFrom idWordIf idWordsTo idWords idsFrom total summed clockPlaceOk clockOk idsPlaceOk idsOk boundsOk entryOk sameContent ringOk bodyWords frameWords frameOk frameOf accepts laid laidIf idsOf ownOk sessionOk writeTokenCode writeTokenRow tokenWords rowsOf steps revealed settingsOk made maxTo clockOf reveal hold better consider bestTo current bestOwn entryCode ownCode noted notedAll plotsOk noneOver allNoneOver jointCode jointOn threeWords answerWords readCode handed newEntry missing sentOf writeCode holdAll wroteSession receiveCode holdNew receivedBy receiveSends readOn writeOn receiveOn freshCode at upd nextOf writerPast gained together lastOf step run onContents contentsRun

@@ -5,7 +5,7 @@ use mathlib.Core.Bool.{Bool, cond, false, true}
 use mathlib.Core.List.{List, []}
 use mathlib.Core.Path.{_≡_, ap, refl}
 use lib.Dec.{eqb, ltb}
-use Rattle.ring.specs.Run.{Calls, State, Tracked, TrackedToken, at, copy-session, copy-token, copySession, copyToken, fromTokenAt, joint, jointAt, readAt, reading, receiveAt, receiving, receiving-words, step, token-reading, token-writing, tokenAt, turnedBy, writeAt, writing}
+use Rattle.ring.specs.Run.{Calls, State, Tracked, TrackedToken, at, copy-session, copy-token, copySession, copyToken, fromTokenAt, joint, jointAt, readAt, reading, receiveAt, receiving, receiving-words, step, token-reading, token-writing, tokenAt, writeAt, writing}
 
 module _ {A B C : Type 0} (F : Calls A B C) (n : ℕ) (g : State A B C) where
   unless : (t : Bool) (h : State A B C) → t ≡ false → cond t h g ≡ g
@@ -71,4 +71,4 @@ module _ {A B C : Type 0} (F : Calls A B C) (n : ℕ) (g : State A B C) where
   pub not-refused-9 : (o : ℕ) (words row : List ℕ) → eqb (F .on-words (g .stores o) words row .code) 9 ≡ false
       → step F n g (receiving-words o words row) ≡ g
   unfolding step
-  not-refused-9 o words row e = either-way (ltb o n) _ (unless (eqb (F .on-words (g .stores o) words row .code) 9) (turnedBy F n g o (F .on-words (g .stores o) words row)) e)
+  not-refused-9 o words row e = either-way (ltb o n) _ (unless (eqb (F .on-words (g .stores o) words row .code) 9) _ e)

@@ -10,7 +10,7 @@ use Rattle.frame.specs.Entries.{entryOk}
 use Rattle.frame.specs.Frames.{accepts, frameOf, frameWords, framed}
 use Rattle.frame.proofs.Cases.{cases, entryA, entryB, rowA, rowB}
 use Rattle.store.specs.Offices.{Some, current}
-use Rattle.office.proofs.Three.{clock-0-3, clock-2-0, clock-2-1, one-order, other-order, three-clocks}
+use Rattle.office.proofs.Three.{clock-0-3, clock-2-0, clock-2-1, hearer, hears, three-clocks}
 use Rattle.script.specs.Fields.{allDigits, fields, inFront, isBelow, isDigit, proper, valueOf}
 use Rattle.script.specs.Lines.{lineIn, lineOf}
 use Rattle.script.specs.Replies.{decimal, digitsIn, nameBytes, numbered, replyBytes}
@@ -63,8 +63,8 @@ pub record Table : Type 0 where
   pub entry-2-0 : entryOk 3 64 clock-2-0 ≡ true
   pub entry-0-3 : entryOk 3 64 clock-0-3 ≡ true
   pub entry-2-1 : entryOk 3 64 clock-2-1 ≡ true
-  pub one-kept : current one-order 7 ≡ Some clock-2-1
-  pub other-kept : current other-order 7 ≡ Some clock-2-1
+  pub one-order : current (hears (hears (hears hearer clock-2-0) clock-0-3) clock-2-1) 7 ≡ Some clock-2-1
+  pub other-order : current (hears (hears (hears hearer clock-2-0) clock-2-1) clock-0-3) 7 ≡ Some clock-2-1
 
 -- ---- the lines of the bytes, and the bytes of the replies
 
@@ -79,7 +79,8 @@ bytes : Bytes
 unfolding joined linesIn linesOf lineOf lineIn fields inFront isDigit allDigits proper valueOf isBelow both eqWords textOf replyBytes nameBytes numbered decimal digitsIn
 bytes = record { whole = refl; whole-unended = refl; first = refl; three = refl; text = refl }
 
-sent : (bs : List ℕ) (ls : List Line) (o : ℕ) → linesIn [] bs ≡ ls → fed start [] bs .scene .ring .lines o ≡ playAll start (rowed ls) .0 .ring .lines o
+sent : (bs : List ℕ) (ls : List Line) (o : ℕ) → linesIn [] bs ≡ ls
+    → fed start [] bs .scene .ring .lines o ≡ playAll start (rowed ls) .0 .ring .lines o
 sent bs ls o e =
     ap (λ (g : Scene). g .ring .lines o) (fed-plays start [] bs .scene) ∙ ap (λ (x : List Line). playAll start (rowed x) .0 .ring .lines o) e
 
@@ -104,6 +105,6 @@ table =
       entry-2-0 = three-clocks .keeps-2-0;
       entry-0-3 = three-clocks .keeps-0-3;
       entry-2-1 = three-clocks .keeps-2-1;
-      one-kept = three-clocks .kept-one;
-      other-kept = three-clocks .kept-other;
+      one-order = three-clocks .kept-one;
+      other-order = three-clocks .kept-other;
     }
