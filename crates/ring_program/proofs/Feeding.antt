@@ -27,10 +27,10 @@ use Rattle.player.specs.Shows.{Shows}
 use Rattle.player.specs.Steps.{Plays}
 use Rattle.player.proofs.Rows.{Plays-alike, play-alike, shows-alike}
 use Rattle.ring_program.specs.declared.feed.Stage.{Stage}
-use Rattle.ring_program.specs.Fed.{Ended, Fed, Finishes, Follows, Leads, after, fed, outRow}
+use Rattle.ring_program.specs.Fed.{Ended, Fed, Finishes, Follows, Leads, after, fed, lastFed, outRow}
 
 -- bytes fed one after another
-fed-append : (g : Scene) (l bs cs : List ℕ) → fed g l (bs ++ cs) ≡ after (fed g l bs .text) (fed (fed g l bs .scene) (fed g l bs .rest) cs)
+pub fed-append : (g : Scene) (l bs cs : List ℕ) → fed g l (bs ++ cs) ≡ after (fed g l bs .text) (fed (fed g l bs .scene) (fed g l bs .rest) cs)
 unfolding fed
 fed-append g l [] cs = refl
 fed-append g l (b ∷ bs) cs = by (eqb b 10) (fed-append next [] bs cs) (fed-append g (l ++ (b ∷ [])) bs cs)
@@ -92,16 +92,16 @@ ended-follows g l at text r stores lines text′ b is E =
     said : List ℕ
     said = replyBytes (play outRow g (lineOf l) .1)
 
-pub byte-follows : (g : Scene) (l : List ℕ) (at : ℕ) (text : List ℕ) (d : Desk) (p q : Pending) (stores lines : List ℕ) (b : ℕ) → (b ≡ 10 → ⊥) → Shows g d stores lines → p ≡ pendingOf l → q ≡ pushed p b
-    → Follows (fed g l (b ∷ [])) at text (record { desk = d; pending = q; at = at }) stores lines text
-byte-follows g l at text d p q stores lines b ne S e h =
-    subst (λ (f : Fed). Follows f at text (record { desk = d; pending = q; at = at }) stores lines text) (sym (fed-byte g l b ne))
+pub byte-follows : (g : Scene) (l : List ℕ) (at : ℕ) (text : List ℕ) (d : Desk) (p q : Pending) (w : Bool) (stores lines : List ℕ) (b : ℕ) → (b ≡ 10 → ⊥) → Shows g d stores lines → p ≡ pendingOf l → q ≡ pushed p b
+    → Follows (fed g l (b ∷ [])) at text (record { desk = d; pending = q; at = at; wrote = w }) stores lines text
+byte-follows g l at text d p q w stores lines b ne S e h =
+    subst (λ (f : Fed). Follows f at text (record { desk = d; pending = q; at = at; wrote = w }) stores lines text) (sym (fed-byte g l b ne))
     (record { shows = S; pending = h ∙ ap (λ (x : Pending). pushed x b) e ∙ push-more l b; at-is = sym (add-zero at); text-is = refl })
 
 -- a line played and its reply put; which words the out row had makes no difference
 pub ended : (row : List ℕ) (g : Scene) (l : List ℕ) (at n : ℕ) (text text′ : List ℕ) (asked : Line) (r : Played) (blank : Pending) (stores lines : List ℕ) → length row ≡ 1751 → asked ≡ lineOf l
     → Plays row g asked r stores lines → n ≡ at + length (replyBytes (r .reply)) → text′ ≡ sets text at (replyBytes (r .reply)) → blank ≡ pendingOf []
-    → Ended g l at text (record { desk = r .desk; pending = blank; at = n }) stores lines text′
+    → Ended g l at text (record { desk = r .desk; pending = blank; at = n; wrote = true }) stores lines text′
 ended row g l at n text text′ asked r blank stores lines long e P a t z =
     record {
       shows = shows-alike _ _ (r .desk) stores lines (A .ring) (A .place) (subst (λ (x : Line). Shows (play row g x .0) (r .desk) stores lines) e (P .shows));
@@ -163,15 +163,16 @@ pub record Turn (b : ℕ) (cur : Stage) (stores lines scratch out text : List �
   pub out-same : length out′ ≡ length out
   pub text-same : length text′ ≡ length text
   pub near : cur′ .at ≤ cur .at + 40
+  pub wrote : cur .wrote ≡ true → cur′ .wrote ≡ true
   pub fed : (g : Scene) (l : List ℕ) → Shows g (cur .desk) stores lines → cur .pending ≡ pendingOf l → Follows (fed g l (b ∷ [])) (cur .at) text cur′ stores′ lines′ text′
 
 module _ (b : ℕ) (cur : Stage) (stores lines scratch out text : List ℕ) where
   -- a newline: the line is played
   pub turn-ended : (r : Stage) (s₁ l₁ c₁ o₁ t₁ : List ℕ) → b ≡ 10 → length s₁ ≡ length stores → length l₁ ≡ length lines → length c₁ ≡ length scratch → length o₁ ≡ length out → length t₁ ≡ length text
-      → r .at ≤ cur .at + 40 → ((g : Scene) (l : List ℕ) → Shows g (cur .desk) stores lines → cur .pending ≡ pendingOf l → Ended g l (cur .at) text r s₁ l₁ t₁)
+      → r .at ≤ cur .at + 40 → r .wrote ≡ true → ((g : Scene) (l : List ℕ) → Shows g (cur .desk) stores lines → cur .pending ≡ pendingOf l → Ended g l (cur .at) text r s₁ l₁ t₁)
       → (cur′ : Stage) (stores′ lines′ scratch′ out′ text′ : List ℕ) → stores′ ≡ s₁ → lines′ ≡ l₁ → scratch′ ≡ c₁ → out′ ≡ o₁ → text′ ≡ t₁ → cur′ ≡ r
       → Turn b cur stores lines scratch out text cur′ stores′ lines′ scratch′ out′ text′
-  turn-ended r s₁ l₁ c₁ o₁ t₁ is hs hl hc ho ht near E cur′ stores′ lines′ scratch′ out′ text′ es el ec eo et er =
+  turn-ended r s₁ l₁ c₁ o₁ t₁ is hs hl hc ho ht near went E cur′ stores′ lines′ scratch′ out′ text′ es el ec eo et er =
       record {
         stores-same = ap length es ∙ hs;
         lines-same = ap length el ∙ hl;
@@ -179,6 +180,7 @@ module _ (b : ℕ) (cur : Stage) (stores lines scratch out text : List ℕ) wher
         out-same = ap length eo ∙ ho;
         text-same = ap length et ∙ ht;
         near = omega (arith, near, ap (λ (x : Stage). x .at) er);
+        wrote = λ (_ : cur .wrote ≡ true). ap (λ (x : Stage). x .wrote) er ∙ went;
         fed = λ g l S e.
             subst (λ (p : Stage × List ℕ × List ℕ × List ℕ). Follows (fed g l (b ∷ [])) (cur .at) text (p .0) (p .1) (p .2) (p .3)) (λ i. (sym er i, sym es i, sym el i, sym et i))
             (ended-follows g l (cur .at) text r s₁ l₁ t₁ b is (E g l S e));
@@ -186,7 +188,7 @@ module _ (b : ℕ) (cur : Stage) (stores lines scratch out text : List ℕ) wher
 
   -- any other byte waits for the line's end
   pub turn-pushed : (q : Pending) → (b ≡ 10 → ⊥) → q ≡ pushed (cur .pending) b
-      → (cur′ : Stage) (stores′ lines′ scratch′ out′ text′ : List ℕ) → stores′ ≡ stores → lines′ ≡ lines → scratch′ ≡ scratch → out′ ≡ out → text′ ≡ text → cur′ ≡ record { desk = cur .desk; pending = q; at = cur .at }
+      → (cur′ : Stage) (stores′ lines′ scratch′ out′ text′ : List ℕ) → stores′ ≡ stores → lines′ ≡ lines → scratch′ ≡ scratch → out′ ≡ out → text′ ≡ text → cur′ ≡ record { desk = cur .desk; pending = q; at = cur .at; wrote = cur .wrote }
       → Turn b cur stores lines scratch out text cur′ stores′ lines′ scratch′ out′ text′
   turn-pushed q ne h cur′ stores′ lines′ scratch′ out′ text′ es el ec eo et er =
       record {
@@ -196,9 +198,10 @@ module _ (b : ℕ) (cur : Stage) (stores lines scratch out text : List ℕ) wher
         out-same = ap length eo;
         text-same = ap length et;
         near = omega (arith, ap (λ (x : Stage). x .at) er);
+        wrote = λ (w : cur .wrote ≡ true). ap (λ (x : Stage). x .wrote) er ∙ w;
         fed = λ g l S e.
             subst (λ (p : Stage × List ℕ × List ℕ × List ℕ). Follows (fed g l (b ∷ [])) (cur .at) text (p .0) (p .1) (p .2) (p .3)) (λ i. (sym er i, sym es i, sym el i, sym et i))
-            (byte-follows g l (cur .at) text (cur .desk) (cur .pending) q stores lines b ne S e h);
+            (byte-follows g l (cur .at) text (cur .desk) (cur .pending) q (cur .wrote) stores lines b ne S e h);
       }
 
 -- ---- the loop over a chunk
@@ -238,14 +241,25 @@ empty-list (b ∷ l) e = let k : suc (length l) ≡ 0 = eqb-true _ _ (sym (empty
 some-list : (l : List ℕ) → isEmpty (pendingOf l) ≡ false → l ≡ [] → ⊥
 some-list l e n = eqb-false _ _ (sym (empty-is l) ∙ e) (ap length n)
 
-pub nothing-finishes : (g : Scene) (l text : List ℕ) (p : Pending) → p ≡ pendingOf l → isEmpty p ≡ true → Finishes g l text text
-nothing-finishes g l text p e h =
-    record { nothing-left = λ (_ : l ≡ []). refl; last = λ (some : l ≡ [] → ⊥). absurd (some (empty-list l (ap isEmpty (sym e) ∙ h))) }
+last-some : (g : Scene) (l : List ℕ) → (l ≡ [] → ⊥)
+    → lastFed g l ≡ record { scene = play outRow g (lineOf l) .0; rest = []; text = replyBytes (play outRow g (lineOf l) .1) }
+unfolding lastFed
+last-some g [] some = absurd (some refl)
+last-some g (b ∷ l) some = refl
 
-pub last-finishes : (g : Scene) (l : List ℕ) (at : ℕ) (text : List ℕ) (r : Stage) (stores lines text′ : List ℕ) (p : Pending) → p ≡ pendingOf l → isEmpty p ≡ false → at ≡ 0
-    → Ended g l at text r stores lines text′ → Finishes g l text text′
-last-finishes g l at text r stores lines text′ p e h z E =
+pub nothing-finishes : (g : Scene) (l text : List ℕ) (r : Stage) (stores lines : List ℕ) → Shows g (r .desk) stores lines → r .pending ≡ pendingOf l
+    → isEmpty (r .pending) ≡ true → Finishes g l text r stores lines text
+unfolding lastFed
+nothing-finishes g l text r stores lines S e h =
+    let none : l ≡ [] = empty-list l (ap isEmpty (sym e) ∙ h) in
+    subst (λ (x : List ℕ). Finishes g x text r stores lines text) (sym none)
+    (record { leads = record { shows = S; pending = e ∙ ap pendingOf none }; text-is = refl })
+
+pub last-finishes : (g : Scene) (l : List ℕ) (at : ℕ) (text : List ℕ) (q r : Stage) (stores lines text′ : List ℕ) (p : Pending) → p ≡ pendingOf l → isEmpty p ≡ false → at ≡ 0
+    → Ended g l at text q stores lines text′ → r .desk ≡ q .desk → r .pending ≡ q .pending → Finishes g l text r stores lines text′
+last-finishes g l at text q r stores lines text′ p e h z E d w =
+    let is = last-some g l (some-list l (ap isEmpty (sym e) ∙ h)) in
     record {
-      nothing-left = λ (n : l ≡ []). absurd (some-list l (ap isEmpty (sym e) ∙ h) n);
-      last = λ (_ : l ≡ [] → ⊥). E .text-is ∙ ap (λ (x : ℕ). sets text x (replyBytes (play outRow g (lineOf l) .1))) z;
+      leads = subst (λ (f : Fed). Leads f r stores lines) (sym is) (record { shows = subst (λ (x : Desk). Shows (play outRow g (lineOf l) .0) x stores lines) (sym d) (E .shows); pending = w ∙ E .pending });
+      text-is = E .text-is ∙ (λ i. sets text (z i) (sym is i .text));
     }

@@ -1,53 +1,78 @@
--- A whole input: its lines, the last one with or without a newline; what the program's function and its end make of it are these lines played one
--- after another; the ring keeps the third demand; and no reply is `refused 8`. Assumes nothing.
-use Prim.Native.Nat.{ℕ, _<_, _≤_}
-use mathlib.Core.Bool.{Bool, cond, false, true}
-use mathlib.Core.List.{List, List·Memᴰ, Memᴰ·of-map, [], _++_, _∷_}
-use mathlib.Core.Path.{_∙_, _≡_, ap, refl, sym}
-use lib.Dec.{eqb}
-use lib.ListN.{length}
-use Rattle.script.specs.Lines.{lineOf}
-use Rattle.script.specs.Replies.{replyBytes}
+-- The program as a whole, from what `run` promises. However it ends, its ring is a run and keeps the third demand. Where it ends at the input's end,
+-- every line of the input was played in order, the text is that of all replies, and none of them is `refused 8`. Assumes nothing.
+use Prim.Native.Nat.{ℕ, _*_, _<_, _≤_}
+use mathlib.Core.List.{List, List·Memᴰ, Memᴰ·of-map, []}
+use mathlib.Core.Logic.{⊎-elim}
+use mathlib.Core.Path.{_≡_, ap, subst, sym}
+use native.Mathlib.Omega.{arith}
+use lib.ListN.{length, take}
+use Rattle.causal.proofs.Lists.{part-length}
 use Rattle.script.specs.declared.line.Line.{Line}
+use Rattle.script.specs.declared.reply.Reply.{Reply}
 use Rattle.script.specs.declared.reply.Reply.the-variants.{Refused}
-use Rattle.player.specs.Play.{Scene, opening, play, playAll}
+use Rattle.player.specs.declared.desk.Desk.{Desk}
+use Rattle.player.specs.Play.{Scene, opening, playAll}
+use Rattle.player.specs.Shows.{Shows, storesIn}
 use Rattle.player.proofs.Never.{script-never-8}
 use Rattle.player.proofs.Runs.{Ran, script-holds}
-use Rattle.ring_program.specs.Fed.{Fed, after, fed, linesIn, outRow, rowed}
+use Rattle.ring_program.specs.declared.Outcome.{Outcome}
+use Rattle.ring_program.specs.declared.ending.Ending.{Ending}
+use Rattle.ring_program.specs.declared.ending.Ending.the-variants.{Done, ReadFailed, TooLong, WriteFailed}
+use Rattle.ring_program.specs.declared.feed.Stage.{Stage}
+use Rattle.ring_program.specs.Fed.{fed, linesIn, linesOf, outRow, rowed, textOf, wholeFed}
+use Rattle.ring_program.specs.Promises.{Ends, Finished, RunPromise}
+use Rattle.ring_program.proofs.Whole.{fed-plays, whole-plays}
 
--- "a line ends at a newline or the input's end, and no line begins at the input's end"
-abbrev pub lastLine : List ℕ → List Line
-lastLine [] = []
-lastLine (b ∷ l) = lineOf (b ∷ l) ∷ []
-
-unfoldable pub linesOf : List ℕ → List ℕ → List Line
-linesOf l [] = lastLine l
-linesOf l (b ∷ bs) = cond (eqb b 10) (lineOf l ∷ linesOf [] bs) (linesOf (l ++ (b ∷ [])) bs)
-
--- the lines that `fed` plays, then the one that `Finishes` plays
-pub lines-are : (g : Scene) (l bs : List ℕ) → linesOf l bs ≡ linesIn l bs ++ lastLine (fed g l bs .rest)
-unfolding linesOf linesIn fed
-lines-are g l [] = refl
-lines-are g l (b ∷ bs) = by (eqb b 10) (lines-are (play outRow g (lineOf l) .0) [] bs) (lines-are g (l ++ (b ∷ [])) bs)
-  where
-    next : Scene
-    next = play outRow g (lineOf l) .0
-
-    said : List ℕ
-    said = replyBytes (play outRow g (lineOf l) .1)
-
-    by : (t : Bool) → linesOf [] bs ≡ linesIn [] bs ++ lastLine (fed next [] bs .rest) → linesOf (l ++ (b ∷ [])) bs ≡ linesIn (l ++ (b ∷ [])) bs ++ lastLine (fed g (l ++ (b ∷ [])) bs .rest)
-        → cond t (lineOf l ∷ linesOf [] bs) (linesOf (l ++ (b ∷ [])) bs)
-        ≡ cond t (lineOf l ∷ linesIn [] bs) (linesIn (l ++ (b ∷ [])) bs) ++ lastLine (cond t (after said (fed next [] bs)) (fed g (l ++ (b ∷ [])) bs) .rest)
-    by true p q = ap (λ (x : List Line). lineOf l ∷ x) p
-    by false p q = q
-
-module _ (rows : ℕ → List ℕ) (long : (o : ℕ) → o < 3 → 1747 ≤ length (rows o)) (bs : List ℕ) where
-  pub whole-holds : Ran rows (playAll (opening rows) (rowed (linesOf [] bs)) .0 .ring)
-  whole-holds = script-holds rows long (rowed (linesOf [] bs))
-
+-- the script bs was played to its end: the scene that its lines lead to is shown
+pub record Answered (rows : ℕ → List ℕ) (bs : List ℕ) (d : Desk) (stores′ lines′ : List ℕ) : Type 0 where
+  pub shows : Shows (playAll (opening rows) (rowed (linesOf [] bs)) .0) d stores′ lines′
+  pub text : wholeFed (opening rows) [] bs .text ≡ textOf (playAll (opening rows) (rowed (linesOf [] bs)) .1)
+  pub ring : Ran rows (playAll (opening rows) (rowed (linesOf [] bs)) .0 .ring)
   -- "it never prints refusal 8"
-  pub whole-never-8 : List·Memᴰ (Refused 8) (playAll (opening rows) (rowed (linesOf [] bs)) .1) → ⊥
-  whole-never-8 = script-never-8 rows long (rowed (linesOf [] bs)) (λ x m.
-      let t = Memᴰ·of-map (λ (y : Line). (outRow, y)) (linesOf [] bs) m in
-      ap (λ (z : List ℕ × Line). length (z .0)) (sym (t .2)))
+  pub never-8 : List·Memᴰ (Refused 8) (playAll (opening rows) (rowed (linesOf [] bs)) .1) → ⊥
+
+module _ (stores : List ℕ) (long : length stores ≡ 5241) (r : Outcome) (stores′ lines′ text′ : List ℕ) where
+  abbrev rows : ℕ → List ℕ
+  rows = storesIn stores
+
+  abbrev g : Scene
+  g = opening rows
+
+  enough : (o : ℕ) → o < 3 → 1747 ≤ length (rows o)
+  enough o h = let e = part-length stores (1747 * o) 1747 (omega arith) in omega (arith, e)
+
+  whole-shows : (bs : List ℕ) → Finished g bs (r .stage) stores′ lines′ text′ → Shows (playAll g (rowed (linesOf [] bs)) .0) (r .stage .desk) stores′ lines′
+  whole-shows bs F = subst (λ (x : Scene). Shows x (r .stage .desk) stores′ lines′) (whole-plays g [] bs .scene) (F .1 .leads .shows)
+
+  pub ran-answers : (P : RunPromise stores r stores′ lines′ text′) → r .ending ≡ Done → Answered rows (P .bytes) (r .stage .desk) stores′ lines′
+  ran-answers P e =
+      record {
+        shows = whole-shows bs (subst (λ (x : Ending). Ends x g bs (r .left) (r .stage) stores′ lines′ text′) e (P .ends) .1);
+        text = whole-plays g [] bs .text;
+        ring = script-holds rows enough (rowed (linesOf [] bs));
+        never-8 = script-never-8 rows enough (rowed (linesOf [] bs)) (λ x m.
+            let t = Memᴰ·of-map (λ (y : Line). (outRow, y)) (linesOf [] bs) m in
+            ap (λ (z : List ℕ × Line). length (z .0)) (sym (t .2)));
+      }
+    where
+      bs : List ℕ
+      bs = P .bytes
+
+  -- the ring that is shown is a run
+  abbrev pub Kept : Type 0
+  Kept = (h : Scene) × Shows h (r .stage .desk) stores′ lines′ × Ran rows (h .ring)
+
+  fed-kept : (bs : List ℕ) → Shows (fed g [] bs .scene) (r .stage .desk) stores′ lines′ → Kept
+  fed-kept bs S = (fed g [] bs .scene, S, subst (λ (x : Scene). Ran rows (x .ring)) (sym (fed-plays g [] bs .scene)) (script-holds rows enough (rowed (linesIn [] bs))))
+
+  whole-kept : (bs : List ℕ) → Finished g bs (r .stage) stores′ lines′ text′ → Kept
+  whole-kept bs F = (playAll g (rowed (linesOf [] bs)) .0, whole-shows bs F, script-holds rows enough (rowed (linesOf [] bs)))
+
+  kept-by : (e : Ending) (bs : List ℕ) → Ends e g bs (r .left) (r .stage) stores′ lines′ text′ → Kept
+  kept-by Done bs E = whole-kept bs (E .1)
+  kept-by ReadFailed bs E = fed-kept bs (E .1 .shows)
+  kept-by TooLong bs E = fed-kept bs (E .1 .shows)
+  kept-by WriteFailed bs E = ⊎-elim (λ x. fed-kept (take (x .0) bs) (x .1 .shows)) (whole-kept bs) (E .1)
+
+  pub ran-holds : RunPromise stores r stores′ lines′ text′ → Kept
+  ran-holds P = kept-by (r .ending) (P .bytes) (P .ends)

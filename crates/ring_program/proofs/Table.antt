@@ -18,9 +18,8 @@ use Rattle.script.specs.declared.line.Line.{Line}
 use Rattle.script.proofs.Cases.{tableInput, tableLines, tableOutput, tableReplies}
 use Rattle.player.specs.Play.{Scene, opening, playAll}
 use Rattle.player.proofs.Table.{table-plays, zeroRows}
-use Rattle.ring_program.specs.Fed.{fed, linesIn, rowed, textOf}
-use Rattle.ring_program.proofs.Script.{linesOf}
-use Rattle.ring_program.proofs.Whole.{fed-plays}
+use Rattle.ring_program.specs.Fed.{fed, linesIn, linesOf, rowed, textOf, wholeFed}
+use Rattle.ring_program.proofs.Whole.{fed-plays, whole-plays}
 
 -- rows of bytes one behind the other
 unfoldable pub joined : List (List ℕ) → List ℕ
@@ -58,7 +57,7 @@ pub record Table : Type 0 where
   pub third-sends : fed start [] (ended (take 3 tableInput)) .scene .ring .lines 2 ≡ rowA ∷ rowB ∷ []
   -- the eleven replies, from the bytes of the script to the bytes printed; the last line with a newline, and without
   pub replies : fed start [] script .text ≡ printed
-  pub replies-unended : textOf (playAll start (rowed (linesOf [] unended)) .1) ≡ printed
+  pub replies-unended : wholeFed start [] unended .text ≡ printed
   -- "With [2,0], [0,3], [2,1] met in that order .., while [2,0], [2,1], [0,3] .. Here one entry is kept whole": entries 0.2, 1.3 and 1.1 on plot 7
   pub entry-2-0 : entryOk 3 64 clock-2-0 ≡ true
   pub entry-0-3 : entryOk 3 64 clock-0-3 ≡ true

@@ -39,6 +39,15 @@ unfoldable pub linesIn : List ℕ → List ℕ → List Line
 linesIn l [] = []
 linesIn l (b ∷ bs) = cond (eqb b 10) (lineOf l ∷ linesIn [] bs) (linesIn (l ++ (b ∷ [])) bs)
 
+-- "a line ends at a newline or the input's end, and no line begins at the input's end": of a whole input, the line that its end ends, and all lines
+abbrev pub lastLine : List ℕ → List Line
+lastLine [] = []
+lastLine (b ∷ l) = lineOf (b ∷ l) ∷ []
+
+unfoldable pub linesOf : List ℕ → List ℕ → List Line
+linesOf l [] = lastLine l
+linesOf l (b ∷ bs) = cond (eqb b 10) (lineOf l ∷ linesOf [] bs) (linesOf (l ++ (b ∷ [])) bs)
+
 -- each line with the program's out row, and replies as text, one behind the other
 abbrev pub rowed : List Line → List (List ℕ × Line)
 rowed ls = map (λ (x : Line). (outRow, x)) ls
@@ -70,8 +79,16 @@ pub record Leads (f : Fed) (r : Stage) (stores lines : List ℕ) : Type 0 where
 abbrev pub Staged : Stage → List ℕ → List ℕ → Type 0
 Staged r stores lines = (g : Scene) × (l : List ℕ) × Shows g (r .desk) stores lines × (r .pending ≡ pendingOf l)
 
--- the input has ended: "a line ends at a newline or the input's end, and no line begins at the input's end". What is pending is played as the
--- last line, and its reply stands at the text's beginning
-pub record Finishes (g : Scene) (l text text′ : List ℕ) : Type 0 where
-  pub nothing-left : l ≡ [] → text′ ≡ text
-  pub last : (l ≡ [] → ⊥) → text′ ≡ sets text 0 (replyBytes (play outRow g (lineOf l) .1))
+-- the input has ended with the bytes l pending
+unfoldable pub lastFed : Scene → List ℕ → Fed
+lastFed g [] = record { scene = g; rest = []; text = [] }
+lastFed g (b ∷ l) = record { scene = play outRow g (lineOf (b ∷ l)) .0; rest = []; text = replyBytes (play outRow g (lineOf (b ∷ l)) .1) }
+
+-- a whole input
+abbrev pub wholeFed : Scene → List ℕ → List ℕ → Fed
+wholeFed g l bs = after (fed g l bs .text) (lastFed (fed g l bs .scene) (fed g l bs .rest))
+
+-- what is pending is played as the last line, and its reply stands at the text's beginning
+pub record Finishes (g : Scene) (l text : List ℕ) (r : Stage) (stores lines text′ : List ℕ) : Type 0 where
+  pub leads : Leads (lastFed g l) r stores lines
+  pub text-is : text′ ≡ sets text 0 (lastFed g l .text)

@@ -7,6 +7,7 @@ ghost use Rattle.causal.specs.Lists.{part};
 ghost use Rattle.script.specs.Pendings.{pendingOf};
 ghost use Rattle.player.specs.Play.{Scene};
 ghost use Rattle.player.specs.Shows.{Shown, Shows};
+ghost use mathlib.Core.Bool.{true};
 ghost use Rattle.ring_program.specs.Fed.{Ended, Finishes, Follows, Leads, Staged, fed};
 use player::desk::Desk;
 use player::play::play_line;
@@ -17,11 +18,13 @@ use script::pending::parse;
 use script::pending::push;
 use script::reply::put_reply;
 
-// Between two bytes: the desk, the line whose end has not come, and how many bytes of text there are.
+// Between two bytes: the desk, the line whose end has not come, how many bytes of text there are, and whether every write so far took its text:
+// no line is played after a write that did not.
 pub struct Stage {
     pub desk: Desk,
     pub pending: Pending,
     pub at: usize,
+    pub wrote: bool,
 }
 
 // The pending line is played, and its reply put behind the text.
@@ -33,8 +36,8 @@ pub fn end_line(
     out: &mut [u32],
     text: &mut [u8],
 ) -> Stage
-    requires { ⌜ (length (now scratch) ≡ 1747) × (length (now out) ≡ 1751) × (stage .at + 40 ≤ length (now text)) × Shown (stage .desk) (now stores) (now lines) ⌝ }
-    ensures { λ r. ⌜ (r .at ≤ stage .at + 40) × ((g : Scene) (l : List ℕ) → Shows g (stage .desk) (now (stores .entry)) (now (lines .entry)) → stage .pending ≡ pendingOf l → Ended g l (stage .at) (now (text .entry)) r (now (stores .exit)) (now (lines .exit)) (now (text .exit))) ⌝ }
+    requires { ⌜ (length (now scratch) ≡ 1747) × (length (now out) ≡ 1751) × (stage .at + 40 ≤ length (now text)) × Shown (stage .desk) (now stores) (now lines) × (stage .wrote ≡ true) ⌝ }
+    ensures { λ r. ⌜ (r .at ≤ stage .at + 40) × (r .wrote ≡ true) × ((g : Scene) (l : List ℕ) → Shows g (stage .desk) (now (stores .entry)) (now (lines .entry)) → stage .pending ≡ pendingOf l → Ended g l (stage .at) (now (text .entry)) r (now (stores .exit)) (now (lines .exit)) (now (text .exit))) ⌝ }
 {
     let pending = stage.pending;
     let line = parse(pending);
@@ -48,6 +51,7 @@ pub fn end_line(
         desk: after,
         pending: none,
         at,
+        wrote: true,
     }
 }
 
@@ -68,8 +72,8 @@ pub fn feed_some(
     out: &mut [u32],
     text: &mut [u8],
 ) -> Reached
-    requires { ⌜ (length (now scratch) ≡ 1747) × (length (now out) ≡ 1751) × (stage .at + 40 ≤ length (now text)) × (from < length (now bytes)) × Staged stage (now stores) (now lines) ⌝ }
-    ensures { λ r. ⌜ (from < r .next) × (r .next ≤ length (now (bytes .entry))) × (r .stage .at ≤ length (now (text .entry))) × ((g : Scene) (l : List ℕ) → Shows g (stage .desk) (now (stores .entry)) (now (lines .entry)) → stage .pending ≡ pendingOf l → Follows (fed g l (part (now (bytes .entry)) from (r .next - from))) (stage .at) (now (text .entry)) (r .stage) (now (stores .exit)) (now (lines .exit)) (now (text .exit))) ⌝ }
+    requires { ⌜ (length (now scratch) ≡ 1747) × (length (now out) ≡ 1751) × (stage .at + 40 ≤ length (now text)) × (from < length (now bytes)) × Staged stage (now stores) (now lines) × (stage .wrote ≡ true) ⌝ }
+    ensures { λ r. ⌜ (from < r .next) × (r .next ≤ length (now (bytes .entry))) × (r .stage .at ≤ length (now (text .entry))) × (r .stage .wrote ≡ true) × ((g : Scene) (l : List ℕ) → Shows g (stage .desk) (now (stores .entry)) (now (lines .entry)) → stage .pending ≡ pendingOf l → Follows (fed g l (part (now (bytes .entry)) from (r .next - from))) (stage .at) (now (text .entry)) (r .stage) (now (stores .exit)) (now (lines .exit)) (now (text .exit))) ⌝ }
 {
     let mut cur = stage;
     let mut i = from;
@@ -104,7 +108,24 @@ pub fn feed_some(
     }
 }
 
-// All bytes of a chunk. The text is written out when it has less than 40 bytes of room, and at the end.
+// The text goes out: the one place that writes replies.
+pub fn write_out(stage: Stage, text: &[u8]) -> Stage
+    requires { ⌜ stage .at ≤ length (now text) ⌝ }
+    ensures { λ r. ⌜ (r .desk ≡ stage .desk) × (r .pending ≡ stage .pending) × (r .at ≡ 0) ⌝ }
+{
+    let at = stage.at;
+    let wrote = io::write_all(1, &text[..at]);
+    let desk = stage.desk;
+    let pending = stage.pending;
+    Stage {
+        desk,
+        pending,
+        at: 0,
+        wrote,
+    }
+}
+
+// All bytes of a chunk, or those up to a failed write. The text is written out when it has less than 40 bytes of room, and at the end.
 pub fn feed_all(
     stage: Stage,
     bytes: &[u8],
@@ -113,9 +134,9 @@ pub fn feed_all(
     scratch: &mut [u32],
     out: &mut [u32],
     text: &mut [u8],
-) -> Stage
-    requires { ⌜ (length (now scratch) ≡ 1747) × (length (now out) ≡ 1751) × (length (now text) ≡ 8192) × (stage .at ≡ 0) × Staged stage (now stores) (now lines) ⌝ }
-    ensures { λ r. ⌜ (r .at ≡ 0) × ((g : Scene) (l : List ℕ) → Shows g (stage .desk) (now (stores .entry)) (now (lines .entry)) → stage .pending ≡ pendingOf l → Leads (fed g l (now (bytes .entry))) r (now (stores .exit)) (now (lines .exit))) ⌝ }
+) -> Reached
+    requires { ⌜ (length (now scratch) ≡ 1747) × (length (now out) ≡ 1751) × (length (now text) ≡ 8192) × (stage .at ≡ 0) × Staged stage (now stores) (now lines) × (stage .wrote ≡ true) ⌝ }
+    ensures { λ r. ⌜ (r .stage .at ≡ 0) × (r .next ≤ length (now (bytes .entry))) × (r .stage .wrote ≡ true → r .next ≡ length (now (bytes .entry))) × ((g : Scene) (l : List ℕ) → Shows g (stage .desk) (now (stores .entry)) (now (lines .entry)) → stage .pending ≡ pendingOf l → Leads (fed g l (part (now (bytes .entry)) 0 (r .next))) (r .stage) (now (stores .exit)) (now (lines .exit))) ⌝ }
 {
     let mut cur = stage;
     let mut from = 0;
@@ -131,25 +152,19 @@ pub fn feed_all(
             &mut *text,
         );
         let reached = some.stage;
-        let at = reached.at;
-        io::write_all(1, &text[..at]);
-        let next = written(reached);
+        let next = write_out(reached, text);
         cur = next;
         from = some.next;
+        if !cur.wrote {
+            return Reached {
+                stage: cur,
+                next: from,
+            };
+        }
     }
-    cur
-}
-
-// The text has been written out.
-pub fn written(stage: Stage) -> Stage
-    ensures { λ r. ⌜ (r .desk ≡ stage .desk) × (r .pending ≡ stage .pending) × (r .at ≡ 0) ⌝ }
-{
-    let desk = stage.desk;
-    let pending = stage.pending;
-    Stage {
-        desk,
-        pending,
-        at: 0,
+    Reached {
+        stage: cur,
+        next: from,
     }
 }
 
@@ -161,15 +176,14 @@ pub fn finish(
     scratch: &mut [u32],
     out: &mut [u32],
     text: &mut [u8],
-)
-    requires { ⌜ (length (now scratch) ≡ 1747) × (length (now out) ≡ 1751) × (length (now text) ≡ 8192) × (stage .at ≡ 0) × Staged stage (now stores) (now lines) ⌝ }
-    ensures { λ _. ⌜ ((g : Scene) (l : List ℕ) → Shows g (stage .desk) (now (stores .entry)) (now (lines .entry)) → stage .pending ≡ pendingOf l → Finishes g l (now (text .entry)) (now (text .exit))) ⌝ }
+) -> Stage
+    requires { ⌜ (length (now scratch) ≡ 1747) × (length (now out) ≡ 1751) × (length (now text) ≡ 8192) × (stage .at ≡ 0) × Staged stage (now stores) (now lines) × (stage .wrote ≡ true) ⌝ }
+    ensures { λ r. ⌜ ((g : Scene) (l : List ℕ) → Shows g (stage .desk) (now (stores .entry)) (now (lines .entry)) → stage .pending ≡ pendingOf l → Finishes g l (now (text .entry)) r (now (stores .exit)) (now (lines .exit)) (now (text .exit))) ⌝ }
 {
     let pending = stage.pending;
     if is_empty(pending) {
-        return;
+        return stage;
     }
     let last = end_line(stage, stores, lines, scratch, out, &mut *text);
-    let at = last.at;
-    io::write_all(1, &text[..at]);
+    write_out(last, text)
 }

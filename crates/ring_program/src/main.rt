@@ -1,16 +1,28 @@
 // The ring program: a script on standard input, a reply to each line on standard output.
 ghost use mathlib.Core.Path.{_≡_};
 ghost use lib.ListN.{length};
+ghost use Rattle.ring_program.specs.Promises.{RunPromise};
 
+mod ending;
 mod feed;
+mod input;
 
+use ending::Ending;
+use ending::close;
+use ending::say;
 use feed::Stage;
 use feed::feed_all;
-use feed::finish;
+use input::read_chunk;
 use player::opening::open_ring;
 use script::pending::nothing;
 
-// A proved loop has to end, and nothing says that the input does: the turns are counted down from a number that no run uses up.
+pub struct Outcome {
+    pub ending: Ending,
+    pub left: u64, // the bytes read are those that it lacks of u64::MAX
+    pub stage: Stage,
+}
+
+// A proved loop has to end, and nothing says that the input does: bytes are counted down from a number that no input has.
 fn run(
     stores: &mut [u32],
     lines: &mut [u32],
@@ -18,8 +30,9 @@ fn run(
     out: &mut [u32],
     input: &mut [u8],
     text: &mut [u8],
-)
-    requires { ⌜ (length (now stores) ≡ 5241) × (length (now lines) ≡ 9984) × (length (now scratch) ≡ 1747) × (length (now out) ≡ 1751) × (length (now text) ≡ 8192) ⌝ }
+) -> Outcome
+    requires { ⌜ (length (now stores) ≡ 5241) × (length (now lines) ≡ 9984) × (length (now scratch) ≡ 1747) × (length (now out) ≡ 1751) × (length (now input) ≡ 4096) × (length (now text) ≡ 8192) ⌝ }
+    ensures { λ r. ⌜ RunPromise (now (stores .entry)) r (now (stores .exit)) (now (lines .exit)) (now (text .exit)) ⌝ }
 {
     let desk = open_ring(&mut *stores);
     let none = nothing();
@@ -27,16 +40,24 @@ fn run(
         desk,
         pending: none,
         at: 0,
+        wrote: true,
     };
-    let mut turns = u64::MAX;
-    while turns > 0 {
-        let got = libc::read(0, &mut *input);
-        let n = io::count(got, input);
+    let mut left = u64::MAX;
+    while left >= 4096 {
+        let chunk = read_chunk(&mut *input, left);
+        left = chunk.left;
+        let n = chunk.n;
         if n == 0 {
-            finish(stage, stores, lines, scratch, out, text);
-            return;
+            let closed = close(stage, chunk.failed, stores, lines, scratch, out, text);
+            let ending = closed.ending;
+            let last = closed.stage;
+            return Outcome {
+                ending,
+                left,
+                stage: last,
+            };
         }
-        let next = feed_all(
+        let fed = feed_all(
             stage,
             &input[..n],
             &mut *stores,
@@ -45,8 +66,20 @@ fn run(
             &mut *out,
             &mut *text,
         );
+        let next = fed.stage;
         stage = next;
-        turns -= 1;
+        if !stage.wrote {
+            return Outcome {
+                ending: Ending::WriteFailed,
+                left,
+                stage,
+            };
+        }
+    }
+    Outcome {
+        ending: Ending::TooLong,
+        left,
+        stage,
     }
 }
 
@@ -57,7 +90,7 @@ fn main() {
     let mut out = [0u32; 1751];
     let mut input = [0u8; 4096];
     let mut text = [0u8; 8192];
-    run(
+    let outcome = run(
         &mut stores,
         &mut lines,
         &mut scratch,
@@ -65,4 +98,6 @@ fn main() {
         &mut input,
         &mut text,
     );
+    let ending = outcome.ending;
+    say(ending);
 }

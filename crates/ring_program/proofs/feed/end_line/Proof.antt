@@ -1,4 +1,4 @@
-use mathlib.Core.Path.{_∙_, ap}
+use mathlib.Core.Path.{_∙_, ap, refl}
 use Rattle.script.proofs.Pendings.{parse-whole}
 use Rattle.ring_program.proofs.Feeding as fd
 use Rattle.script.specs.Pendings.{parsed}
@@ -40,6 +40,7 @@ returns c = let z = c .before .before .before .before .before .before .before .b
     let q = c .before .before .before .before .before .before .before .before .before .before .before .before .before .before .play-line in
     let r = c .before .before .before .before .put-reply in (
       r .ensures .2,
+      refl,
       λ g l S e. fd.ended (a .out .now) g l (a .stage .at) (r .result) (a .text .now) (r .last .1 .0) (p .result) (q .result) (c .nothing .result) _ _ (z .pre .1) (p .ensures ∙ ap parsed e ∙ parse-whole l) (q .ensures g S) (r .ensures .0) (r .ensures .1) (c .nothing .ensures),
     )
 

@@ -2,6 +2,7 @@ use Prim.Native.Nat.{ℕ, _+_, _-_, _≤_}
 use mathlib.Core.List.{List}
 use mathlib.Core.Path.{_∙_, _≡_, refl}
 use native.Mathlib.Omega.{arith}
+use mathlib.Core.Bool.{true}
 use mathlib.Core.Logic.{⊎-elim}
 use lib.ListN.{getD, length}
 use Rattle.causal.specs.Lists.{part}
@@ -16,7 +17,7 @@ use Rattle.ring_program.proofs.feed.feed_some.Tie as tie
 
 abbrev Inv-loop : tie.InvT-loop
 Inv-loop bytes from stores₀ lines₀ scratch₀ out₀ text₀ cur₀ i₀ stores lines scratch out text cur i =
-    (i₀ ≤ i) × (i ≤ length bytes) × (length scratch ≡ length scratch₀) × (length out ≡ length out₀) × (length text ≡ length text₀) × (length stores ≡ length stores₀) × (length lines ≡ length lines₀) × (cur .at ≤ length text) × (i ≡ i₀ → cur .at + 40 ≤ length text)
+    (i₀ ≤ i) × (i ≤ length bytes) × (length scratch ≡ length scratch₀) × (length out ≡ length out₀) × (length text ≡ length text₀) × (length stores ≡ length stores₀) × (length lines ≡ length lines₀) × (cur .at ≤ length text) × (i ≡ i₀ → cur .at + 40 ≤ length text) × (cur .wrote ≡ true)
     × ((g : Scene) (l : List ℕ) → Shows g (cur₀ .desk) stores₀ lines₀ → cur₀ .pending ≡ pendingOf l → Follows (fed g l (part bytes i₀ (i - i₀))) (cur₀ .at) text₀ cur stores lines text)
 
 abbrev μ-loop : tie.MeasureT-loop
@@ -26,7 +27,7 @@ loop-holds : tie.Need-loop-holds Inv-loop μ-loop
 loop-holds c =
     let z = c .before .before .before .before .before .before in
     let a = z .args in
-    (omega arith, omega (arith, z .pre .3), refl, refl, refl, refl, refl, omega (arith, z .pre .2), (λ (_ : a .from ≡ a .from). z .pre .2), λ g l S e. fd.nothing-fed (a .bytes .now) (a .from) (a .stage) _ _ _ g l S e)
+    (omega arith, omega (arith, z .pre .3), refl, refl, refl, refl, refl, omega (arith, z .pre .2), (λ (_ : a .from ≡ a .from). z .pre .2), z .pre .5, λ g l S e. fd.nothing-fed (a .bytes .now) (a .from) (a .stage) _ _ _ g l S e)
 
 sub-if1 : tie.Need-sub-if1 Inv-loop μ-loop
 sub-if1 c = c .before .loop .inv .7
@@ -54,6 +55,7 @@ returns c =
       L .inv .1,
       omega (arith, L .inv .7, L .inv .4),
       L .inv .9,
+      L .inv .10,
     )
 
 shared-slice-read-if2 : tie.Need-shared-slice-read-if2 Inv-loop μ-loop
@@ -63,8 +65,8 @@ end-line-requires : tie.Need-end-line-requires Inv-loop μ-loop
 end-line-requires c κs =
     let z = c .before .before .before .before .before .before .before .before .before .before .before .before .before .before .before .before in
     let L = c .before .before .before .before .before .before .before .before .before .loop in
-    let B = L .inv .9 (z .pre .4 .0) (z .pre .4 .1) (z .pre .4 .2) (z .pre .4 .3) in
-    (L .inv .2 ∙ z .pre .0, L .inv .3 ∙ z .pre .1, omega (arith, c .before .before .before .before .before .before .before .if1 .left, L .inv .7), (_, B .shows))
+    let B = L .inv .10 (z .pre .4 .0) (z .pre .4 .1) (z .pre .4 .2) (z .pre .4 .3) in
+    (L .inv .2 ∙ z .pre .0, L .inv .3 ∙ z .pre .1, omega (arith, c .before .before .before .before .before .before .before .if1 .left, L .inv .7), (_, B .shows), L .inv .9)
 
 shared-slice-read-push : tie.Need-shared-slice-read-push Inv-loop μ-loop
 shared-slice-read-push c = search needs
@@ -85,7 +87,7 @@ loop-again c =
     let L = c .before .before .before .before .loop in
     let T : fd.Turn (getD (a .bytes .now) (L .i) 0) (L .cur) (L .stores) (L .lines) (L .scratch) (L .out) (L .text) (c .if2 .cur) (c .if2 .stores) (c .if2 .lines) (c .if2 .scratch) (c .if2 .out) (c .if2 .text) =
     ⊎-elim
-    (λ w. fd.turn-ended _ _ _ _ _ _ _ _ _ _ _ _ _ (w .0 .taken) (w .6 .kept .1 .0) (w .6 .kept .1 .1 .0) (w .6 .kept .1 .1 .1 .0) (w .6 .kept .1 .1 .1 .1 .0) (w .6 .kept .1 .1 .1 .1 .1 .0) (w .6 .ensures .0) (w .6 .ensures .1) _ _ _ _ _ _ (w .17) (w .18) (w .19) (w .20) (w .21) (w .22))
+    (λ w. fd.turn-ended _ _ _ _ _ _ _ _ _ _ _ _ _ (w .0 .taken) (w .6 .kept .1 .0) (w .6 .kept .1 .1 .0) (w .6 .kept .1 .1 .1 .0) (w .6 .kept .1 .1 .1 .1 .0) (w .6 .kept .1 .1 .1 .1 .1 .0) (w .6 .ensures .0) (w .6 .ensures .1) (w .6 .ensures .2) _ _ _ _ _ _ (w .17) (w .18) (w .19) (w .20) (w .21) (w .22))
     (λ w. fd.turn-pushed _ _ _ _ _ _ _ (w .3 .result) (w .0 .left) (w .3 .ensures) _ _ _ _ _ _ (w .4) (w .5) (w .6) (w .7) (w .8) (w .9))
     (c .if2 .came)
     in (
@@ -98,8 +100,9 @@ loop-again c =
       T .lines-same ∙ L .inv .6,
       omega (arith, T .near, T .text-same, c .before .before .if1 .left, L .inv .7),
       (λ (e : L .i + 1 ≡ a .from). absurd (omega (arith, e, L .inv .0))),
+      T .wrote (L .inv .9),
       λ g l S e.
-          let X = L .inv .9 g l S e in
+          let X = L .inv .10 g l S e in
           fd.one-more (a .bytes .now) (a .from) (L .i) (L .inv .0) (c .before .before .before .loop-test .taken) g l (a .stage .at) _ (L .cur) _ _ _ X (c .if2 .cur) _ _ _ (T .fed _ _ (X .shows) (X .pending)),
     )
 
@@ -122,7 +125,7 @@ returns-2 : tie.Need-returns-2 Inv-loop μ-loop
 returns-2 c =
     let z = c .before .before .before .before .before .before .before .before in
     let L = c .before .loop in
-    (omega (arith, c .loop-test .left, z .pre .3), L .inv .1, omega (arith, L .inv .7, L .inv .4), L .inv .9)
+    (omega (arith, c .loop-test .left, z .pre .3), L .inv .1, omega (arith, L .inv .7, L .inv .4), L .inv .9, L .inv .10)
 
 pub feed-some-spec : {M : Type 1} → statement M
 feed-some-spec =
