@@ -2,24 +2,21 @@
 use Prim.Native.Nat.{ℕ, _*_, _+_, _-_, _<_, _≤_}
 use mathlib.Core.Bool.{false, true}
 use mathlib.Core.List.{List, _++_, append-assoc, append-nil}
-use mathlib.Core.Path.{_∙_, _≡_, ap, refl, sym}
+use mathlib.Core.Path.{_∙_, _≡_, ap, refl, subst, sym}
 use native.Mathlib.Omega.{arith}
 use lib.ListN.{drop, drop-of-length-le, getD, length, take}
 use lib.Seq.{drop-drop, sets, sets-eq, take-all}
 use Rattle.causal.specs.Lists.{part}
-use Rattle.causal.proofs.Lists.{part-length, sets-front}
-use Rattle.frame.specs.Refusals.{codeOf, replyOf}
-use Rattle.frame.specs.Sessions.{contentOf}
+use Rattle.causal.proofs.Lists.{part-length, part-sets-whole, sets-front}
 use Rattle.frame.specs.declared.refusal.Written.{Written}
 use Rattle.frame.specs.declared.session.Session.{Session}
-use Rattle.office.specs.Answers.{anyFound, entryFound, readPlotSession, writeSession}
-use Rattle.office.specs.Calls.{readPlot, receive, write}
+use Rattle.office.specs.Promises.{ReadPromise, ReceivePromise, WritePromise}
 use Rattle.office.specs.declared.read.PlotRead.{PlotRead}
 use Rattle.office.specs.declared.write.Wrote.{Wrote}
 use Rattle.ring.specs.Run.{nextOf}
 use Rattle.player.specs.declared.desk.Desk.{Desk}
 use Rattle.player.specs.Desks.{Cut, countAt, frameLen, pushed, startOf, withFrames}
-use Rattle.player.specs.Steps.{Delivers, ReadsAt, ReceivesAt, WritesAt}
+use Rattle.player.specs.Steps.{Delivers}
 
 pub part-all : (ws : List ℕ) (n : ℕ) → length ws ≡ n → part ws 0 n ≡ ws
 unfolding part
@@ -68,30 +65,23 @@ put-back ws new a n h e =
     ∙ sym (append-assoc (take a ws) new (drop (a + length new) ws))
     ∙ sym (sets-eq new ws a (omega arith))
 
+-- a reading on the part of an office
 module _ (stores W new : List ℕ) (a : ℕ) (e : W ≡ part stores a 1747) (s : Session) (plot : ℕ) (r : PlotRead) where
-  pub reads-at : (codeOf (r .status) ≡ readPlot W (contentOf s) plot .code) × (r .found ≡ anyFound (readPlot W (contentOf s) plot .found)) × (r .entry ≡ entryFound (readPlot W (contentOf s) plot .found)) × (r .session ≡ readPlotSession W s plot) × (new ≡ readPlot W (contentOf s) plot .store)
-      → a + 1747 ≤ length stores → length new ≡ length W
-      → ReadsAt (part stores a 1747) s plot r × (take a stores ++ (new ++ drop (a + 1747 - a) (drop a stores)) ≡ sets stores a (readPlot (part stores a 1747) (contentOf s) plot .store))
-  reads-at x h l = (
-    record {
-      code = x .0 ∙ ap (λ (w : List ℕ). readPlot w (contentOf s) plot .code) e;
-      found = x .1 ∙ ap (λ (w : List ℕ). anyFound (readPlot w (contentOf s) plot .found)) e;
-      entry = x .2 ∙ ap (λ (w : List ℕ). entryFound (readPlot w (contentOf s) plot .found)) e;
-      session = x .3 ∙ ap (λ (w : List ℕ). readPlotSession w s plot) e;
-      size = ap length (sym (x .4 ∙ ap (λ (w : List ℕ). readPlot w (contentOf s) plot .store) e)) ∙ l ∙ ap length e;
-    },
-    put-back stores new a 1747 h (l ∙ ap length e ∙ part-length stores a 1747 h) ∙ ap (sets stores a) (x .4 ∙ ap (λ (w : List ℕ). readPlot w (contentOf s) plot .store) e),
-  )
+  abbrev left : List ℕ
+  left = take a stores ++ (new ++ drop (a + 1747 - a) (drop a stores))
 
-pub receives-at : (ws W frame row : List ℕ) (r : Written) (ws′ row′ : List ℕ) → W ≡ frame
-    → (replyOf r ≡ record { code = receive ws W row .code; words = receive ws W row .count }) × (ws′ ≡ receive ws W row .store) × (row′ ≡ receive ws W row .row)
-    → ReceivesAt ws frame row r ws′ row′
-receives-at ws W frame row r ws′ row′ e x =
-    record {
-      reply = x .0 ∙ (λ i. record { code = receive ws (e i) row .code; words = receive ws (e i) row .count });
-      store = x .1 ∙ ap (λ (w : List ℕ). receive ws w row .store) e;
-      left = x .2 ∙ ap (λ (w : List ℕ). receive ws w row .row) e;
-    }
+  pub reads-at : ReadPromise W s plot r new → a + 1747 ≤ length stores → length new ≡ length W
+      → ReadPromise (part stores a 1747) s plot r (part left a 1747) × (left ≡ sets stores a (part left a 1747))
+  reads-at x h l = (subst (λ (p : List ℕ × List ℕ). ReadPromise (p .0) s plot r (p .1)) (λ i. (e i, sym back i)) x, put ∙ ap (sets stores a) (sym back))
+    where
+      size : length new ≡ 1747
+      size = l ∙ ap length e ∙ part-length stores a 1747 h
+
+      put : left ≡ sets stores a new
+      put = put-back stores new a 1747 h size
+
+      back : part left a 1747 ≡ new
+      back = (λ i. part (put i) a (sym size i)) ∙ part-sets-whole stores a new (omega (arith, size))
 
 -- ---- a store copied
 
@@ -102,21 +92,11 @@ copied to stores a l h =
     ∙ ap (λ (x : List ℕ). part stores a 1747 ++ x) (drop-of-length-le to {i = length (part stores a 1747)} (omega arith))
     ∙ append-nil (part stores a 1747)
 
+-- the promises of calls on an equal store, and with an equal frame
 pub writes-at : (W ws : List ℕ) (s : Session) (plot value : ℕ) (row : List ℕ) (r : Wrote) (ws′ row′ : List ℕ) → W ≡ ws
-    → (replyOf (r .written) ≡ record { code = write W (contentOf s) plot value row .code; words = write W (contentOf s) plot value row .count }) × (r .session ≡ writeSession W s plot value row) × (ws′ ≡ write W (contentOf s) plot value row .store) × (row′ ≡ write W (contentOf s) plot value row .row)
-    → WritesAt ws s plot value row r ws′ row′
-writes-at W ws s plot value row r ws′ row′ e x =
-    record {
-      reply = x .0 ∙ (λ i. record { code = write (e i) (contentOf s) plot value row .code; words = write (e i) (contentOf s) plot value row .count });
-      session = x .1 ∙ ap (λ (w : List ℕ). writeSession w s plot value row) e;
-      store = x .2 ∙ ap (λ (w : List ℕ). write w (contentOf s) plot value row .store) e;
-      left = x .3 ∙ ap (λ (w : List ℕ). write w (contentOf s) plot value row .row) e;
-    }
+    → WritePromise W s plot value row r ws′ row′ → WritePromise ws s plot value row r ws′ row′
+writes-at W ws s plot value row r ws′ row′ e A = subst (λ (w : List ℕ). WritePromise w s plot value row r ws′ row′) e A
 
-pub receives-from : (W ws frame row : List ℕ) (r : Written) (ws′ row′ : List ℕ) → W ≡ ws → (f : List ℕ) → frame ≡ f → ReceivesAt W frame row r ws′ row′ → ReceivesAt ws f row r ws′ row′
-receives-from W ws frame row r ws′ row′ e f h A =
-    record {
-      reply = A .reply ∙ (λ i. record { code = receive (e i) (h i) row .code; words = receive (e i) (h i) row .count });
-      store = A .store ∙ (λ i. receive (e i) (h i) row .store);
-      left = A .left ∙ (λ i. receive (e i) (h i) row .row);
-    }
+pub receives-from : (W ws frame row : List ℕ) (r : Written) (ws′ row′ : List ℕ) → W ≡ ws → (f : List ℕ) → frame ≡ f
+    → ReceivePromise W frame row r ws′ row′ → ReceivePromise ws f row r ws′ row′
+receives-from W ws frame row r ws′ row′ e f h A = subst (λ (p : List ℕ × List ℕ). ReceivePromise (p .0) (p .1) row r ws′ row′) (λ i. (e i, h i)) A

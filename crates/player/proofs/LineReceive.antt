@@ -29,9 +29,10 @@ use Rattle.frame.specs.declared.refusal.Refusal.{Refusal}
 use Rattle.frame.specs.declared.refusal.Written.{Written}
 use Rattle.frame.specs.declared.refusal.Written.the-variants.{NotWritten, Words}
 use Rattle.office.specs.Calls.{receiveSends}
+use Rattle.office.specs.Promises.{ReceivePromise}
 use Rattle.player.specs.declared.play.Delivered.{Delivered}
 use Rattle.player.specs.Desks.{Cut}
-use Rattle.player.specs.Steps.{Delivers, ReceivesAt}
+use Rattle.player.specs.Steps.{Delivers}
 use Rattle.player.proofs.Accepted.{receives}
 use Rattle.player.proofs.PlayReceive.{receive-done, receive-full, receive-refused}
 use Rattle.player.proofs.PlayWrite.{Sends}
@@ -45,15 +46,15 @@ module _ (g : Scene) (d : Desk) (stores lines : List ℕ) (S : Shows g d stores 
   abbrev R : Result (List ℕ) (List ℕ)
   R = receive ws f row
 
-  module _ (r : Written) (ws′ row′ : List ℕ) (A : ReceivesAt ws f row r ws′ row′) where
+  module _ (r : Written) (ws′ row′ : List ℕ) (A : ReceivePromise ws f row r ws′ row′) where
     pub line-refused : (x : Refusal) (k : ℕ) → r ≡ NotWritten x → k ≡ numberOf x → Plays row g (Receive o) (record { desk = d; reply = Refused k }) stores lines
     line-refused x k e h =
         refused-as (λ n. Plays row g (Receive o) (record { desk = d; reply = Refused n }) stores lines) (R .code) (receive-refused g d stores lines S o ol row f rest are) k x h
-        (not-written r x _ (A .reply) e)
+        (not-written r x _ (A .0) e)
 
     module _ (words : ℕ) (e : r ≡ Words words) where
       code : R .code ≡ 0
-      code = words-code r words _ (A .reply) e .0
+      code = words-code r words _ (A .0) e .0
 
       abbrev fs : List Frame
       fs = receiveSends (frameOf f)
@@ -66,10 +67,10 @@ module _ (g : Scene) (d : Desk) (stores lines : List ℕ) (S : Shows g d stores 
       sends = record { sent = F .sent; left = F .left; fit = F .fit; offices = F .offices; plots = F .plots }
 
       words-are : words ≡ length (rowsOf fs)
-      words-are = words-code r words _ (A .reply) e .1 ∙ F .count
+      words-are = words-code r words _ (A .0) e .1 ∙ F .count
 
       pub cut : Cut row′ words (length fs)
-      cut = rw (words-are, A .left ∙ sends .left) (cut-rows fs (F .fit) (drop (length (rowsOf fs)) row))
+      cut = rw (words-are, A .2 ∙ sends .left) (cut-rows fs (F .fit) (drop (length (rowsOf fs)) row))
 
       pub small : words ≤ length row
       small = omega (arith, words-are, F .room)
@@ -100,11 +101,11 @@ module _ (g : Scene) (d : Desk) (stores lines : List ℕ) (S : Shows g d stores 
             (λ j. (
               (sym (a ∙ (λ k. withoutOldest (D .fits l .0 k .desk) o)) j, waiting j),
               (
-                sym (D .fits l .1 ∙ ap (sets stores (1747 * o)) (A .store)) j,
-                sym (D .fits l .2 ∙ ap (λ (x : List ℕ). pushed lines (nextOf 3 o) (firstAt d (nextOf 3 o) + countAt d (nextOf 3 o)) x (length fs)) (A .left)) j,
+                sym (D .fits l .1 ∙ ap (sets stores (1747 * o)) (A .1)) j,
+                sym (D .fits l .2 ∙ ap (λ (x : List ℕ). pushed lines (nextOf 3 o) (firstAt d (nextOf 3 o) + countAt d (nextOf 3 o)) x (length fs)) (A .2)) j,
               ),
             ))
-            (receive-done g d stores lines S o ol row f rest are code fs sends l (ap length (sym (A .store)) ∙ size)))
+            (receive-done g d stores lines S o ol row f rest are code fs sends l (ap length (sym (A .1)) ∙ size)))
             (lt-or-le 32 (countAt d (nextOf 3 o) + length fs))
           where
             waiting : length rest ≡ k

@@ -30,10 +30,11 @@ use Rattle.frame.specs.declared.refusal.Refusal.{Refusal}
 use Rattle.frame.specs.declared.refusal.Written.the-variants.{NotWritten, Words}
 use Rattle.store.specs.Offices.{officeOf}
 use Rattle.office.specs.Calls.{writeSends}
+use Rattle.office.specs.Promises.{WritePromise}
 use Rattle.office.specs.declared.write.Wrote.{Wrote}
 use Rattle.player.specs.declared.play.Delivered.{Delivered}
 use Rattle.player.specs.Desks.{Cut}
-use Rattle.player.specs.Steps.{Delivers, WritesAt}
+use Rattle.player.specs.Steps.{Delivers}
 use Rattle.player.proofs.Accepted.{writes}
 use Rattle.player.proofs.Contents.{newest-is, write-count, write-session}
 use Rattle.player.proofs.PlayWrite.{Sends, write-done, write-full, write-refused}
@@ -50,15 +51,15 @@ module _ (g : Scene) (d : Desk) (stores lines : List ℕ) (S : Shows g d stores 
   ol : placeAt d i < 3
   ol = S .placed i il
 
-  module _ (r : Wrote) (ws′ row′ : List ℕ) (A : WritesAt ws (sessionAt d i) plot value row r ws′ row′) where
+  module _ (r : Wrote) (ws′ row′ : List ℕ) (A : WritePromise ws (sessionAt d i) plot value row r ws′ row′) where
     pub line-refused : (x : Refusal) (k : ℕ) → r .written ≡ NotWritten x → k ≡ numberOf x → Plays row g (Write i plot value) (record { desk = d; reply = Refused k }) stores lines
     line-refused x k e h =
         refused-as (λ n. Plays row g (Write i plot value) (record { desk = d; reply = Refused n }) stores lines) (R .code) (write-refused g d stores lines S i il plot value row) k x h
-        (not-written (r .written) x _ (A .reply) e)
+        (not-written (r .written) x _ (A .0) e)
 
     module _ (words : ℕ) (e : r .written ≡ Words words) where
       code : R .code ≡ 0
-      code = words-code (r .written) words _ (A .reply) e .0
+      code = words-code (r .written) words _ (A .0) e .0
 
       abbrev fs : List Frame
       fs = writeSends (officeOf ws) (contentOf (sessionAt d i)) plot value
@@ -71,16 +72,16 @@ module _ (g : Scene) (d : Desk) (stores lines : List ℕ) (S : Shows g d stores 
       sends = record { sent = F .sent; left = F .left; fit = F .fit; offices = F .offices; plots = F .plots }
 
       words-are : words ≡ length (rowsOf fs)
-      words-are = words-code (r .written) words _ (A .reply) e .1 ∙ F .count
+      words-are = words-code (r .written) words _ (A .0) e .1 ∙ F .count
 
       pub cut : Cut row′ words (length fs)
-      cut = rw (words-are, A .left ∙ sends .left) (cut-rows fs (F .fit) (drop (length (rowsOf fs)) row))
+      cut = rw (words-are, A .3 ∙ sends .left) (cut-rows fs (F .fit) (drop (length (rowsOf fs)) row))
 
       pub small : words ≤ length row
       small = omega (arith, words-are, F .room)
 
       pub counts : (1 ≤ r .session .count) × (r .session .count ≤ 16)
-      counts = let t = write-count ws (sessionAt d i) (S .session i il .size) plot value row code (F .few) in rw (A .session) (t .0, t .1)
+      counts = let t = write-count ws (sessionAt d i) (S .session i il .size) plot value row code (F .few) in rw (A .1) (t .0, t .1)
 
       module _ (q : Delivered) (stores′ lines′ : List ℕ) (D : Delivers d (placeAt d i) (length fs) stores lines ws′ row′ q stores′ lines′) where
         pub line-full : q .full ≡ true → Plays row g (Write i plot value) (record { desk = d; reply = Full }) stores′ lines′
@@ -99,13 +100,13 @@ module _ (g : Scene) (d : Desk) (stores lines : List ℕ) (S : Shows g d stores 
             (λ (l : countAt d (nextOf 3 (placeAt d i)) + length fs ≤ 32).
             subst (λ (x : (Desk × Reply) × (List ℕ × List ℕ)). Plays row g (Write i plot value) (record { desk = x .0 .0; reply = x .0 .1 }) (x .1 .0) (x .1 .1))
             (λ j. (
-              (sym (a ∙ (λ k. withSession (D .fits l .0 k .desk) i (A .session k))) j, sym (b ∙ newest) j),
+              (sym (a ∙ (λ k. withSession (D .fits l .0 k .desk) i (A .1 k))) j, sym (b ∙ newest) j),
               (
-                sym (D .fits l .1 ∙ ap (sets stores (1747 * placeAt d i)) (A .store)) j,
-                sym (D .fits l .2 ∙ ap (λ (x : List ℕ). pushed lines (nextOf 3 (placeAt d i)) (firstAt d (nextOf 3 (placeAt d i)) + countAt d (nextOf 3 (placeAt d i))) x (length fs)) (A .left)) j,
+                sym (D .fits l .1 ∙ ap (sets stores (1747 * placeAt d i)) (A .2)) j,
+                sym (D .fits l .2 ∙ ap (λ (x : List ℕ). pushed lines (nextOf 3 (placeAt d i)) (firstAt d (nextOf 3 (placeAt d i)) + countAt d (nextOf 3 (placeAt d i))) x (length fs)) (A .3)) j,
               ),
             ))
-            (write-done g d stores lines S i il plot value row code fs sends l (ap length (sym (A .store)) ∙ size) _
+            (write-done g d stores lines S i il plot value row code fs sends l (ap length (sym (A .2)) ∙ size) _
             (write-session ws (sessionAt d i) (S .session i il .size) plot value row code (F .few))
             (write-count ws (sessionAt d i) (S .session i il .size) plot value row code (F .few) .2)))
             (lt-or-le 32 (countAt d (nextOf 3 (placeAt d i)) + length fs))
@@ -113,5 +114,5 @@ module _ (g : Scene) (d : Desk) (stores lines : List ℕ) (S : Shows g d stores 
             newest : newestReply (r .session) ≡ wroteReply (R .session .own)
             newest =
                 newest-is (r .session) (counts .0)
-                ∙ ap (λ (s : Session). wroteReply (contentOf s .own)) (A .session)
+                ∙ ap (λ (s : Session). wroteReply (contentOf s .own)) (A .1)
                 ∙ ap (λ (c : Content). wroteReply (c .own)) (sym (write-session ws (sessionAt d i) (S .session i il .size) plot value row code (F .few)))

@@ -5,13 +5,12 @@ ghost use Prim.Native.Nat.{ℕ, _+_, _*_, _<_, _≤_};
 ghost use lib.ListN.{getD, length};
 ghost use lib.Seq.{sets};
 ghost use Rattle.causal.specs.Lists.{part};
-ghost use Rattle.frame.specs.Sessions.{contentOf};
-ghost use Rattle.office.specs.Calls.{readPlot};
+ghost use Rattle.office.specs.Promises.{ReadPromise, ReceivePromise};
 ghost use Rattle.ring.specs.Run.{nextOf};
 ghost use Rattle.player.specs.Desks.{Cut, countAt, firstAt};
 ghost use Rattle.player.specs.Play.{Scene};
 ghost use Rattle.player.specs.Shows.{Shown, Shows};
-ghost use Rattle.player.specs.Steps.{Delivers, Plays, ReadsAt, ReceivesAt, entryReply};
+ghost use Rattle.player.specs.Steps.{Delivers, Plays, entryReply};
 use crate::desk::Desk;
 use crate::desk::Played;
 use crate::desk::newest;
@@ -68,7 +67,8 @@ pub fn deliver(
     }
 }
 
-// `W`: session i, below 4, writes at the office where it is.
+// `W`: session i, below 4, writes at the office where it is. The call runs on a copy of the store, in `scratch`, so `scratch` and `out` are left with
+// any words.
 pub fn write_line(
     desk: Desk,
     i: usize,
@@ -115,10 +115,10 @@ pub fn write_line(
     }
 }
 
-// A reading at an office, on its part of the stores.
+// A reading at an office, on its part of the stores; the other parts stay.
 pub fn read_at(stores: &mut [u32], office: usize, s: Session, plot: u32) -> PlotRead
     requires { ⌜ (office < 3) × (length (now stores) ≡ 5241) ⌝ }
-    ensures { λ r. ⌜ ReadsAt (part (now (stores .entry)) (1747 * office) 1747) s plot r × (now (stores .exit) ≡ sets (now (stores .entry)) (1747 * office) (readPlot (part (now (stores .entry)) (1747 * office) 1747) (contentOf s) plot .store)) ⌝ }
+    ensures { λ r. ⌜ ReadPromise (part (now (stores .entry)) (1747 * office) 1747) s plot r (part (now (stores .exit)) (1747 * office) 1747) × (now (stores .exit) ≡ sets (now (stores .entry)) (1747 * office) (part (now (stores .exit)) (1747 * office) 1747)) ⌝ }
 {
     let from = 1747 * office;
     let end = from + 1747;
@@ -189,14 +189,14 @@ pub fn move_line(desk: Desk, i: u32, office: u32) -> Played
 // The frame of a slot is received by the store in `scratch`.
 pub fn receive_at(lines: &[u32], slot: usize, scratch: &mut [u32], out: &mut [u32]) -> Written
     requires { ⌜ (slot + 104 ≤ length (now lines)) × (getD (now lines) slot 0 ≤ 103) ⌝ }
-    ensures { λ r. ⌜ ReceivesAt (now (scratch .entry)) (part (now (lines .entry)) (slot + 1) (getD (now (lines .entry)) slot 0)) (now (out .entry)) r (now (scratch .exit)) (now (out .exit)) ⌝ }
+    ensures { λ r. ⌜ ReceivePromise (now (scratch .entry)) (part (now (lines .entry)) (slot + 1) (getD (now (lines .entry)) slot 0)) (now (out .entry)) r (now (scratch .exit)) (now (out .exit)) ⌝ }
 {
     let from = slot + 1;
     let end = from + lines[slot] as usize;
     office::receive::receive(&mut *scratch, &lines[from..end], &mut *out)
 }
 
-// `H`: an office, below 3, receives its oldest waiting frame.
+// `H`: an office, below 3, receives its oldest waiting frame. `scratch` and `out` are left with any words, as by `write_line`.
 pub fn receive_line(
     desk: Desk,
     office: usize,
@@ -247,7 +247,8 @@ pub fn receive_line(
     }
 }
 
-// A line of a script over the desk and its buffers. `scratch` and `out` hold anything afterwards.
+// A line of a script over the desk and its buffers. `scratch` and `out` are left with any words: what they hold is taken by no later line. Of `lines`
+// the slots that no frame waits in are free.
 pub fn play_line(
     desk: Desk,
     line: Line,

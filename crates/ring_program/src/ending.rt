@@ -11,6 +11,7 @@ ghost use Rattle.ring_program.specs.Fed.{Staged};
 ghost use Rattle.ring_program.specs.Promises.{Closes};
 use crate::feed::Stage;
 use crate::feed::finish;
+use crate::input::Chunk;
 
 pub enum Ending {
     Done, // at the input's end
@@ -24,10 +25,11 @@ pub struct Closed {
     pub stage: Stage,
 }
 
-// No more bytes come. At the input's end what is pending is the last line; before a failed read it is half a line, and is not played.
+// The last chunk, which has no bytes. At the input's end what is pending is the last line; before a failed read it may be half a line, and is
+// not played.
 pub fn close(
     stage: Stage,
-    failed: bool,
+    chunk: Chunk,
     stores: &mut [u32],
     lines: &mut [u32],
     scratch: &mut [u32],
@@ -35,9 +37,9 @@ pub fn close(
     text: &mut [u8],
 ) -> Closed
     requires { ⌜ (length (now scratch) ≡ 1747) × (length (now out) ≡ 1751) × (length (now text) ≡ 8192) × (stage .at ≡ 0) × Staged stage (now stores) (now lines) × (stage .wrote ≡ true) ⌝ }
-    ensures { λ r. ⌜ ((g : Scene) (l : List ℕ) → Shows g (stage .desk) (now (stores .entry)) (now (lines .entry)) → stage .pending ≡ pendingOf l → Closes (r .ending) failed g l (now (text .entry)) (r .stage) (now (stores .exit)) (now (lines .exit)) (now (text .exit))) ⌝ }
+    ensures { λ r. ⌜ ((g : Scene) (l : List ℕ) → Shows g (stage .desk) (now (stores .entry)) (now (lines .entry)) → stage .pending ≡ pendingOf l → Closes (r .ending) (chunk .failed) g l (now (text .entry)) (r .stage) (now (stores .exit)) (now (lines .exit)) (now (text .exit))) ⌝ }
 {
-    if failed {
+    if chunk.failed {
         return Closed {
             ending: Ending::ReadFailed,
             stage,

@@ -18,7 +18,7 @@ use script::pending::nothing;
 
 pub struct Outcome {
     pub ending: Ending,
-    pub left: u64, // the bytes read are those that it lacks of u64::MAX
+    pub left: u64, // u64::MAX less the bytes read
     pub stage: Stage,
 }
 
@@ -48,7 +48,7 @@ fn run(
         left = chunk.left;
         let n = chunk.n;
         if n == 0 {
-            let closed = close(stage, chunk.failed, stores, lines, scratch, out, text);
+            let closed = close(stage, chunk, stores, lines, scratch, out, text);
             let ending = closed.ending;
             let last = closed.stage;
             return Outcome {

@@ -1,3 +1,7 @@
+use Prim.Native.Nat.{_*_}
+use native.Mathlib.Omega.{arith}
+use Rattle.causal.proofs.Lists.{part-length}
+use Rattle.player.specs.Desks.{placeAt}
 use Rattle.player.proofs.LineRead as rd
 use borrow.Author.Needs.{needs}
 use Rattle.player.proofs.play.read_line.Statement.{statement}
@@ -42,7 +46,7 @@ same-length c = search needs
 returns : tie.Need-returns
 returns c = let z = c .before .before .before .before .before .before .before .before .before .before .before .before .before in
     let q = c .before .before .before .before .before .before .read-at in
-    λ row g S. rd.line-refused g (z .args .desk) (z .args .stores .now) (z .args .lines .now) S (z .args .i) (z .pre .0) (z .args .plot) row (q .result) (q .ensures .0) (q .last .0) (q .ensures .1) (c .before .before .status .given .0 .0) (c .number-of .result) (c .before .before .status .given .1) (c .number-of .ensures)
+    λ row g S. rd.line-refused g (z .args .desk) (z .args .stores .now) (z .args .lines .now) S (z .args .i) (z .pre .0) (z .args .plot) row (q .result) _ (q .ensures .0) (part-length (q .last .0) (1747 * placeAt (z .args .desk) (z .args .i)) 1747 (omega (arith, S .placed (z .args .i) (z .pre .0), S .long-stores, q .kept .0))) (q .last .0) (q .ensures .1) (c .before .before .status .given .0 .0) (c .number-of .result) (c .before .before .status .given .1) (c .number-of .ensures)
 
 same-length-2 : tie.Need-same-length-2
 same-length-2 c = search needs
@@ -50,7 +54,7 @@ same-length-2 c = search needs
 returns-2 : tie.Need-returns-2
 returns-2 c = let z = c .before .before .before .before .before .before .before .before .before .before .before .before .before .before .before in
     let q = c .before .before .before .before .before .before .before .before .read-at in
-    λ row g S. rd.line-done g (z .args .desk) (z .args .stores .now) (z .args .lines .now) S (z .args .i) (z .pre .0) (z .args .plot) row (q .result) (q .ensures .0) (q .last .0) (q .ensures .1) (c .with-session .result) (c .before .before .reply-of .result) (c .before .before .before .before .enum-told .given .1) (c .with-session .ensures) (c .before .before .reply-of .ensures)
+    λ row g S. rd.line-done g (z .args .desk) (z .args .stores .now) (z .args .lines .now) S (z .args .i) (z .pre .0) (z .args .plot) row (q .result) _ (q .ensures .0) (part-length (q .last .0) (1747 * placeAt (z .args .desk) (z .args .i)) 1747 (omega (arith, S .placed (z .args .i) (z .pre .0), S .long-stores, q .kept .0))) (q .last .0) (q .ensures .1) (c .with-session .result) (c .before .before .reply-of .result) (c .before .before .before .before .enum-told .given .1) (c .with-session .ensures) (c .before .before .reply-of .ensures)
 
 pub read-line-spec : {M : Type 1} → statement M
 read-line-spec =

@@ -1,3 +1,4 @@
+use mathlib.Core.Path.{refl}
 use Prim.Native.Nat.{_+_}
 use lib.ListN.{getD}
 use Rattle.causal.specs.Lists.{part}
@@ -44,7 +45,7 @@ same-length-2 c = search needs
 
 returns : tie.Need-returns
 returns c = let z = c .before .before .before .before .before .before .before .before .before .before .before .before in
-    dl.receives-at (z .args .scratch .now) _ (part (z .args .lines .now) (z .args .slot + 1) (getD (z .args .lines .now) (z .args .slot) 0)) (z .args .out .now) (c .before .before .before .before .receive .result) (c .before .before .before .before .receive .last .0) (c .before .before .before .before .receive .last .1 .1 .0) (dl.lent-part (z .args .lines .now) (z .args .slot + 1) (getD (z .args .lines .now) (z .args .slot) 0)) (c .before .before .before .before .receive .ensures)
+    dl.receives-from (z .args .scratch .now) (z .args .scratch .now) _ (z .args .out .now) (c .before .before .before .before .receive .result) (c .before .before .before .before .receive .last .0) (c .before .before .before .before .receive .last .1 .1 .0) refl (part (z .args .lines .now) (z .args .slot + 1) (getD (z .args .lines .now) (z .args .slot) 0)) (dl.lent-part (z .args .lines .now) (z .args .slot + 1) (getD (z .args .lines .now) (z .args .slot) 0)) (c .before .before .before .before .receive .ensures)
 
 pub receive-at-spec : {M : Type 1} → statement M
 receive-at-spec =
