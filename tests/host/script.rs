@@ -1,16 +1,18 @@
 //! Plays random scripts through the ring program, given by its path, and compares its output
-//! with the model's, byte by byte.
+//! with the model's, byte by byte; then lets its input and output fail, also under 'scripts/play'.
 
 #[path = "../model/mod.rs"]
 mod model;
 mod random;
 mod report;
 mod script_cases;
+mod script_faults;
 
 use model::script::play;
 use random::Random;
 use report::Report;
 use script_cases::{edge_scripts, some_script};
+use script_faults::check_faults;
 use std::io::Write;
 use std::process::{Command, ExitCode, Stdio};
 
@@ -39,6 +41,7 @@ fn run(program: &str, script: &[u8]) -> Result<Vec<u8>, String> {
     let mut child = Command::new(program)
         .stdin(Stdio::piped())
         .stdout(Stdio::piped())
+        .stderr(Stdio::piped())
         .spawn()
         .map_err(|error| format!("{program} does not start: {error}"))?;
     let mut input = child.stdin.take().unwrap();
@@ -49,6 +52,9 @@ fn run(program: &str, script: &[u8]) -> Result<Vec<u8>, String> {
     let written = writer.join().unwrap();
     if !output.status.success() {
         return Err(format!("the program ended with {}", output.status));
+    }
+    if !output.stderr.is_empty() {
+        return Err(format!("the program said {}", String::from_utf8_lossy(&output.stderr)));
     }
     written.map_err(|error| format!("the program did not read its input: {error}"))?;
     Ok(output.stdout)
@@ -95,19 +101,21 @@ fn compare(report: &mut Report, name: &str, program: &str, script: &[u8]) {
 }
 
 fn main() -> ExitCode {
-    let Some(program) = std::env::args().nth(1) else {
-        eprintln!("usage: script PROGRAM");
+    let arguments: Vec<String> = std::env::args().collect();
+    let [_, program, play] = &arguments[..] else {
+        eprintln!("usage: script PROGRAM PLAY");
         return ExitCode::from(2);
     };
     let mut random = Random::new(SEED);
     let mut report = Report::default();
     for script in edge_scripts() {
-        compare(&mut report, "edge scripts", &program, &script);
+        compare(&mut report, "edge scripts", program, &script);
     }
     for _ in 0..SCRIPTS {
         let script = some_script(&mut random, LINES);
-        compare(&mut report, "random scripts of 1,000 lines", &program, &script);
+        compare(&mut report, "random scripts of 1,000 lines", program, &script);
     }
+    check_faults(&mut report, program, play);
     for reply in REPLIES {
         report.met(&format!("reply: {reply}"));
     }

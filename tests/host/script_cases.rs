@@ -162,6 +162,15 @@ pub fn some_script(random: &mut Random, lines: usize) -> Vec<u8> {
     script
 }
 
+/// Every session carries 16 and 32 frames wait at each office, each to go on: no write is left, and every
+/// hearing is `full` for ever.
+fn standstill() -> String {
+    let parts =
+        [("W 0 0 1\n", 15), ("W 1 0 1\n", 15), ("W 2 0 1\n", 2), ("M 0 2\nW 0 1 1\nM 1 2\nW 1 1 1\n", 1)];
+    let rest = [("M 2 1\n", 1), ("W 2 2 2\n", 14), ("M 3 1\n", 1), ("W 3 3 3\n", 16), ("H 0\nH 1\nH 2\n", 2)];
+    parts.iter().chain(&rest).map(|(lines, times)| lines.repeat(*times)).collect()
+}
+
 /// Short and strange ones.
 pub fn edge_scripts() -> Vec<Vec<u8>> {
     let long = [vec![b'R'; 200_000], b"\nM 0 1\n".to_vec(), vec![b'0'; 70_000]].concat();
@@ -171,11 +180,21 @@ pub fn edge_scripts() -> Vec<Vec<u8>> {
         .map(|script| script.as_bytes().to_vec())
         .collect();
     scripts.extend([long, almost]);
+    scripts.push(standstill().into_bytes());
     // Lines that end on and about the sizes that a buffer may have.
     for size in [4_095, 4_096, 4_097, 32_768, 65_535, 65_536, 65_537] {
         let lines = b"M 0 1\n".repeat(size / 6);
         let rest = vec![b'x'; size - lines.len()];
         scripts.push([lines, rest, b"\nR 0 0\nH 1\n".to_vec()].concat());
+    }
+    // Some chunks, and a last line that the input's end ends: within a chunk, and at its very end.
+    for size in [3 * 4_096, 5 * 4_096 + 1, 70_000] {
+        let last = b"W 0 5 709";
+        let lines = b"W 1 2 3\nH 1\nR 1 2\n".repeat(size / 18 + 1);
+        let mut script = [&lines[..size - last.len() - 1], b"\n", last].concat();
+        scripts.push(script.clone());
+        script.pop();
+        scripts.push(script);
     }
     scripts
 }

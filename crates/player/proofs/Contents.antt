@@ -27,7 +27,7 @@ unfolding tab
 tab-ext zero f g h = refl
 tab-ext (suc n) f g h = λ i. tab-ext n f g (λ k l. h k (omega arith)) i ++ (h n (omega arith) i ∷ [])
 
-pub own-length : (s : Session) → length (contentOf s .own) ≡ s .count
+own-length : (s : Session) → length (contentOf s .own) ≡ s .count
 unfolding contentOf
 own-length s = tab-length (s .count) (λ i. getD (s .own) i nobody)
 

@@ -22,7 +22,7 @@ part-none : (ws : List ℕ) (a : ℕ) → part ws a 0 ≡ []
 unfolding part
 part-none ws a = refl
 
-pub part-more : (ws : List ℕ) (a n : ℕ) → a + n < length ws → part ws a (n + 1) ≡ part ws a n ++ (getD ws (a + n) 0 ∷ [])
+part-more : (ws : List ℕ) (a n : ℕ) → a + n < length ws → part ws a (n + 1) ≡ part ws a n ++ (getD ws (a + n) 0 ∷ [])
 part-more ws a n h = part-add ws a n 1 ∙ ap (λ (l : List ℕ). part ws a n ++ l) (part-cons ws (a + n) 0 h ∙ ap (λ (l : List ℕ). getD ws (a + n) 0 ∷ l) (part-none ws (suc (a + n))))
 
 pub copy-more : (to from : List ℕ) (a b n : ℕ) → a + n < length from → set (sets to b (part from a n)) (b + n) (getD from (a + n) 0) ≡ sets to b (part from a (n + 1))
@@ -42,7 +42,7 @@ pub start-more : (ws : List ℕ) (k : ℕ) → startOf ws (k + 1) ≡ startOf ws
 unfolding startOf
 start-more ws k = rw (add-one k)
 
-pub start-mono : (ws : List ℕ) (k n : ℕ) → k ≤ n → startOf ws k ≤ startOf ws n
+start-mono : (ws : List ℕ) (k n : ℕ) → k ≤ n → startOf ws k ≤ startOf ws n
 unfolding startOf
 start-mono ws k zero h = let e : k ≡ 0 = omega arith in rw e (omega arith)
 start-mono ws k (suc n) h =
@@ -73,7 +73,7 @@ pub start-none : (ws : List ℕ) → 0 ≡ startOf ws 0
 unfolding startOf
 start-none ws = refl
 
-pub start-low : (ws : List ℕ) (k : ℕ) → 7 * k ≤ startOf ws k
+start-low : (ws : List ℕ) (k : ℕ) → 7 * k ≤ startOf ws k
 unfolding startOf
 start-low ws zero = omega arith
 start-low ws (suc k) = omega (arith, start-low ws k)

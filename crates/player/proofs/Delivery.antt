@@ -18,7 +18,7 @@ use Rattle.player.specs.declared.desk.Desk.{Desk}
 use Rattle.player.specs.Desks.{Cut, countAt, frameLen, pushed, startOf, withFrames}
 use Rattle.player.specs.Steps.{Delivers}
 
-pub part-all : (ws : List ℕ) (n : ℕ) → length ws ≡ n → part ws 0 n ≡ ws
+part-all : (ws : List ℕ) (n : ℕ) → length ws ≡ n → part ws 0 n ≡ ws
 unfolding part
 part-all ws n h = take-all n ws (omega arith)
 

@@ -81,7 +81,7 @@ play-place row g (Move i o) b = go (both (ltb i 4) (ltb o 3)) refl
 -- ---- the ring
 
 module _ (rows : ℕ → List ℕ) (long : (o : ℕ) → o < 3 → 1747 ≤ length (rows o)) where
-  pub record Reached (g : Scene) : Type 0 where
+  record Reached (g : Scene) : Type 0 where
     pub calls : List Call
     pub is : g .ring ≡ wordsRun 3 64 rows calls
     pub placed : Below (g .place)

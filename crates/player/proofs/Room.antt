@@ -49,7 +49,7 @@ pub frame-room : (f : Frame) → Fit3 f → length (frameWords f) ≤ 103
 frame-room f F = omega (arith, length-frame f, F .ring, ids-room (f .entry .deps) (F .deps))
 
 -- the head tells the length
-pub head-tells : (f : Frame) (rest : List ℕ) → Fit3 f → lengthAt (frameWords f ++ rest) 0 ≡ length (frameWords f)
+head-tells : (f : Frame) (rest : List ℕ) → Fit3 f → lengthAt (frameWords f ++ rest) 0 ≡ length (frameWords f)
 unfolding frameWords bodyWords summed
 head-tells f rest F =
     let r = ids-room (f .entry .deps) (F .deps) in

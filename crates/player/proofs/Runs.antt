@@ -73,7 +73,7 @@ play-run row g (Move i o) = by-test g (both (ltb i 4) (ltb o 3)) _ (none (g .rin
 play-run row g (Receive o) = by-test g (ltb o 3) _ (receive-run row g o (g .ring .lines o))
 play-run row g Other = none (g .ring)
 
-pub all-run : (g : Scene) (ls : List (List ℕ × Line)) → After (g .ring) (playAll g ls .0 .ring)
+all-run : (g : Scene) (ls : List (List ℕ × Line)) → After (g .ring) (playAll g ls .0 .ring)
 unfolding playAll
 all-run g [] = none (g .ring)
 all-run g ((row, line) ∷ ls) = then (g .ring) (play row g line .0 .ring) (playAll (play row g line .0) ls .0 .ring) (play-run row g line) (all-run (play row g line .0) ls)

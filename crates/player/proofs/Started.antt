@@ -79,7 +79,7 @@ empty-queue lines o = record { start = omega arith; counted = refl; few = omega 
 queue-start : (rows : ℕ → List ℕ) (lines : List ℕ) (o : ℕ) → o < 3 → Queue lines o (firstAt startDesk o) (countAt startDesk o) (wordsRun 3 64 rows starts .lines o)
 queue-start rows lines o h = rw (getD-replicate {A = ℕ} 3 o 0 0 h, lines-are rows o) (empty-queue lines o)
 
-pub start-shows : (rows : ℕ → List ℕ) (stores lines : List ℕ) → length stores ≡ 5241 → length lines ≡ 9984 → ((o : ℕ) → o < 3 → length (rows o) ≡ 1747)
+start-shows : (rows : ℕ → List ℕ) (stores lines : List ℕ) → length stores ≡ 5241 → length lines ≡ 9984 → ((o : ℕ) → o < 3 → length (rows o) ≡ 1747)
     → ((o : ℕ) → o < 3 → part stores (1747 * o) 1747 ≡ openOffice 3 o 64 (rows o) .1) → Shows (opening rows) startDesk stores lines
 start-shows rows stores lines a b sizes opened =
     record {

@@ -27,7 +27,7 @@ apart lines x y n vs ne a b =
 -- ---- one frame more
 
 module _ (lines : List ℕ) (long : length lines ≡ 9984) (f : List ℕ) (short : length f ≤ 103) where
-  pub push-queue : (o first count : ℕ) (rows : List (List ℕ)) → o < 3 → Queue lines o first count rows → count < 32 →
+  push-queue : (o first count : ℕ) (rows : List (List ℕ)) → o < 3 → Queue lines o first count rows → count < 32 →
       Queue (sets lines (slotAt o ((first + count) % 32)) (length f ∷ f)) o first (count + 1) (rows ++ (f ∷ []))
   push-queue o first count rows ol Q l =
       record {

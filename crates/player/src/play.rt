@@ -247,8 +247,8 @@ pub fn receive_line(
     }
 }
 
-// A line of a script over the desk and its buffers. `scratch` and `out` are left with any words: what they hold is taken by no later line. Of `lines`
-// the slots that no frame waits in are free.
+// A line of a script over the desk and its buffers. `scratch` and `out` are left with any words, which no later line looks at; their lengths stay,
+// as those of every lent row. Of `lines` the slots that no frame waits in are free, and of a session the own writes past its count.
 pub fn play_line(
     desk: Desk,
     line: Line,

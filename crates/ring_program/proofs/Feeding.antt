@@ -9,7 +9,7 @@ use lib.Dec.{eqb}
 use native.Mathlib.Nat.{add-zero, zero-add}
 use native.Mathlib.Omega.{arith}
 use lib.ListN.{drop, getD, length, length-append, take}
-use lib.Seq.{sets, take-length}
+use lib.Seq.{sets}
 use Rattle.causal.specs.Lists.{part}
 use Rattle.causal.proofs.Tests.{lt-or-le}
 use Rattle.causal.proofs.Lists.{part-add, part-cons, sets-append}
@@ -55,7 +55,7 @@ fed-append g l (b ∷ bs) cs = by (eqb b 10) (fed-append next [] bs cs) (fed-app
         })
     by false p q = q
 
-pub follows-then : (g : Scene) (l bs : List ℕ) (at : ℕ) (text : List ℕ) (r : Stage) (stores lines text′ cs : List ℕ) (q : Stage) (stores′ lines′ text″ : List ℕ)
+follows-then : (g : Scene) (l bs : List ℕ) (at : ℕ) (text : List ℕ) (r : Stage) (stores lines text′ cs : List ℕ) (q : Stage) (stores′ lines′ text″ : List ℕ)
     → Follows (fed g l bs) at text r stores lines text′ → Follows (fed (fed g l bs .scene) (fed g l bs .rest) cs) (r .at) text′ q stores′ lines′ text″
     → Follows (fed g l (bs ++ cs)) at text q stores′ lines′ text″
 follows-then g l bs at text r stores lines text′ cs q stores′ lines′ text″ A B =
@@ -78,7 +78,7 @@ fed-byte : (g : Scene) (l : List ℕ) (b : ℕ) → (b ≡ 10 → ⊥) → fed g
 unfolding fed
 fed-byte g l b n = rw (ne-eqb b 10 n) refl
 
-pub ended-follows : (g : Scene) (l : List ℕ) (at : ℕ) (text : List ℕ) (r : Stage) (stores lines text′ : List ℕ) (b : ℕ) → b ≡ 10
+ended-follows : (g : Scene) (l : List ℕ) (at : ℕ) (text : List ℕ) (r : Stage) (stores lines text′ : List ℕ) (b : ℕ) → b ≡ 10
     → Ended g l at text r stores lines text′ → Follows (fed g l (b ∷ [])) at text r stores lines text′
 ended-follows g l at text r stores lines text′ b is E =
     subst (λ (f : Fed). Follows f at text r stores lines text′) (sym (fed-line g l b is))
@@ -92,7 +92,7 @@ ended-follows g l at text r stores lines text′ b is E =
     said : List ℕ
     said = replyBytes (play outRow g (lineOf l) .1)
 
-pub byte-follows : (g : Scene) (l : List ℕ) (at : ℕ) (text : List ℕ) (d : Desk) (p q : Pending) (w : Bool) (stores lines : List ℕ) (b : ℕ) → (b ≡ 10 → ⊥) → Shows g d stores lines → p ≡ pendingOf l → q ≡ pushed p b
+byte-follows : (g : Scene) (l : List ℕ) (at : ℕ) (text : List ℕ) (d : Desk) (p q : Pending) (w : Bool) (stores lines : List ℕ) (b : ℕ) → (b ≡ 10 → ⊥) → Shows g d stores lines → p ≡ pendingOf l → q ≡ pushed p b
     → Follows (fed g l (b ∷ [])) at text (record { desk = d; pending = q; at = at; wrote = w }) stores lines text
 byte-follows g l at text d p q w stores lines b ne S e h =
     subst (λ (f : Fed). Follows f at text (record { desk = d; pending = q; at = at; wrote = w }) stores lines text) (sym (fed-byte g l b ne))
@@ -121,7 +121,7 @@ unfolding part
 part-one xs a k = part-cons xs a 0 k
 
 -- the next byte of a part
-pub part-next : (ws : List ℕ) (from i : ℕ) → from ≤ i → i < length ws → part ws from (i - from) ++ (getD ws i 0 ∷ []) ≡ part ws from (i + 1 - from)
+part-next : (ws : List ℕ) (from i : ℕ) → from ≤ i → i < length ws → part ws from (i - from) ++ (getD ws i 0 ∷ []) ≡ part ws from (i + 1 - from)
 part-next ws from i h l =
     let e : i + 1 - from ≡ (i - from) + 1 = omega arith in
     let f : from + (i - from) ≡ i = omega arith in
@@ -206,10 +206,6 @@ module _ (b : ℕ) (cur : Stage) (stores lines scratch out text : List ℕ) wher
 
 -- ---- the loop over a chunk
 
-part-whole : (bytes : List ℕ) → part bytes 0 (length bytes) ≡ bytes
-unfolding part
-part-whole bytes = take-length bytes
-
 pub leads-none : (bytes : List ℕ) (r : Stage) (stores lines : List ℕ) (g : Scene) (l : List ℕ) → Shows g (r .desk) stores lines → r .pending ≡ pendingOf l → Leads (fed g l (part bytes 0 0)) r stores lines
 unfolding part fed
 leads-none bytes r stores lines g l S e = record { shows = S; pending = e }
@@ -228,9 +224,6 @@ leads-then bytes from next h g l at text q w stores′ lines′ text′ B d p =
     whole =
         let e : from + (next - from) ≡ next = omega arith in
         ap (λ (x : ℕ). part bytes 0 from ++ part bytes x (next - from)) (sym (zero-add from)) ∙ sym (part-add bytes 0 from (next - from)) ∙ ap (part bytes 0) e
-
-pub leads-all : (bytes : List ℕ) (n : ℕ) → n ≡ length bytes → (g : Scene) (l : List ℕ) (r : Stage) (stores lines : List ℕ) → Leads (fed g l (part bytes 0 n)) r stores lines → Leads (fed g l bytes) r stores lines
-leads-all bytes n e g l r stores lines A = subst (λ (x : List ℕ). Leads (fed g l x) r stores lines) (ap (part bytes 0) e ∙ part-whole bytes) A
 
 -- ---- the end of the input
 

@@ -34,12 +34,21 @@ fed g l [] = record { scene = g; rest = l; text = [] }
 fed g l (b ∷ bs) =
     cond (eqb b 10) (after (replyBytes (play outRow g (lineOf l) .1)) (fed (play outRow g (lineOf l) .0) [] bs)) (fed g (l ++ (b ∷ [])) bs)
 
+-- the input ends with the bytes l pending: "a line ends at a newline or the input's end, and no line begins at the input's end"
+unfoldable pub lastFed : Scene → List ℕ → Fed
+lastFed g [] = record { scene = g; rest = []; text = [] }
+lastFed g (b ∷ l) = record { scene = play outRow g (lineOf (b ∷ l)) .0; rest = []; text = replyBytes (play outRow g (lineOf (b ∷ l)) .1) }
+
+-- a whole input: bytes, and their end
+abbrev pub wholeFed : Scene → List ℕ → List ℕ → Fed
+wholeFed g l bs = after (fed g l bs .text) (lastFed (fed g l bs .scene) (fed g l bs .rest))
+
 -- the lines that the bytes bs end, with the bytes l of the first one pending
 unfoldable pub linesIn : List ℕ → List ℕ → List Line
 linesIn l [] = []
 linesIn l (b ∷ bs) = cond (eqb b 10) (lineOf l ∷ linesIn [] bs) (linesIn (l ++ (b ∷ [])) bs)
 
--- "a line ends at a newline or the input's end, and no line begins at the input's end": of a whole input, the line that its end ends, and all lines
+-- the same of a whole input: with the line that its end ends, if one has begun
 abbrev pub lastLine : List ℕ → List Line
 lastLine [] = []
 lastLine (b ∷ l) = lineOf (b ∷ l) ∷ []
@@ -79,16 +88,7 @@ pub record Leads (f : Fed) (r : Stage) (stores lines : List ℕ) : Type 0 where
 abbrev pub Staged : Stage → List ℕ → List ℕ → Type 0
 Staged r stores lines = (g : Scene) × (l : List ℕ) × Shows g (r .desk) stores lines × (r .pending ≡ pendingOf l)
 
--- the input has ended with the bytes l pending
-unfoldable pub lastFed : Scene → List ℕ → Fed
-lastFed g [] = record { scene = g; rest = []; text = [] }
-lastFed g (b ∷ l) = record { scene = play outRow g (lineOf (b ∷ l)) .0; rest = []; text = replyBytes (play outRow g (lineOf (b ∷ l)) .1) }
-
--- a whole input
-abbrev pub wholeFed : Scene → List ℕ → List ℕ → Fed
-wholeFed g l bs = after (fed g l bs .text) (lastFed (fed g l bs .scene) (fed g l bs .rest))
-
--- what is pending is played as the last line, and its reply stands at the text's beginning
+-- the input has ended: what is pending is played as the last line, and its reply stands at the text's beginning
 pub record Finishes (g : Scene) (l text : List ℕ) (r : Stage) (stores lines text′ : List ℕ) : Type 0 where
   pub leads : Leads (lastFed g l) r stores lines
   pub text-is : text′ ≡ sets text 0 (lastFed g l .text)
