@@ -8,6 +8,7 @@ use lib.ListN.{drop, drop-of-length-le, getD, length, take}
 use lib.Seq.{drop-drop, sets, sets-eq, take-all}
 use Rattle.causal.specs.Lists.{part}
 use Rattle.causal.proofs.Lists.{part-length, part-sets-whole, sets-front}
+use Rattle.frame.specs.Refusals.{codeOf, replyOf}
 use Rattle.frame.specs.declared.refusal.Written.{Written}
 use Rattle.frame.specs.declared.session.Session.{Session}
 use Rattle.office.specs.Promises.{ReadPromise, ReceivePromise, WritePromise}
@@ -70,9 +71,9 @@ module _ (stores W new : List ℕ) (a : ℕ) (e : W ≡ part stores a 1747) (s :
   abbrev left : List ℕ
   left = take a stores ++ (new ++ drop (a + 1747 - a) (drop a stores))
 
-  pub reads-at : ReadPromise W s plot r new → a + 1747 ≤ length stores → length new ≡ length W
-      → ReadPromise (part stores a 1747) s plot r (part left a 1747) × (left ≡ sets stores a (part left a 1747))
-  reads-at x h l = (subst (λ (p : List ℕ × List ℕ). ReadPromise (p .0) s plot r (p .1)) (λ i. (e i, sym back i)) x, put ∙ ap (sets stores a) (sym back))
+  pub reads-at : ReadPromise W s plot (codeOf (r .status)) (r .found) (r .entry) (r .session) new → a + 1747 ≤ length stores → length new ≡ length W
+      → ReadPromise (part stores a 1747) s plot (codeOf (r .status)) (r .found) (r .entry) (r .session) (part left a 1747) × (left ≡ sets stores a (part left a 1747))
+  reads-at x h l = (subst (λ (p : List ℕ × List ℕ). ReadPromise (p .0) s plot (codeOf (r .status)) (r .found) (r .entry) (r .session) (p .1)) (λ i. (e i, sym back i)) x, put ∙ ap (sets stores a) (sym back))
     where
       size : length new ≡ 1747
       size = l ∙ ap length e ∙ part-length stores a 1747 h
@@ -94,9 +95,9 @@ copied to stores a l h =
 
 -- the promises of calls on an equal store, and with an equal frame
 pub writes-at : (W ws : List ℕ) (s : Session) (plot value : ℕ) (row : List ℕ) (r : Wrote) (ws′ row′ : List ℕ) → W ≡ ws
-    → WritePromise W s plot value row r ws′ row′ → WritePromise ws s plot value row r ws′ row′
-writes-at W ws s plot value row r ws′ row′ e A = subst (λ (w : List ℕ). WritePromise w s plot value row r ws′ row′) e A
+    → WritePromise W s plot value row (replyOf (r .written)) (r .session) ws′ row′ → WritePromise ws s plot value row (replyOf (r .written)) (r .session) ws′ row′
+writes-at W ws s plot value row r ws′ row′ e A = subst (λ (w : List ℕ). WritePromise w s plot value row (replyOf (r .written)) (r .session) ws′ row′) e A
 
 pub receives-from : (W ws frame row : List ℕ) (r : Written) (ws′ row′ : List ℕ) → W ≡ ws → (f : List ℕ) → frame ≡ f
-    → ReceivePromise W frame row r ws′ row′ → ReceivePromise ws f row r ws′ row′
-receives-from W ws frame row r ws′ row′ e f h A = subst (λ (p : List ℕ × List ℕ). ReceivePromise (p .0) (p .1) row r ws′ row′) (λ i. (e i, h i)) A
+    → ReceivePromise W frame row (replyOf r) ws′ row′ → ReceivePromise ws f row (replyOf r) ws′ row′
+receives-from W ws frame row r ws′ row′ e f h A = subst (λ (p : List ℕ × List ℕ). ReceivePromise (p .0) (p .1) row (replyOf r) ws′ row′) (λ i. (e i, h i)) A

@@ -18,7 +18,7 @@ use Rattle.player.specs.Shows.{Shows}
 use Rattle.player.specs.Steps.{Plays}
 use Rattle.player.proofs.Accepted.{Reads}
 use Rattle.player.proofs.Scenes.{store-same}
-use Rattle.frame.specs.Refusals.{numberOf}
+use Rattle.frame.specs.Refusals.{codeOf, numberOf}
 use Rattle.frame.specs.declared.refusal.Refusal.{Refusal}
 use Rattle.frame.specs.declared.refusal.Status.the-variants.{Accepted, Refused as RefusedWith}
 use Rattle.office.specs.Promises.{ReadPromise}
@@ -40,7 +40,7 @@ module _ (g : Scene) (d : Desk) (stores lines : List ℕ) (S : Shows g d stores 
   here : 1747 * placeAt d i + 1747 ≤ length stores
   here = omega (arith, S .placed i il, S .long-stores)
 
-  module _ (r : PlotRead) (ws′ : List ℕ) (A : ReadPromise ws (sessionAt d i) plot r ws′) (size : length ws′ ≡ 1747) (stores′ : List ℕ) (left : stores′ ≡ sets stores (1747 * placeAt d i) ws′) where
+  module _ (r : PlotRead) (ws′ : List ℕ) (A : ReadPromise ws (sessionAt d i) plot (codeOf (r .status)) (r .found) (r .entry) (r .session) ws′) (size : length ws′ ≡ 1747) (stores′ : List ℕ) (left : stores′ ≡ sets stores (1747 * placeAt d i) ws′) where
     left-is : stores′ ≡ sets stores (1747 * placeAt d i) (R .store)
     left-is = left ∙ ap (sets stores (1747 * placeAt d i)) (A .4)
 

@@ -24,7 +24,7 @@ use Rattle.player.specs.Steps.{Plays}
 use Rattle.player.proofs.Accepted.{Receives}
 use Rattle.player.proofs.Scenes.{next-ne}
 use Rattle.causal.proofs.Tests.{false-true, lt-or-le}
-use Rattle.frame.specs.Refusals.{numberOf}
+use Rattle.frame.specs.Refusals.{numberOf, replyOf}
 use Rattle.frame.specs.declared.refusal.Refusal.{Refusal}
 use Rattle.frame.specs.declared.refusal.Written.{Written}
 use Rattle.frame.specs.declared.refusal.Written.the-variants.{NotWritten, Words}
@@ -46,7 +46,7 @@ module _ (g : Scene) (d : Desk) (stores lines : List ℕ) (S : Shows g d stores 
   abbrev R : Result (List ℕ) (List ℕ)
   R = receive ws f row
 
-  module _ (r : Written) (ws′ row′ : List ℕ) (A : ReceivePromise ws f row r ws′ row′) where
+  module _ (r : Written) (ws′ row′ : List ℕ) (A : ReceivePromise ws f row (replyOf r) ws′ row′) where
     pub line-refused : (x : Refusal) (k : ℕ) → r ≡ NotWritten x → k ≡ numberOf x → Plays row g (Receive o) (record { desk = d; reply = Refused k }) stores lines
     line-refused x k e h =
         refused-as (λ n. Plays row g (Receive o) (record { desk = d; reply = Refused n }) stores lines) (R .code) (receive-refused g d stores lines S o ol row f rest are) k x h

@@ -25,7 +25,7 @@ use Rattle.player.specs.Shows.{Shows}
 use Rattle.player.specs.Steps.{Plays}
 use Rattle.player.proofs.Accepted.{Writes}
 use Rattle.causal.proofs.Tests.{false-true, lt-or-le}
-use Rattle.frame.specs.Refusals.{numberOf}
+use Rattle.frame.specs.Refusals.{numberOf, replyOf}
 use Rattle.frame.specs.declared.refusal.Refusal.{Refusal}
 use Rattle.frame.specs.declared.refusal.Written.the-variants.{NotWritten, Words}
 use Rattle.store.specs.Offices.{officeOf}
@@ -51,7 +51,7 @@ module _ (g : Scene) (d : Desk) (stores lines : List ℕ) (S : Shows g d stores 
   ol : placeAt d i < 3
   ol = S .placed i il
 
-  module _ (r : Wrote) (ws′ row′ : List ℕ) (A : WritePromise ws (sessionAt d i) plot value row r ws′ row′) where
+  module _ (r : Wrote) (ws′ row′ : List ℕ) (A : WritePromise ws (sessionAt d i) plot value row (replyOf (r .written)) (r .session) ws′ row′) where
     pub line-refused : (x : Refusal) (k : ℕ) → r .written ≡ NotWritten x → k ≡ numberOf x → Plays row g (Write i plot value) (record { desk = d; reply = Refused k }) stores lines
     line-refused x k e h =
         refused-as (λ n. Plays row g (Write i plot value) (record { desk = d; reply = Refused n }) stores lines) (R .code) (write-refused g d stores lines S i il plot value row) k x h

@@ -11,6 +11,7 @@ ghost use Rattle.player.specs.Desks.{Cut, countAt, firstAt};
 ghost use Rattle.player.specs.Play.{Scene};
 ghost use Rattle.player.specs.Shows.{Shown, Shows};
 ghost use Rattle.player.specs.Steps.{Delivers, Plays, entryReply};
+ghost use Rattle.frame.specs.Refusals.{codeOf, replyOf};
 use crate::desk::Desk;
 use crate::desk::Played;
 use crate::desk::newest;
@@ -118,7 +119,7 @@ pub fn write_line(
 // A reading at an office, on its part of the stores; the other parts stay.
 pub fn read_at(stores: &mut [u32], office: usize, s: Session, plot: u32) -> PlotRead
     requires { ⌜ (office < 3) × (length (now stores) ≡ 5241) ⌝ }
-    ensures { λ r. ⌜ ReadPromise (part (now (stores .entry)) (1747 * office) 1747) s plot r (part (now (stores .exit)) (1747 * office) 1747) × (now (stores .exit) ≡ sets (now (stores .entry)) (1747 * office) (part (now (stores .exit)) (1747 * office) 1747)) ⌝ }
+    ensures { λ r. ⌜ ReadPromise (part (now (stores .entry)) (1747 * office) 1747) s plot (codeOf (r .status)) (r .found) (r .entry) (r .session) (part (now (stores .exit)) (1747 * office) 1747) × (now (stores .exit) ≡ sets (now (stores .entry)) (1747 * office) (part (now (stores .exit)) (1747 * office) 1747)) ⌝ }
 {
     let from = 1747 * office;
     let end = from + 1747;
@@ -189,7 +190,7 @@ pub fn move_line(desk: Desk, i: u32, office: u32) -> Played
 // The frame of a slot is received by the store in `scratch`.
 pub fn receive_at(lines: &[u32], slot: usize, scratch: &mut [u32], out: &mut [u32]) -> Written
     requires { ⌜ (slot + 104 ≤ length (now lines)) × (getD (now lines) slot 0 ≤ 103) ⌝ }
-    ensures { λ r. ⌜ ReceivePromise (now (scratch .entry)) (part (now (lines .entry)) (slot + 1) (getD (now (lines .entry)) slot 0)) (now (out .entry)) r (now (scratch .exit)) (now (out .exit)) ⌝ }
+    ensures { λ r. ⌜ ReceivePromise (now (scratch .entry)) (part (now (lines .entry)) (slot + 1) (getD (now (lines .entry)) slot 0)) (now (out .entry)) (replyOf r) (now (scratch .exit)) (now (out .exit)) ⌝ }
 {
     let from = slot + 1;
     let end = from + lines[slot] as usize;

@@ -100,7 +100,8 @@ table =
           ∙ ap textOf (table-plays .replies)
           ∙ bytes .text;
       replies-unended =
-          ap (λ (ls : List Line). textOf (playAll start (rowed ls) .1)) (bytes .whole-unended) ∙ ap textOf (table-plays .replies) ∙ bytes .text;
+          whole-plays start [] unended .text
+          ∙ ap (λ (ls : List Line). textOf (playAll start (rowed ls) .1)) (bytes .whole-unended) ∙ ap textOf (table-plays .replies) ∙ bytes .text;
       entry-2-0 = three-clocks .keeps-2-0;
       entry-0-3 = three-clocks .keeps-0-3;
       entry-2-1 = three-clocks .keeps-2-1;
