@@ -111,28 +111,29 @@ module _ (n p : ℕ) (two : 2 ≤ n) (eight : n ≤ 8) (E : ℕ → Entry) (P : 
       reveal-changed n p E o (g .stores o) (w .offices o) two (held-range o) (λ k h. w .good k (held-made o k h) .deps-set)
       (λ k d h m. w .inv .held-down o k d h m) (λ k h. visible-held o k l h) (λ k d h m. w .inv .visible-down o k d h m) seeds ws hs
 
-pub event-fine : (E : ℕ → Entry) (log : List Made) (v : Event) → (v .code ≡ 10 → ⊥) → (v .code ≡ 11 → ⊥) → (v .code ≡ 12 → ⊥) → v .reads ≡ []
-    → v .past ≡ [] → EventFit E log v
-event-fine E log v a b c e f =
+pub event-fine : (E : ℕ → Entry) (P : ℕ → List ℕ) (log : List Made) (v : Event) → (v .code ≡ 10 → ⊥) → (v .code ≡ 11 → ⊥) → (v .code ≡ 12 → ⊥) → v .reads ≡ []
+    → v .past ≡ [] → EventFit E P log v
+event-fine E P log v a b c e f =
     record {
       not10 = a;
       not11 = b;
       not12 = c;
       reads = λ q f m. absurd (List·Memᴰ·not-nil (rw e at m));
       handed = λ q f m. absurd (List·Memᴰ·not-nil (rw e at m));
+      counted = λ q f m. absurd (List·Memᴰ·not-nil (rw e at m));
       past-made = λ k m. absurd (List·Memᴰ·not-nil (rw f at m));
     }
 
 -- the events with one more
-pub events-more : (E : ℕ → Entry) (log : List Made) (l : List Event) (v : Event) → ((x : Event) → List·Memᴰ x l → EventFit E log x)
-    → EventFit E log v
-    → (x : Event) → List·Memᴰ x (l ++ (v ∷ [])) → EventFit E log x
-events-more E log l v old new x m =
+pub events-more : (E : ℕ → Entry) (P : ℕ → List ℕ) (log : List Made) (l : List Event) (v : Event) → ((x : Event) → List·Memᴰ x l → EventFit E P log x)
+    → EventFit E P log v
+    → (x : Event) → List·Memᴰ x (l ++ (v ∷ [])) → EventFit E P log x
+events-more E P log l v old new x m =
     ⊎-elim (λ i. old x i) (λ (i : List·Memᴰ x (v ∷ [])). rw (List·Memᴰ·eq-of-singleton i) new) (List·Memᴰ·append-cases l m)
 
 -- a call that is refused leaves all but the events
 pub noted-whole : (n p : ℕ) (two : 2 ≤ n) (eight : n ≤ 8) (E : ℕ → Entry) (P : ℕ → List ℕ) (g : Sys) → Whole n p two E P g → (v : Event)
-    → EventFit E (g .log) v → Whole n p two E P (noted-event g v)
+    → EventFit E P (g .log) v → Whole n p two E P (noted-event g v)
 noted-whole n p two eight E P g w v F =
     record {
       inv = w .inv;
@@ -144,7 +145,7 @@ noted-whole n p two eight E P g w v F =
       sessions = w .sessions;
       tokens = w .tokens;
       tokens-ok = w .tokens-ok;
-      events = events-more E (g .log) (g .events) v (w .events) F;
+      events = events-more E P (g .log) (g .events) v (w .events) F;
     }
 
 abbrev acceptedOn : Office → Frame → List ℕ → Result Office Frame
@@ -186,7 +187,7 @@ module _ (n p : ℕ) (two : 2 ≤ n) (eight : n ≤ 8) (E : ℕ → Entry) (P : 
       → Whole n p two E P (noted-event g (eventOf (refusal {A = Office} {B = Frame} c (g .stores o) s row)))
   left s f =
       noted-whole n p two eight E P g w (eventOf (refusal {A = Office} {B = Frame} c (g .stores o) s row))
-      (event-fine E _ _ (f .0) (f .1) (f .2) refl refl)
+      (event-fine E P _ _ (f .0) (f .1) (f .2) refl refl)
 
   pub turned-whole : (s : Content) → Fine c
       → Whole n p two E P (turnedBy onContents n g o (refusal {A = Office} {B = Frame} c (g .stores o) s row))

@@ -1,6 +1,6 @@
 -- THE CLAIM OVER ANSWERS: every chain of calls whose answers keep their promises leads to the run of the definitions, so the claim holds of
 -- it. Assumes nothing.
-use Prim.Native.Nat.{ℕ, _+_, _<_, _≤_, suc, zero}
+use Prim.Native.Nat.{ℕ, _<_, _≤_, suc, zero}
 use mathlib.Core.Bool.{Bool, cond, false, true}
 use mathlib.Core.List.{List, List·Memᴰ, List·Memᴰ·not-nil, Memᴰ·append-right, Memᴰ·map, Memᴰ·of-map, [], _++_, _∷_, map, map-append}
 use mathlib.Core.Logic.{_⊎_, inl, inr, ⊎-elim}

@@ -138,12 +138,14 @@ pub record SessionFit (E : ℕ → Entry) (s : Content) : Type 0 where
   pub read-set : IdSet (s .read)
   pub own-is : (e : Entry) → List·Memᴰ e (s .own) → e ≡ E (idOf e)
 
-pub record EventFit (E : ℕ → Entry) (log : List Made) (v : Event) : Type 0 where
+pub record EventFit (E : ℕ → Entry) (P : ℕ → List ℕ) (log : List Made) (v : Event) : Type 0 where
   pub not10 : v .code ≡ 10 → ⊥
   pub not11 : v .code ≡ 11 → ⊥
   pub not12 : v .code ≡ 12 → ⊥
   pub reads : (q : ℕ) (f : Found) → List·Memᴰ (q, f) (v .reads) → (k : ℕ) → List·Memᴰ k (v .past) → E k .plot ≡ q → Over f (E k)
   pub handed : (q : ℕ) (e : Entry) → List·Memᴰ (q, Some e) (v .reads) → (e .plot ≡ q) × (e ≡ E (idOf e)) × List·Memᴰ (idOf e) (ids log)
+  pub counted : (q : ℕ) (e : Entry) → List·Memᴰ (q, Some e) (v .reads)
+      → List·Memᴰ (idOf e) (v .past) × ((k : ℕ) → List·Memᴰ k (P (idOf e)) → List·Memᴰ k (v .past))
   pub past-made : (k : ℕ) → List·Memᴰ k (v .past) → List·Memᴰ k (ids log)
 
 pub record Agrees (E : ℕ → Entry) (P : ℕ → List ℕ) (log : List Made) : Type 0 where
@@ -165,4 +167,4 @@ pub record Whole (n p : ℕ) (two : 2 ≤ n) (E : ℕ → Entry) (P : ℕ → Li
   pub tokens : (r : TrackedToken Content) → List·Memᴰ r (g .tokens) → TrackedFit n two E P (world g) (r .token) (r .past)
   pub tokens-ok : (r : TrackedToken Content) → List·Memᴰ r (g .tokens)
       → (ringOk (r .token .offices) 64 ≡ true) × (sessionOk (r .token .offices) 64 (r .token) ≡ true)
-  pub events : (v : Event) → List·Memᴰ v (g .events) → EventFit E (g .log) v
+  pub events : (v : Event) → List·Memᴰ v (g .events) → EventFit E P (g .log) v

@@ -2,18 +2,19 @@
 -- Assumes nothing.
 use Prim.Native.Nat.{ℕ, _*_, _/_, _<_, _≤_}
 use mathlib.Core.Bool.{Bool, cond, false, true}
-use mathlib.Core.List.{List, List·Memᴰ, List·Memᴰ·append-cases, List·Memᴰ·cases-cons, List·Memᴰ·eq-of-singleton, List·Memᴰ·head, List·Memᴰ·not-nil, List·Memᴰ·tail, Memᴰ·map, Memᴰ·of-map, [], _++_, _∷_, map}
+use mathlib.Core.List.{List, List·Memᴰ, List·Memᴰ·append-cases, List·Memᴰ·cases-cons, List·Memᴰ·eq-of-singleton, List·Memᴰ·head, List·Memᴰ·not-nil, List·Memᴰ·tail, Memᴰ·append-left, Memᴰ·append-right, Memᴰ·map, Memᴰ·of-map, [], _++_, _∷_, map}
 use mathlib.Core.Logic.{_⊎_, inl, inr, ⊎-elim}
 use mathlib.Core.Path.{_∙_, _≡_, ap, refl, sym}
 use native.Mathlib.Omega.{arith}
 use lib.Dec.{eqb, leb, ltb}
 use lib.ListN.{length}
-use borrow.Author.Tests.{eqb-true}
+use borrow.Author.Tests.{eq-eqb, eqb-true}
 use Rattle.causal.specs.Clocks.{join}
 use Rattle.causal.specs.Codes.{check}
 use Rattle.causal.specs.Sets.{IdSet, has}
 use Rattle.causal.specs.Tests.{both}
 use Rattle.causal.proofs.Sets.{ids-inserted, in-inserted, inserted-old}
+use Rattle.causal.proofs.Tests.{false-true}
 use Rattle.frame.specs.Calls.{laid}
 use Rattle.frame.specs.Entries.{idOf}
 use Rattle.frame.specs.Sessions.{Content, sessionOk}
@@ -151,6 +152,50 @@ gained-from E P log A (Some e ∷ fs) past q m =
     (λ (t : (x : ℕ) × ((h : Entry) × List·Memᴰ (Some h) fs × (x ≡ idOf h)) × ((q ≡ x) ⊎ List·Memᴰ q (P x))). inr
     (t .0, (t .1 .0, List·Memᴰ·tail (t .1 .1), t .1 .2), t .2))
     (gained-from E P log A fs (idOf e ∷ (writerPast log (idOf e) ++ past)) q m)
+
+-- .. and to it
+
+writer-is : (E : ℕ → Entry) (P : ℕ → List ℕ) (log : List Made) → Agrees E P log → (k : ℕ) → List·Memᴰ k (ids log) → writerPast log k ≡ P k
+unfolding writerPast
+writer-is E P [] A k m = absurd (List·Memᴰ·not-nil m)
+writer-is E P (x ∷ l) A k m =
+    go (eqb (idOf (x .entry)) k) refl
+    (λ i. writer-is E P l (record { entry = λ y j. A .entry y (List·Memᴰ·tail j); past = λ y j. A .past y (List·Memᴰ·tail j) }) k i)
+  where
+    go : (t : Bool) → eqb (idOf (x .entry)) k ≡ t → (List·Memᴰ k (ids l) → writerPast l k ≡ P k) → cond t (x .past) (writerPast l k) ≡ P k
+    go true t ih = sym (A .past x (List·Memᴰ·head refl)) ∙ ap P (eqb-true (idOf (x .entry)) k t)
+    go false t ih =
+        ih (⊎-elim (λ (e : k ≡ idOf (x .entry)). false-true (sym t ∙ eq-eqb (idOf (x .entry)) k (sym e))) (λ i. i) (List·Memᴰ·cases-cons m))
+
+gained-keeps : (log : List Made) (fs : List Found) (past : List ℕ) (q : ℕ) → List·Memᴰ q past → List·Memᴰ q (gained log fs past)
+unfolding gained
+gained-keeps log [] past q m = m
+gained-keeps log (None ∷ fs) past q m = gained-keeps log fs past q m
+gained-keeps log (Some e ∷ fs) past q m = gained-keeps log fs _ q (List·Memᴰ·tail (Memᴰ·append-right (writerPast log (idOf e)) m))
+
+gained-new : (log : List Made) (fs : List Found) (past : List ℕ) (h : Entry) → List·Memᴰ (Some h) fs
+    → List·Memᴰ (idOf h) (gained log fs past) × ((q : ℕ) → List·Memᴰ q (writerPast log (idOf h)) → List·Memᴰ q (gained log fs past))
+unfolding gained
+gained-new log [] past h m = absurd (List·Memᴰ·not-nil m)
+gained-new log (None ∷ fs) past h m =
+    gained-new log fs past h (⊎-elim (λ (e : Some h ≡ None). let z : _≡_ {A = ℕ} 0 1 = cc in absurd (omega arith)) (λ i. i) (List·Memᴰ·cases-cons m))
+gained-new log (Some e ∷ fs) past h m =
+    ⊎-elim
+    (λ (x : Some h ≡ Some e).
+    let y : h ≡ e = cc in
+    rw y (
+      gained-keeps log fs _ (idOf e) (List·Memᴰ·head refl),
+      λ q j. gained-keeps log fs _ q (List·Memᴰ·tail (Memᴰ·append-left past j)),
+    ))
+    (λ i. gained-new log fs _ h i) (List·Memᴰ·cases-cons m)
+
+together-in : (qs : List ℕ) (fs : List Found) (q : ℕ) (f : Found) → List·Memᴰ (q, f) (together qs fs) → List·Memᴰ f fs
+unfolding together
+together-in [] fs q f m = absurd (List·Memᴰ·not-nil m)
+together-in (x ∷ qs) [] q f m = absurd (List·Memᴰ·not-nil m)
+together-in (x ∷ qs) (y ∷ fs) q f m =
+    ⊎-elim (λ (e : _≡_ {A = ℕ × Found} (q, f) (x, y)). List·Memᴰ·head (ap (λ (z : ℕ × Found). z .1) e)) (λ i. List·Memᴰ·tail (together-in qs fs q f i))
+    (List·Memᴰ·cases-cons m)
 
 -- ---- a reading of plots that hands back fs and leaves the session s′
 
@@ -311,6 +356,12 @@ module _ (n p : ℕ) (two : 2 ≤ n) (eight : n ≤ 8) (E : ℕ → Entry) (P : 
         own : List·Memᴰ h (s .own) × (h .plot ≡ q) → (h .plot ≡ q) × (h ≡ E (idOf h)) × List·Memᴰ (idOf h) (ids (g .log))
         own t = (t .1, F .fit .own-is h (t .0), F .sound .own-made (idOf h) (Memᴰ·map idOf (t .0)))
 
+    counts : (q : ℕ) (h : Entry) → List·Memᴰ (q, Some h) (together plots fs)
+        → List·Memᴰ (idOf h) past′ × ((k : ℕ) → List·Memᴰ k (P (idOf h)) → List·Memᴰ k past′)
+    counts q h m =
+        let t = gained-new (g .log) fs (r .past) h (together-in plots fs q (Some h) m) in
+        (t .0, λ k j. t .1 k (rw (writer-is E P (g .log) A (idOf h) (kept q h m .2)) j))
+
     past-in : (k : ℕ) → List·Memᴰ k past′ → List·Memᴰ k (ids (g .log))
     past-in k m = past-made S′ (wpast P) (world g′) I′ (λ x d a h. dep-made n p two eight E P g w x d a h) (seen s′ past′) S2 k m
 
@@ -330,8 +381,8 @@ module _ (n p : ℕ) (two : 2 ≤ n) (eight : n ≤ 8) (E : ℕ → Entry) (P : 
           tokens = λ x m. later (w .tokens x m);
           tokens-ok = w .tokens-ok;
           events =
-              events-more E _ (g .events) _ (w .events)
-              (record { not10 = λ e. omega arith; not11 = λ e. omega arith; not12 = λ e. omega arith; reads = good; handed = kept; past-made = past-in });
+              events-more E P _ (g .events) _ (w .events)
+              (record { not10 = λ e. omega arith; not11 = λ e. omega arith; not12 = λ e. omega arith; reads = good; handed = kept; counted = counts; past-made = past-in });
         }
       where
         later : {s : Content} {past : List ℕ} → TrackedFit n two E P (world g) s past → TrackedFit n two E P (world g′) s past

@@ -242,7 +242,7 @@ module _ (n p : ℕ) (two : 2 ≤ n) (eight : n ≤ 8) (E : ℕ → Entry) (P : 
           tokens = λ r m. later (w .tokens r m);
           tokens-ok = w .tokens-ok;
           events =
-              events-more E _ (g .events) _ (w .events) (event-fine E _ _ (λ e. omega arith) (λ e. omega arith) (λ e. omega arith) refl refl);
+              events-more E P _ (g .events) _ (w .events) (event-fine E P _ _ (λ e. omega arith) (λ e. omega arith) (λ e. omega arith) refl refl);
         }
       where
         later : {s : Content} {past : List ℕ} → TrackedFit n two E P (world g) s past → TrackedFit n two E P (world g′) s past

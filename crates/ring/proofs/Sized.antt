@@ -1,5 +1,5 @@
 -- The structs that cross keep their row of sixteen entries: so in every chain of answered calls. Assumes nothing.
-use Prim.Native.Nat.{ℕ, _+_, _-_, _≤_, suc, zero}
+use Prim.Native.Nat.{ℕ, _-_, _≤_, suc, zero}
 use mathlib.Core.Bool.{Bool, cond, false, true}
 use mathlib.Core.List.{List, List·Memᴰ, List·Memᴰ·append-cases, List·Memᴰ·eq-of-singleton, List·Memᴰ·head, [], _++_, _∷_}
 use mathlib.Core.Logic.{⊎-elim}

@@ -49,7 +49,7 @@ module _ (n p : ℕ) (two : 2 ≤ n) (eight : n ≤ 8) where
     module _ (g : Sys) (w : Whole n p two E P g) where
       noted : (c k : ℕ) (row : List ℕ) → (c ≡ 10 → ⊥) → (c ≡ 11 → ⊥) → (c ≡ 12 → ⊥)
           → Whole n p two E P (noted-event g (answered c k row))
-      noted c k row x y z = noted-whole n p two eight E P g w (answered c k row) (event-fine E _ _ x y z refl refl)
+      noted c k row x y z = noted-whole n p two eight E P g w (answered c k row) (event-fine E P _ _ x y z refl refl)
 
       with-session : (r : Tracked) → TrackedFit n two E P (world g) (r .session) (r .past) → Whole n p two E P (withSession g r)
       with-session r F =

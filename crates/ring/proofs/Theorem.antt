@@ -197,6 +197,9 @@ module _ (n p : ℕ) (two : 2 ≤ n) (eight : n ≤ 8) (one : 1 ≤ p) (p64 : p 
               let t = w .events v (rw (S .events) at i) .handed q e m in
               let u = logged (idOf e) (t .2) in
               (t .0, (u .0, u .1, sym (A .entry (u .0) (in-c (u .0) (u .1))) ∙ ap (entryIn (c .log)) (u .2) ∙ sym (t .1)));
+          counted = λ v i q m j x.
+              let t = w .events v (rw (S .events) at i) .counted q (m .entry) x in
+              (t .0, λ k y. t .1 k (rw (A .past m (in-c m j)) y));
           not10 = λ v i. w .events v (rw (S .events) at i) .not10;
           not11 = λ v i. w .events v (rw (S .events) at i) .not11;
           not12 = λ v i. w .events v (rw (S .events) at i) .not12;

@@ -418,8 +418,8 @@ module _ (n p : ℕ) (two : 2 ≤ n) (eight : n ≤ 8) (E : ℕ → Entry) (P : 
           tokens = λ x m. later (w .tokens x m);
           tokens-ok = w .tokens-ok;
           events =
-              events-more E _ (g .events) _ (λ v m. later-event (w .events v m))
-              (event-fine E _ _ (λ x. omega arith) (λ x. omega arith) (λ x. omega arith) refl refl);
+              events-more E P _ (g .events) _ (λ v m. later-event (w .events v m))
+              (event-fine E P _ _ (λ x. omega arith) (λ x. omega arith) (λ x. omega arith) refl refl);
         }
       where
         at-home : has (g′ .stores (k / 32) .held) k ≡ 1
@@ -432,7 +432,7 @@ module _ (n p : ℕ) (two : 2 ≤ n) (eight : n ≤ 8) (E : ℕ → Entry) (P : 
               fit = X .fit;
             }
 
-        later-event : {v : Event} → EventFit E (g .log) v → EventFit E (g′ .log) v
+        later-event : {v : Event} → EventFit E P (g .log) v → EventFit E P (g′ .log) v
         later-event X =
             record {
               not10 = X .not10;
@@ -440,6 +440,7 @@ module _ (n p : ℕ) (two : 2 ≤ n) (eight : n ≤ 8) (E : ℕ → Entry) (P : 
               not12 = X .not12;
               reads = X .reads;
               handed = λ q e m. let t = X .handed q e m in (t .0, t .1, is-written .made-to (idOf e) (t .2));
+              counted = X .counted;
               past-made = λ x m. is-written .made-to x (X .past-made x m);
             }
 

@@ -81,6 +81,9 @@ pub record Holds (n : ℕ) (rows : ℕ → List ℕ) (g : State (List ℕ) (List
   -- what a reading hands back is on that plot, and is the entry made under its id, whole
   pub handed : (v : Event) → List·Memᴰ v (g .events) → (q : ℕ) (e : Entry) → List·Memᴰ (q, Some e) (v .reads) →
       (e .plot ≡ q) × ((m : Made) × List·Memᴰ m (g .log) × (m .entry ≡ e))
+  -- "At a reading the errand's past counts what that reading hands back", with its writer's past
+  pub counted : (v : Event) → List·Memᴰ v (g .events) → (q : ℕ) (m : Made) → List·Memᴰ m (g .log) → List·Memᴰ (q, Some (m .entry)) (v .reads) →
+      List·Memᴰ (idOf (m .entry)) (v .past) × ((k : ℕ) → List·Memᴰ k (m .past) → List·Memᴰ k (v .past))
   -- no call is refused with 10, 11 or 12
   pub not10 : (v : Event) → List·Memᴰ v (g .events) → v .code ≡ 10 → ⊥
   pub not11 : (v : Event) → List·Memᴰ v (g .events) → v .code ≡ 11 → ⊥
