@@ -159,7 +159,7 @@ def main():
     failed = 0
     wrong = [name for name, tree, expected in TRIALS if not told(check(tree), expected)]
     for name, count, faults in [*check(read_tree(root)), ("what is wrong in a small tree is told", len(TRIALS), wrong)]:
-        if not faults:
+        if count and not faults:
             print(f"ok surface: {name} ({count})")
             continue
         failed += 1
