@@ -15,7 +15,9 @@
  * Words. A row of uint32_t holds words as numbers, in the machine's own order.
  * Only burial_check_frame takes bytes: each word is four bytes, lowest first.
  *
- * Sessions cross by value and are handed back as the call leaves them.
+ * Sessions. A session crosses by value and is handed back as the call leaves it;
+ * or it is lent (burial_lent_*) and holds its new state afterwards. The pointer to
+ * a lent session is aligned, never null, and what it points to overlaps no row.
  *
  * Refusals. A call that is refused changes nothing: every lent row keeps each
  * of its words, and a session is handed back as it came. A call that is not refused writes the words that it names and
@@ -46,7 +48,7 @@ extern "C" {
 /* Refusals. */
 #define BURIAL_OK            0u
 #define BURIAL_BAD_SETTINGS  1u   /* ring size, own office or plots out of range */
-#define BURIAL_BAD_STORE     2u   /* the store is not sound */
+#define BURIAL_BAD_STORE     2u   /* the store is not sound, or too short to be opened */
 #define BURIAL_BAD_CONTENT   3u   /* a session that is not sound for the store, or content that no frame or token has */
 #define BURIAL_BAD_PLOT      4u   /* a plot out of range, or more than 16 plots */
 #define BURIAL_BAD_VALUE     5u   /* a value above BURIAL_MAX_VALUE */
@@ -160,7 +162,8 @@ struct burial_need burial_store_need(uint32_t offices, uint32_t own, uint32_t pl
 struct burial_read burial_read_plot(uint32_t *store, size_t store_len,
                                     struct burial_session session, uint32_t plot);
 
-/* Reads up to 16 plots at once: for each, three words of answer: 1, value, id; or 0, 0, 0.
+/* Reads up to 16 plots at once: for each, three words of answer: 1, value,
+ * id as a number (256 * office + serial); or 0, 0, 0.
  * BURIAL_BAD_STORE, BURIAL_BAD_CONTENT, BURIAL_BAD_PLOT, BURIAL_NO_ROOM, BURIAL_MISSING,
  * BURIAL_OWN_ENTRY. */
 struct burial_joint burial_read_joint(uint32_t *store, size_t store_len,

@@ -29,7 +29,8 @@ unfoldable pub codeOf : Status → ℕ
 codeOf Accepted = 0
 codeOf (Refused x) = numberOf x
 
--- what a call that writes words answers: the refusal number, 0 for none, and "the number of words written"
+-- what a call that writes words answers: the refusal number, 0 for none, and "the number of words written"; or, where it says how many words a
+-- store needs, that number
 pub record Reply : Type 0 where
   pub code : ℕ
   pub words : ℕ

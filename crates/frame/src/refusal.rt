@@ -24,6 +24,7 @@ pub enum Status {
     Refused(Refusal),
 }
 
+// Of a call that writes words, how many; of the one that gives a store's need, the need.
 pub enum Written {
     Words(usize),
     NotWritten(Refusal),

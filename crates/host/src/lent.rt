@@ -15,19 +15,19 @@ pub struct PlotFound {
     pub entry: frame::entry::Entry,
 }
 
-pub struct PlotDone {
+struct PlotDone {
     pub answer: PlotFound,
     pub clock: [u32; 8],
     pub read: [u32; 8],
 }
 
-pub struct JointDone {
+struct JointDone {
     pub refusal: u32,
     pub clock: [u32; 8],
     pub read: [u32; 8],
 }
 
-pub struct WriteDone {
+struct WriteDone {
     pub answer: WordsAnswer,
     pub session: Session,
 }

@@ -8,7 +8,7 @@ use lib.ListN.{length}
 use borrow.Author.Tests.{ltb-true}
 use Rattle.frame.specs.TokenCalls.{writeTokenCode}
 use Rattle.office.specs.Calls.{Result, freshCode}
-use Rattle.ring.specs.Run.{Call, Calls, Made, State, Tracked, TrackedToken, at, copy-session, copy-token, copySession, copyToken, fresh, freshBy, fromToken, fromTokenAt, joint, jointAt, readAt, readBy, reading, receiveAt, receiveBy, receiving, receiving-words, step, token-reading, token-writing, tokenAt, tokenBy, turnedBy, withSession, withToken, wordsBy, writeAt, writeBy, writing}
+use Rattle.ring.specs.Run.{Call, Calls, Made, State, Tracked, TrackedToken, at, copy-session, copy-token, copySession, copyToken, fresh, startBy, fromToken, fromTokenAt, joint, jointAt, readAt, readBy, reading, receiveAt, receiveBy, receiving, receiving-words, step, token-reading, token-writing, tokenAt, tokenBy, turnedBy, withSession, withToken, wordsBy, writeAt, writeBy, writing}
 use Rattle.ring.proofs.Fit.{mem-at}
 
 module _ {A B C : Type 0} (F : Calls A B C) (n : ℕ) (g : State A B C) where
@@ -24,7 +24,7 @@ module _ {A B C : Type 0} (F : Calls A B C) (n : ℕ) (g : State A B C) where
     pub receives : (o : ℕ) (row : List ℕ) (f : B) (rest : List B) → o < n → g .lines o ≡ f ∷ rest
         → Q (receiveBy F n g o rest (F .on-receive (g .stores o) f row) (F .on-receive (g .stores o) f row .code))
     pub words : (o : ℕ) (words row : List ℕ) → o < n → Q (wordsBy F n g o (F .on-words (g .stores o) words row))
-    pub starts : (m : ℕ) → Q (freshBy F n g m (freshCode m))
+    pub starts : (m : ℕ) → Q (startBy F n g m (freshCode m))
     pub token-writes : (r : Tracked) (row : List ℕ) → List·Memᴰ r (g .sessions)
         → Q (tokenBy F n g r row (writeTokenCode (r .session) (length row)))
     pub token-reads : (r : TrackedToken C) (m p : ℕ) → List·Memᴰ r (g .tokens) → Q (fromToken F n g r (F .token-code m p (r .token)))
@@ -107,7 +107,7 @@ module _ {A B C : Type 0} (F : Calls A B C) (n : ℕ) (g : State A B C) where
       go true = refl
       go false = refl
 
-  pub fresh-log : (m c : ℕ) → freshBy F n g m c .log ≡ g .log
+  pub fresh-log : (m c : ℕ) → startBy F n g m c .log ≡ g .log
   fresh-log m zero = refl
   fresh-log m (suc c) = refl
 

@@ -37,7 +37,7 @@ use Rattle.office.proofs.Refused.{receive-words-refused, write-words-refused}
 use Rattle.ring.specs.Answers.{Carried, Ring, Said, contentIn, jointBack, jointSaid, namedIn, ownOf, readSaid, receivedSaid, shown, tokenWritten, wroteSaid}
 use Rattle.ring.specs.Claim.{Absent, Claim, Opened, Runs, Step, absent, begins-fresh, begun, copies-session, copies-token, more, none, reads, reads-jointly, reads-token, receives, receives-words, writes, writes-token}
 use Rattle.ring.specs.Holds.{Holds, Same}
-use Rattle.ring.specs.Run.{Call, Made, Tracked, TrackedToken, answered, at, begins, contentsRun, copy-session, copy-token, copySession, copyToken, fresh, freshBy, fromToken, fromTokenAt, joint, jointAt, nextOf, noted-event, onContents, onWords, readAt, readBy, readLeft, reading, receiveAt, receiveBy, receiveLeft, receiving, receiving-words, refused, refusedBy, run, starting, step, token-reading, token-writing, tokenAt, tokenBy, turned, turnedBy, upd, withSession, wordsBy, wordsRun, writeAt, writeBy, writeLeft, writerPast, writing}
+use Rattle.ring.specs.Run.{Call, Made, Tracked, TrackedToken, answered, at, begins, contentsRun, copy-session, copy-token, copySession, copyToken, fresh, startBy, fromToken, fromTokenAt, joint, jointAt, nextOf, noted-event, onContents, onWords, readAt, readBy, readLeft, reading, receiveAt, receiveBy, receiveLeft, receiving, receiving-words, refused, refusedBy, run, starting, step, token-reading, token-writing, tokenAt, tokenBy, turned, turnedBy, upd, withSession, wordsBy, wordsRun, writeAt, writeBy, writeLeft, writerPast, writing}
 use Rattle.ring.proofs.Base.{held-made, visible-held}
 use Rattle.ring.proofs.Cuts.{cut-row, found-row, named-is}
 use Rattle.ring.proofs.Fit.{Agrees, Sys, Whole, upd-same}
@@ -190,7 +190,7 @@ module _ (n : ℕ) (σ : Ring) where
       ∙ ap (λ (x : Content). map contentIn (σ .sessions) ++ (record { session = x; past = past } ∷ [])) e)
 
   fresh-shown : (s : Session) (m c : ℕ) → (c ≡ 0 → contentOf s ≡ freshContent m)
-      → shown (begins σ s [] c) ≡ freshBy onWords n (shown σ) m c
+      → shown (begins σ s [] c) ≡ startBy onWords n (shown σ) m c
   fresh-shown s m zero h = begins-zero s [] (freshContent m) (h refl)
   fresh-shown s m (suc c) h = refl
 

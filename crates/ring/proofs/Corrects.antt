@@ -22,7 +22,7 @@ use Rattle.frame.specs.declared.entry.Entry.{Entry}
 use Rattle.store.specs.Offices.{Office, emptyOffice, need}
 use Rattle.office.specs.Calls.{freshCode, jointOn, parsed, readOn, receiveOn}
 use Rattle.mesh.specs.World.{Reach, self, via}
-use Rattle.ring.specs.Run.{Call, Event, Made, Tracked, TrackedToken, answered, at, contentsRun, freshBy, fromToken, noted-event, onContents, run, starting, step, tokenBy, turnedBy, withSession, withToken, wordsBy, wordsRun, writerPast}
+use Rattle.ring.specs.Run.{Call, Event, Made, Tracked, TrackedToken, answered, at, contentsRun, startBy, fromToken, noted-event, onContents, run, starting, step, tokenBy, turnedBy, withSession, withToken, wordsBy, wordsRun, writerPast}
 use Rattle.ring.proofs.Base.{dep-made, facts, not-nine}
 use Rattle.ring.proofs.ByCases.{step-each}
 use Rattle.ring.proofs.Clocks.{ClockFit, Clocks, Under, joint-clocks, one-clocks, receive-clocks, under-outranks}
@@ -109,7 +109,7 @@ module _ (n p : ℕ) (two : 2 ≤ n) (eight : n ≤ 8) where
         by-words o words row true = other o words row (eqb (receiveOn (g .stores o) (frameOf words) row .code) 9) refl
         by-words o words row false = rw (upd-self (g .stores) o) (noted g (answered 9 0 row) K)
 
-        by-start : (m c : ℕ) → Clocks n E (freshBy onContents n g m c)
+        by-start : (m c : ℕ) → Clocks n E (startBy onContents n g m c)
         by-start m zero =
             with-session (noted-event g (answered 0 0 [])) (record { session = freshContent m; past = [] }) (blank (g .stores) m)
             (noted g (answered 0 0 []) K)

@@ -29,7 +29,7 @@ use Rattle.office.proofs.Grows.{Grows, joint-grows, read-grows, receive-grows, 
 use Rattle.office.proofs.Refused.{joint-refused, parsed-refused, read-refused, receive-refused, write-refused}
 use Rattle.mesh.proofs.Carry.{line-made}
 use Rattle.ring.specs.Holds.{Same, tokenOn}
-use Rattle.ring.specs.Run.{Call, Event, Made, State, Tracked, TrackedToken, answered, at, copy-session, copy-token, copySession, copyToken, eventOf, fresh, freshBy, fromToken, fromTokenAt, gained, joint, jointAt, lastOf, nextOf, noted-event, onContents, onWords, readAt, readBy, readIn, reading, receiveAt, receiveBy, received, receiving, receiving-words, refusedBy, step, together, token-reading, token-writing, tokenAt, tokenBy, turnedBy, upd, withSession, wordsBy, writeAt, writeBy, writerPast, writing, wrote}
+use Rattle.ring.specs.Run.{Call, Event, Made, State, Tracked, TrackedToken, answered, at, copy-session, copy-token, copySession, copyToken, eventOf, fresh, startBy, fromToken, fromTokenAt, gained, joint, jointAt, lastOf, nextOf, noted-event, onContents, onWords, readAt, readBy, readIn, reading, receiveAt, receiveBy, received, receiving, receiving-words, refusedBy, step, together, token-reading, token-writing, tokenAt, tokenBy, turnedBy, upd, withSession, wordsBy, writeAt, writeBy, writerPast, writing, wrote}
 use Rattle.ring.proofs.Fit.{Sys, Whole, frameId, ids, mem-at, shape, upd-other, upd-same, upd-self, world}
 use Rattle.ring.proofs.Log.{entryIn}
 use Rattle.ring.proofs.Sounds.{canon, office-sound}
@@ -457,7 +457,7 @@ module _ (n p : ℕ) (two : 2 ≤ n) (eight : n ≤ 8) (one : 1 ≤ p) (p64 : p 
         by false t = S
     step-same (fresh m) = λ K. go (freshCode m)
       where
-        go : (x : ℕ) → Same n rows (freshBy onWords n g m x) (freshBy onContents n c m x)
+        go : (x : ℕ) → Same n rows (startBy onWords n g m x) (startBy onContents n c m x)
         go zero = with-session-same (answered 0 0 []) (record { session = freshContent m; past = [] })
         go (suc x) = noted-same (answered (suc x) 0 [])
     step-same (token-writing i row) = λ K. rw same (by (at (c .sessions) i))

@@ -25,7 +25,7 @@ use Rattle.mesh.specs.World.{World}
 use Rattle.mesh.proofs.Carry.{fresh-inv}
 use Rattle.mesh.proofs.Sessions.{blank-sound}
 use Rattle.ring.specs.Holds.{Distinct}
-use Rattle.ring.specs.Run.{Call, Made, Tracked, TrackedToken, answered, at, contentsRun, freshBy, fromToken, noted-event, onContents, run, starting, step, tokenBy, turnedBy, withSession, withToken, wordsBy, writeAt, writeBy, writerPast}
+use Rattle.ring.specs.Run.{Call, Made, Tracked, TrackedToken, answered, at, contentsRun, startBy, fromToken, noted-event, onContents, run, starting, step, tokenBy, turnedBy, withSession, withToken, wordsBy, writeAt, writeBy, writerPast}
 use Rattle.ring.proofs.Base.{event-fine, not-nine, noted-whole, turned-whole}
 use Rattle.ring.proofs.ByCases.{fresh-log, from-log, log-each, read-log, receive-log, step-each, token-log, words-log}
 use Rattle.ring.proofs.Fit.{Agrees, Sys, TrackedFit, Whole, seen, shape, world, wpast}
@@ -101,11 +101,11 @@ module _ (n p : ℕ) (two : 2 ≤ n) (eight : n ≤ 8) where
           fit = record { clock8 = refl; read-set = ids-zeros; own-is = λ e j. absurd (List·Memᴰ·not-nil j) };
         }
 
-    fresh-whole : (g : Sys) → Whole n p two E P g → (m : ℕ) → Whole n p two E P (freshBy onContents n g m (freshCode m))
+    fresh-whole : (g : Sys) → Whole n p two E P g → (m : ℕ) → Whole n p two E P (startBy onContents n g m (freshCode m))
     unfolding freshCode check
     fresh-whole g w m = go (both (leb 2 m) (leb m 8))
       where
-        go : (t : Bool) → Whole n p two E P (freshBy onContents n g m (check t 1 0))
+        go : (t : Bool) → Whole n p two E P (startBy onContents n g m (check t 1 0))
         go true =
             with-session _ (noted g w 0 0 [] (λ x. omega arith) (λ x. omega arith) (λ x. omega arith))
             (record { session = freshContent m; past = [] }) (blank-fit (world g) m)

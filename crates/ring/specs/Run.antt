@@ -274,8 +274,8 @@ module _ {A B C : Type 0} (F : Calls A B C) (n : ℕ) where
   receiveAt g o row (f ∷ rest) = receiveBy g o rest (F .on-receive (g .stores o) f row) (F .on-receive (g .stores o) f row .code)
 
   -- "a fresh errand ..; its past is empty"
-  abbrev pub freshBy : State A B C → ℕ → ℕ → State A B C
-  freshBy g m c = begins g (freshContent m) [] c
+  abbrev pub startBy : State A B C → ℕ → ℕ → State A B C
+  startBy g m c = begins g (freshContent m) [] c
 
   abbrev pub tokenBy : State A B C → Tracked → List ℕ → ℕ → State A B C
   tokenBy g r row zero = tokenLeft g (F .token-of (r .session)) (r .past) (length (tokenWords (r .session))) (writeTokenRow (r .session) row) 0
@@ -310,7 +310,7 @@ module _ {A B C : Type 0} (F : Calls A B C) (n : ℕ) where
   step g (joint o i plots row) = cond (ltb o n) (jointAt g o i plots row (at (g .sessions) i)) g
   step g (receiving o row) = cond (ltb o n) (receiveAt g o row (g .lines o)) g
   step g (receiving-words o words row) = cond (ltb o n) (wordsBy g o (F .on-words (g .stores o) words row)) g
-  step g (fresh m) = freshBy g m (freshCode m)
+  step g (fresh m) = startBy g m (freshCode m)
   step g (token-writing i row) = tokenAt g row (at (g .sessions) i)
   step g (token-reading t m p) = fromTokenAt g m p (at (g .tokens) t)
   step g (copy-session i) = copySession g (at (g .sessions) i)
