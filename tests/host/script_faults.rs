@@ -92,6 +92,24 @@ fn reads_on(start: &impl Fn() -> Command) -> Option<String> {
     (output.is_err() || taken.is_ok()).then(|| format!("{output:?}, the input was taken: {taken:?}"))
 }
 
+/// What a shell finds of `scripts/play`, by its status: the reader gone, output closed, programs that are not there.
+fn statuses(report: &mut Report, program: &str, play: &str) {
+    let mut check = |what: &str, script: &str, status: i32| {
+        let output = Command::new("bash").args(["-c", script, "play", play, program]).output();
+        let holds = output.as_ref().is_ok_and(|output| {
+            output.status.code() == Some(status) && output.stderr.is_empty() == (status == 0)
+        });
+        report.check(&format!("scripts/play: {what}"), holds, || format!("{output:?}, not status {status}"));
+    };
+    let many = "yes 'H 0' | head -n 100000";
+    check("replies that nobody reads", &format!("{many} | \"$1\" \"$2\" | true; exit ${{PIPESTATUS[2]}}"), 1);
+    check("closed output", "echo 'H 0' | \"$1\" \"$2\" >&-", 1);
+    check("closed input", "\"$1\" \"$2\" <&-", 1);
+    check("a program that is not there", "echo 'H 0' | \"$1\" \"$2-none\"", 2);
+    check("a folder for a program", "echo 'H 0' | \"$1\" .", 2);
+    check("a name that a path of commands has", "echo 'H 0' | \"$1\" ls", 2);
+}
+
 pub fn check_faults(report: &mut Report, program: &str, play: &str) {
     faults(report, "the program", || Command::new(program), 0);
     let by_play = || {
@@ -100,4 +118,5 @@ pub fn check_faults(report: &mut Report, program: &str, play: &str) {
         command
     };
     faults(report, "scripts/play", by_play, 1);
+    statuses(report, program, play);
 }

@@ -1,8 +1,9 @@
 #!/usr/bin/env python3
 """Holds the source to the list of public calls in docs/ARCHITECTURE.md, section "Public calls".
 
-The prover does not mind a public call that asks something of its caller, or that promises nothing. So here: each
-listed call is a public function, has no `requires` and has an `ensures`, and each export of crates/host is listed.
+Contract.antt in the proofs of a crate ties each call to its promise and refuses a `requires`, but only of the calls that
+stand there. So here: each listed call is a public function, has no `requires`, has an `ensures` and is tied; each tied
+call and each export of crates/host is listed.
 """
 
 import pathlib
@@ -13,6 +14,7 @@ LIST = "docs/ARCHITECTURE.md"
 SECTION = "## Public calls"
 ROW = re.compile(r"\|\s*`([a-z0-9_]+(?:::[a-z0-9_]+)+)`\s*\|")
 EXPORTS = "crates/host/src/"
+TIE = re.compile(r"^use Rattle·(\w+)·proofs\.proofs\.(\w+)\.(\w+) as ", re.MULTILINE)
 COMMENT = re.compile(r"//[^\n]*|/\*.*?\*/", re.DOTALL)
 FUNCTION = re.compile(r'^[ \t]*pub\s+(extern\s+"C"\s+)?fn\s+([a-z0-9_]+)\b', re.MULTILINE)
 CLAUSE = re.compile(r"\b(requires|ensures)\s*\{|[{};]")
@@ -20,7 +22,9 @@ CLAUSE = re.compile(r"\b(requires|ensures)\s*\{|[{};]")
 PUBLIC = "a listed call is a public function"
 ASKS = "a listed call requires nothing"
 SAYS = "a listed call ensures something"
-LISTED = "an export is listed"
+TIED = "a listed call is tied to its promise"
+LISTED = "an export and a tied call are listed"
+READ = "every public function can be read"
 
 
 class Function:
@@ -54,6 +58,22 @@ def clauses_of(text, at):
         elif m.group() != ";":
             depth += 1
     return found
+
+
+def unreadable(path, source):
+    """Marks of an export that no function was found for, and names that stand twice."""
+    text = uncommented(source)
+    names = [m.group(2) for m in FUNCTION.finditer(text)]
+    exports = sum(m.group(1) is not None for m in FUNCTION.finditer(text))
+    twice = [f"{path}:1: `{n}` is there twice" for n in sorted(set(names)) if names.count(n) > 1]
+    marks = len(re.findall(r"\bno_mangle\b|\bextern\b", text))
+    if marks != 2 * exports:
+        twice.append(f"{path}:1: {marks} marks of exports, {exports} exports")
+    return twice
+
+
+def ties_of(source):
+    return ["::".join(m.groups()) for m in TIE.finditer(source)]
 
 
 def functions_of(path, source):
@@ -90,22 +110,28 @@ def check(tree):
             functions.update(functions_of(path, source))
     there = {name: functions[name] for name in calls if name in functions}
     exports = {n: f for n, f in functions.items() if f.export and f.path.startswith(EXPORTS)}
+    tied = {n: path for path, source in tree.items() if path.endswith(".antt") for n in ties_of(source)}
     missing = [f"{LIST}:{line}: there is no `pub fn` {name}" for name, line in calls.items() if name not in there]
     if not calls:
         missing = [f"{LIST}:1: there is no table of calls in a section '{SECTION}'"]
     asking = [f"{f.at('requires')}: {n} has a `requires`" for n, f in there.items() if "requires" in f.clauses]
     silent = [f"{f.at()}: {n} has no `ensures`" for n, f in there.items() if "ensures" not in f.clauses]
+    loose = [f"{f.at()}: {n} is not in the Contract.antt of its crate" for n, f in there.items() if n not in tied]
     unlisted = [f"{f.at()}: {n} is not in {LIST}" for n, f in exports.items() if n not in calls]
+    unlisted += [f"{path}:1: {n} is not in {LIST}" for n, path in tied.items() if n not in calls and n not in exports]
+    unread = [fault for path, source in tree.items() if path.endswith(".rt") for fault in unreadable(path, source)]
     return [
         (PUBLIC, len(calls), missing),
         (ASKS, len(there), asking),
         (SAYS, len(there), silent),
-        (LISTED, len(exports), unlisted),
+        (TIED, len(there), loose),
+        (LISTED, len(exports) + len(tied), unlisted),
+        (READ, len(functions), unread),
     ]
 
 
 def read_tree(root):
-    paths = [root / LIST, *sorted(root.glob("crates/*/src/**/*.rt"))]
+    paths = [root / LIST, *sorted(root.glob("crates/*/src/**/*.rt")), *sorted(root.glob("crates/*/proofs/Contract.antt"))]
     return {p.relative_to(root).as_posix(): p.read_text(encoding="utf8") for p in paths if p.is_file()}
 
 
@@ -116,6 +142,8 @@ REQUIRES = "    requires { ⌜ n ≤ 3 ⌝ }\n"
 GOOD = f'#[no_mangle]\npub extern "C" fn burial_a(n: u32) -> u32\n{ENSURES}{{\n    n\n}}\n'
 OTHER = f"\nfn b(n: u32) -> u32\n{REQUIRES}{{\n    n\n}}\n"
 SOURCE = "crates/host/src/x.rt"
+CONTRACT = "crates/host/proofs/Contract.antt"
+TIES = "use Rattle.host.proofs.x.burial_a as a\n"
 ROWS = """# A
 
 ## Public calls
@@ -130,8 +158,12 @@ ROWS = """# A
 """
 
 
+def small(source=GOOD, rows=ROWS, ties=TIES):
+    return {LIST: rows, SOURCE: source, CONTRACT: ties}
+
+
 def contract(clauses):
-    return {LIST: ROWS, SOURCE: GOOD.replace(ENSURES, clauses)}
+    return small(GOOD.replace(ENSURES, clauses))
 
 
 TRIALS = [
@@ -139,11 +171,15 @@ TRIALS = [
     ("a `requires`", contract(REQUIRES + ENSURES), [(ASKS, f"{SOURCE}:3:")]),
     ("a `requires` behind the `ensures`", contract(ENSURES + REQUIRES), [(ASKS, f"{SOURCE}:4:")]),
     ("a `requires` in a comment", contract("    // requires { nothing }\n" + ENSURES), []),
-    ("a `requires` of another function", {LIST: ROWS, SOURCE: GOOD + OTHER}, []),
+    ("a `requires` of another function", small(GOOD + OTHER), []),
     ("no `ensures`", contract(""), [(SAYS, f"{SOURCE}:2:")]),
-    ("a private function", {LIST: ROWS, SOURCE: GOOD.replace('pub extern "C" ', "")}, [(PUBLIC, f"{LIST}:7:")]),
-    ("an export that is not listed", {LIST: ROWS, SOURCE: GOOD + GOOD.replace("_a", "_b")}, [(LISTED, f"{SOURCE}:8:")]),
-    ("no list", {LIST: "# A\n", SOURCE: GOOD}, [(PUBLIC, f"{LIST}:1:"), (LISTED, f"{SOURCE}:2:")]),
+    ("a private function", small(GOOD.replace('#[no_mangle]\npub extern "C" ', "")), [(PUBLIC, f"{LIST}:7:")]),
+    ("an export that is not listed", small(GOOD + GOOD.replace("_a", "_b")), [(LISTED, f"{SOURCE}:8:")]),
+    ("an export in another form", small(GOOD + GOOD.replace("pub ", "pub unsafe ")), [(READ, f"{SOURCE}:1:")]),
+    ("two functions of a name", small(GOOD + GOOD), [(READ, f"{SOURCE}:1:")]),
+    ("a call that is not tied", small(ties=""), [(TIED, f"{SOURCE}:2:")]),
+    ("a tied call that is not listed", small(ties=TIES + TIES.replace("_a", "_b")), [(LISTED, f"{CONTRACT}:1:")]),
+    ("no list", small(rows="# A\n"), [(PUBLIC, f"{LIST}:1:"), (LISTED, f"{SOURCE}:2:")]),
 ]
 
 

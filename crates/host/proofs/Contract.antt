@@ -1,5 +1,5 @@
 -- The exports make the same calls: the code of each meets its contract (`-met`), which is the promise of the call that it exports, of the answer
--- as C has it (`-is`), and asks for nothing (`-asks`). Assumes nothing.
+-- as C has it (`-is`; of a frame as bytes `CheckPromise`, specs/Bytes.antt), and asks for nothing (`-asks`). Assumes nothing.
 use Prim.Native.Nat.{ℕ, _≤_}
 use mathlib.Core.Path.{_≡_, refl}
 use base.Logic.{SProp, emp}
@@ -15,7 +15,7 @@ use Rattle.frame.specs.declared.entry.Frame.{Frame}
 use Rattle.frame.specs.declared.session.Session.{Session}
 use Rattle.frame.proofs.Contract.{Four, Lent, One, Row, Three, Two}
 use Rattle.office.specs.Promises.{FreshPromise, JointPromise, NeedPromise, OpenPromise, ReadPromise, ReceivePromise, WritePromise}
-use Rattle.host.specs.Bytes.{checkBytes}
+use Rattle.host.specs.Bytes.{CheckPromise}
 use Rattle.host.specs.Flags.{isSet}
 use Rattle.host.specs.declared.answer.FrameAnswer.{FrameAnswer}
 use Rattle.host.specs.declared.answer.PlotAnswer.{PlotAnswer}
@@ -44,7 +44,7 @@ module _ {M : Type 1} (𝓤 : URA M) (H : Heap 𝓤) (A : Atoms 𝓤) (mem : Mem
     pub check-frame-met : check-frame.Statement.statement M
     pub check-frame-is : (κs : One) (bytes : Row) (n p : ℕ) (r : ℕ) (bytes′ : Row)
         → check-frame.clauses 𝓤 H A mem run κs (bytes, (n, (p, tt))) .ensures tt r (bytes′, (n, (p, tt)))
-        ≡ fact 𝓤 (r ≡ checkBytes n p (now bytes))
+        ≡ fact 𝓤 (CheckPromise (now bytes) n p r)
     pub check-frame-asks : (κs : One) (bytes : Row) (n p : ℕ) → check-frame.clauses 𝓤 H A mem run κs (bytes, (n, (p, tt))) .requires tt ≡ emp 𝓤
     pub read-frame-met : read-frame.Statement.statement M
     pub read-frame-is : (κs : One) (words : Row) (n p : ℕ) (r : FrameAnswer) (words′ : Row)

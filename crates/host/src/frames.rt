@@ -4,7 +4,7 @@ ghost use Prim.Native.Nat.{_+_, _*_, _≤_};
 ghost use lib.ListN.{length};
 ghost use Rattle.causal.specs.Lists.{tab};
 ghost use Rattle.frame.specs.Calls.{readFrameCode};
-ghost use Rattle.host.specs.Bytes.{wordAt, checkBytes};
+ghost use Rattle.host.specs.Bytes.{wordAt, CheckPromise};
 ghost use Rattle.frame.specs.Promises.{ReadFramePromise, WriteFramePromise};
 use crate::answer::FrameAnswer;
 use crate::answer::WordsAnswer;
@@ -46,7 +46,7 @@ fn check_words(bytes: &[u8], n: usize, offices: u32, plots: u32) -> u32
 // Are these bytes a frame for this ring and these plots? 0 for yes, else the refusal: 1 for the settings, then 9.
 #[no_mangle]
 pub extern "C" fn burial_check_frame(bytes: &[u8], offices: u32, plots: u32) -> u32
-    ensures { λ r. ⌜ r ≡ checkBytes offices plots (now (bytes .entry)) ⌝ }
+    ensures { λ r. ⌜ CheckPromise (now (bytes .entry)) offices plots r ⌝ }
 {
     if !frame::entry::ring_ok(offices, plots) {
         return 1;
