@@ -64,9 +64,10 @@ module _ (s₀ : Stage) (stores₀ lines₀ : List ℕ) (left₀ : ℕ) (s : Sta
 
     -- a write failed
     pub breaks : (entry : List ℕ) → Shows (opening (storesIn entry)) (s₀ .desk) stores₀ lines₀ → s₀ .pending ≡ pendingOf [] → left₀ ≡ 18446744073709551615 → q .wrote ≡ false
-        → (text′ : List ℕ) → RunPromise entry (record { ending = WriteFailed; left = left′; stage = q }) stores′ lines′ text′
+        → (brought : ℕ) (failed : Bool) (text′ : List ℕ)
+        → RunPromise entry (record { ending = WriteFailed; left = left′; brought = brought; failed = failed; stage = q }) stores′ lines′ text′
     unfolding part
-    breaks entry S e full w text′ =
+    breaks entry S e full w brought failed text′ =
         record {
           bytes = bs ++ cs;
           counted = counts ∙ full;
@@ -78,25 +79,26 @@ module _ (s₀ : Stage) (stores₀ lines₀ : List ℕ) (left₀ : ℕ) (s : Sta
     g = opening (storesIn entry)
 
     -- no more bytes come
-    closes : (ending : Ending) (failed : Bool) (text : List ℕ) (r : Stage) (stores′ lines′ text′ : List ℕ)
-        → Closes ending failed (fed g [] bs .scene) (fed g [] bs .rest) text r stores′ lines′ text′ → Ends ending g bs left r stores′ lines′ text′
-    closes Done failed text r stores′ lines′ text′ C = (C .1, (text, C .2))
-    closes WriteFailed failed text r stores′ lines′ text′ C = (C .1, inr (text, C .2))
-    closes ReadFailed failed text r stores′ lines′ text′ C = (C .1, record { shows = C .2 .shows; pending = C .2 .pending })
-    closes TooLong failed text r stores′ lines′ text′ C = absurd C
+    closes : (ending : Ending) (brought : ℕ) (failed : Bool) (text : List ℕ) (r : Stage) (stores′ lines′ text′ : List ℕ) → brought ≡ 0
+        → Closes ending failed (fed g [] bs .scene) (fed g [] bs .rest) text r stores′ lines′ text′ → Ends ending g bs left brought failed r stores′ lines′ text′
+    closes Done brought failed text r stores′ lines′ text′ b C = (b, C .0, C .1, (text, C .2))
+    closes WriteFailed brought failed text r stores′ lines′ text′ b C = (C .1, inr (text, C .2))
+    closes ReadFailed brought failed text r stores′ lines′ text′ b C = (b, C .0, C .1, record { shows = C .2 .shows; pending = C .2 .pending })
+    closes TooLong brought failed text r stores′ lines′ text′ b C = absurd C
 
-    pub ends : (r : Closed) (failed : Bool) (left′ : ℕ) → left′ ≡ left → (text stores′ lines′ text′ : List ℕ)
+    pub ends : (r : Closed) (brought : ℕ) (failed : Bool) (left′ : ℕ) → brought ≡ 0 → left′ ≡ left → (text stores′ lines′ text′ : List ℕ)
         → ((h : Scene) (l : List ℕ) → Shows h (s .desk) stores lines → s .pending ≡ pendingOf l → Closes (r .ending) failed h l text (r .stage) stores′ lines′ text′)
-        → RunPromise entry (record { ending = r .ending; left = left′; stage = r .stage }) stores′ lines′ text′
-    ends r failed left′ same text stores′ lines′ text′ C =
+        → RunPromise entry (record { ending = r .ending; left = left′; brought = brought; failed = failed; stage = r .stage }) stores′ lines′ text′
+    ends r brought failed left′ b same text stores′ lines′ text′ C =
         let X = R .leads g S e in
-        subst (λ (x : ℕ). RunPromise entry (record { ending = r .ending; left = x; stage = r .stage }) stores′ lines′ text′) (sym same)
+        subst (λ (x : ℕ). RunPromise entry (record { ending = r .ending; left = x; brought = brought; failed = failed; stage = r .stage }) stores′ lines′ text′) (sym same)
         (record {
           bytes = bs;
           counted = R .counted ∙ full;
-          ends = closes (r .ending) failed text (r .stage) stores′ lines′ text′ (C _ _ (X .shows) (X .pending));
+          ends = closes (r .ending) brought failed text (r .stage) stores′ lines′ text′ b (C _ _ (X .shows) (X .pending));
         })
 
     -- more bytes came than are counted
-    pub too-long : left < 4096 → (text′ : List ℕ) → RunPromise entry (record { ending = TooLong; left = left; stage = s }) stores lines text′
+    pub too-long : left < 4096 → (text′ : List ℕ)
+        → RunPromise entry (record { ending = TooLong; left = left; brought = 0; failed = false; stage = s }) stores lines text′
     too-long few text′ = record { bytes = bs; counted = R .counted ∙ full; ends = (R .wrote, R .leads g S e, few) }

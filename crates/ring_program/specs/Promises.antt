@@ -26,16 +26,18 @@ Closes TooLong failed g l text r stores lines text′ = ⊥
 abbrev pub Finished : Scene → List ℕ → Stage → List ℕ → List ℕ → List ℕ → Type 0
 Finished g bs r stores lines text′ = (text : List ℕ) × Finishes (fed g [] bs .scene) (fed g [] bs .rest) text r stores lines text′
 
--- each way to end, from the scene g, after the bytes bs were read. After a failed write nothing more is played: what was fed is a beginning of what
--- was read, or all of it and the last line
-abbrev pub Ends : Ending → Scene → List ℕ → ℕ → Stage → List ℕ → List ℕ → List ℕ → Type 0
-Ends Done g bs left r stores lines text′ = (r .wrote ≡ true) × Finished g bs r stores lines text′
-Ends ReadFailed g bs left r stores lines text′ = (r .wrote ≡ true) × Leads (fed g [] bs) r stores lines
-Ends TooLong g bs left r stores lines text′ = (r .wrote ≡ true) × Leads (fed g [] bs) r stores lines × (left < 4096)
-Ends WriteFailed g bs left r stores lines text′ = (r .wrote ≡ false) × (((k : ℕ) × Leads (fed g [] (take k bs)) r stores lines) ⊎ Finished g bs r stores lines text′)
+-- each way to end, from the scene g, after the bytes bs were read, by what the last read said: how many bytes it brought, and whether it failed. The
+-- input's end is a read that brings none and does not fail. After a failed write nothing more is played: what was fed is a beginning of what was read,
+-- or all of it and the last line
+abbrev pub Ends : Ending → Scene → List ℕ → ℕ → ℕ → Bool → Stage → List ℕ → List ℕ → List ℕ → Type 0
+Ends Done g bs left brought failed r stores lines text′ = (brought ≡ 0) × (failed ≡ false) × (r .wrote ≡ true) × Finished g bs r stores lines text′
+Ends ReadFailed g bs left brought failed r stores lines text′ = (brought ≡ 0) × (failed ≡ true) × (r .wrote ≡ true) × Leads (fed g [] bs) r stores lines
+Ends TooLong g bs left brought failed r stores lines text′ = (r .wrote ≡ true) × Leads (fed g [] bs) r stores lines × (left < 4096)
+Ends WriteFailed g bs left brought failed r stores lines text′ =
+    (r .wrote ≡ false) × (((k : ℕ) × Leads (fed g [] (take k bs)) r stores lines) ⊎ Finished g bs r stores lines text′)
 
 -- the whole program: bytes were read, counted down from 2^64 − 1, and it ended in one of these ways
 pub record RunPromise (stores : List ℕ) (r : Outcome) (stores′ lines′ text′ : List ℕ) : Type 0 where
   pub bytes : List ℕ
   pub counted : length bytes + r .left ≡ 18446744073709551615
-  pub ends : Ends (r .ending) (opening (storesIn stores)) bytes (r .left) (r .stage) stores′ lines′ text′
+  pub ends : Ends (r .ending) (opening (storesIn stores)) bytes (r .left) (r .brought) (r .failed) (r .stage) stores′ lines′ text′

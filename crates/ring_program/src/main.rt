@@ -16,9 +16,12 @@ use input::read_chunk;
 use player::opening::open_ring;
 use script::pending::nothing;
 
+// `brought` and `failed` are what the last read said.
 pub struct Outcome {
     pub ending: Ending,
     pub left: u64, // u64::MAX less the bytes read
+    pub brought: usize,
+    pub failed: bool,
     pub stage: Stage,
 }
 
@@ -54,6 +57,8 @@ fn run(
             return Outcome {
                 ending,
                 left,
+                brought: n,
+                failed: chunk.failed,
                 stage: last,
             };
         }
@@ -72,6 +77,8 @@ fn run(
             return Outcome {
                 ending: Ending::WriteFailed,
                 left,
+                brought: n,
+                failed: chunk.failed,
                 stage,
             };
         }
@@ -79,6 +86,8 @@ fn run(
     Outcome {
         ending: Ending::TooLong,
         left,
+        brought: 0,
+        failed: false,
         stage,
     }
 }

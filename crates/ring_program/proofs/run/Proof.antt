@@ -56,7 +56,7 @@ returns : tie.Need-returns Inv-loop μ-loop
 returns c = let z = c .before .before .before .before .before .before .before .before .before .before .before .before .before .before .before .before .before .before .before .before .before .before .before .before .before .before .before .before .before .before .before .before .before .before .before in
     let L = c .before .before .before .before .before .before .before .before .before .before .before .before .before .before .before .before .before .before .before .before .before .before .before .loop in
     let q = c .before .before .before .before .before .before .before .before .before .before .before .before .before .before .before .before .before .before .before .before .read-chunk in
-    rn.ends _ _ _ _ _ _ _ _ (L .inv .7) (z .args .stores .now) (c .before .before .before .before .before .before .before .before .before .before .before .before .before .before .before .before .before .before .before .before .before .before .before .before .before .before .before .open-ring .ensures (z .args .lines .now) (z .pre .1)) (c .before .before .before .before .before .before .before .before .before .before .before .before .before .before .before .before .before .before .before .before .before .before .before .before .nothing .ensures) refl (c .before .before .before .before .before .before .before .before .before .before .before .close .result) (q .result .failed) (q .result .left) (omega (arith, q .ensures .1, c .before .before .before .before .before .before .before .before .before .before .before .before .before .before .before .before .before .if1 .taken)) _ _ _ _ (c .before .before .before .before .before .before .before .before .before .before .before .close .ensures)
+    rn.ends _ _ _ _ _ _ _ _ (L .inv .7) (z .args .stores .now) (c .before .before .before .before .before .before .before .before .before .before .before .before .before .before .before .before .before .before .before .before .before .before .before .before .before .before .before .open-ring .ensures (z .args .lines .now) (z .pre .1)) (c .before .before .before .before .before .before .before .before .before .before .before .before .before .before .before .before .before .before .before .before .before .before .before .before .nothing .ensures) refl (c .before .before .before .before .before .before .before .before .before .before .before .close .result) (q .result .n) (q .result .failed) (q .result .left) (c .before .before .before .before .before .before .before .before .before .before .before .before .before .before .before .before .before .if1 .taken) (omega (arith, q .ensures .1, c .before .before .before .before .before .before .before .before .before .before .before .before .before .before .before .before .before .if1 .taken)) _ _ _ _ (c .before .before .before .before .before .before .before .before .before .before .before .close .ensures)
 
 slice-reshare-prefix-feed-all : tie.Need-slice-reshare-prefix-feed-all Inv-loop μ-loop
 slice-reshare-prefix-feed-all c = omega (arith, c .before .before .before .read-chunk .ensures .0, c .before .before .before .read-chunk .kept .0, c .before .before .before .before .before .before .loop .inv .4, c .before .before .before .before .before .before .before .before .before .before .before .before .before .before .before .before .before .before .pre .4)
@@ -93,7 +93,7 @@ returns-2 c = let z = c .before .before .before .before .before .before .before 
     let L = c .before .before .before .before .before .before .before .before .before .before .before .before .before .before .before .before .before .before .before .before .before .before .before .before .before .before .loop in
     let q = c .before .before .before .before .before .before .before .before .before .before .before .before .before .before .before .before .before .before .before .before .before .before .before .read-chunk in
     let f = c .before .before .before .before .before .before .before .before .before .before .before .before .before .feed-all in
-    rn.breaks _ _ _ _ _ _ _ _ (L .inv .7) (take (q .result .n) (q .last .0)) (q .result .left) (omega (arith, q .ensures .1, length-take-le (q .result .n) (q .last .0) (omega (arith, q .ensures .0, q .kept .0, L .inv .4, z .pre .4)))) (f .result .next) (f .result .stage) _ _ (f .ensures .3) (z .args .stores .now) (c .before .before .before .before .before .before .before .before .before .before .before .before .before .before .before .before .before .before .before .before .before .before .before .before .before .before .before .before .before .before .open-ring .ensures (z .args .lines .now) (z .pre .1)) (c .before .before .before .before .before .before .before .before .before .before .before .before .before .before .before .before .before .before .before .before .before .before .before .before .before .before .before .nothing .ensures) refl (not-true (f .result .stage .wrote) (c .if2 .taken)) _
+    rn.breaks _ _ _ _ _ _ _ _ (L .inv .7) (take (q .result .n) (q .last .0)) (q .result .left) (omega (arith, q .ensures .1, length-take-le (q .result .n) (q .last .0) (omega (arith, q .ensures .0, q .kept .0, L .inv .4, z .pre .4)))) (f .result .next) (f .result .stage) _ _ (f .ensures .3) (z .args .stores .now) (c .before .before .before .before .before .before .before .before .before .before .before .before .before .before .before .before .before .before .before .before .before .before .before .before .before .before .before .before .before .before .open-ring .ensures (z .args .lines .now) (z .pre .1)) (c .before .before .before .before .before .before .before .before .before .before .before .before .before .before .before .before .before .before .before .before .before .before .before .before .before .before .before .nothing .ensures) refl (not-true (f .result .stage .wrote) (c .if2 .taken)) _ _ _
 
 loop-less : tie.Need-loop-less Inv-loop μ-loop
 loop-less c = omega (arith, c .before .before .before .before .before .before .before .before .before .before .before .before .before .before .before .before .before .before .before .before .before .before .before .read-chunk .ensures .1, c .before .before .before .before .before .before .before .before .before .before .before .before .before .before .before .before .before .before .before .before .if1 .left)
