@@ -78,12 +78,12 @@ own-none O f n z = rw z refl
 
 -- ---- every number is one of the paper's
 
-pub check-le : (A : Bool) (k B : ℕ) → k ≤ 13 → B ≤ 13 → check A k B ≤ 13
+check-le : (A : Bool) (k B : ℕ) → k ≤ 13 → B ≤ 13 → check A k B ≤ 13
 unfolding check
 check-le true k B h l = l
 check-le false k B h l = h
 
-pub or-le : (a b : ℕ) → a ≤ 13 → b ≤ 13 → orElse a b ≤ 13
+or-le : (a b : ℕ) → a ≤ 13 → b ≤ 13 → orElse a b ≤ 13
 unfolding orElse
 or-le zero b h l = l
 or-le (suc a) b h l = h

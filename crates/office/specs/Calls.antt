@@ -252,7 +252,7 @@ storeNeed n o p = cond (settingsOk n o p) (0, need n) (1, 0)
 unfoldable pub openOffice : ℕ → ℕ → ℕ → List ℕ → ℕ × List ℕ
 openOffice n o p ws = cond (settingsOk n o p) (cond (leb (need n) (length ws)) (0, storeWords ws (emptyOffice n o p)) (2, ws)) (1, ws)
 
--- "A fresh errand needs a ring size of 2 to 8, else 1": code, session
+-- "A fresh errand needs a ring size of 2 to 8, else 1"
 unfoldable pub freshCode : ℕ → ℕ
 freshCode n = check (both (leb 2 n) (leb n 8)) 1 0
 

@@ -16,13 +16,12 @@ use Rattle.frame.specs.Calls.{laid}
 use Rattle.frame.specs.Entries.{entryOk, idOf, nameOf}
 use Rattle.frame.specs.Frames.{accepts, frameOf, frameWords, ringOk}
 use Rattle.frame.specs.Promises.{WriteTokenPromise}
-use Rattle.frame.specs.Refusals.{Reply, codeOf, replied, replyOf}
+use Rattle.frame.specs.Refusals.{Reply, replied}
 use Rattle.frame.specs.Sessions.{Content, contentOf, freshContent}
 use Rattle.frame.specs.TokenCalls.{writeToken, writeTokenCode}
 use Rattle.frame.specs.Tokens.{tokenWords}
 use Rattle.frame.specs.declared.entry.Entry.{Entry}
 use Rattle.frame.specs.declared.entry.Frame.{Frame}
-use Rattle.frame.specs.declared.refusal.Written.{Written}
 use Rattle.frame.specs.declared.session.Session.{Session}
 use Rattle.frame.proofs.Entries.{entry-facts}
 use Rattle.frame.proofs.OwnTurns.{content-back}
@@ -30,11 +29,8 @@ use Rattle.store.specs.Offices.{Office, Some, current, emptyOffice, need, offic
 use Rattle.store.proofs.Best.{current-from}
 use Rattle.office.specs.Calls.{Result, answerWords, freshCode, given, jointCode, jointOn, notedAll, openOffice, parsed, readCode, readJoint, readOn, readPlot, receive, receiveCode, receiveOn, worded, write, writeCode, writeOn}
 use Rattle.office.specs.Promises.{JointPromise, ReadPromise, ReceivePromise, WritePromise}
-use Rattle.office.specs.declared.joint.JointRead.{JointRead}
-use Rattle.office.specs.declared.read.PlotRead.{PlotRead}
-use Rattle.office.specs.declared.write.Wrote.{Wrote}
 use Rattle.office.proofs.Refused.{receive-words-refused, write-words-refused}
-use Rattle.ring.specs.Answers.{Carried, Ring, Said, contentIn, jointBack, jointSaid, namedIn, ownOf, readSaid, receivedSaid, shown, tokenWritten, wroteSaid}
+use Rattle.ring.specs.Answers.{ReadAnswer, SessionAnswer, WriteAnswer, Carried, Ring, Said, contentIn, jointBack, jointSaid, namedIn, ownOf, readSaid, receivedSaid, shown, tokenWritten, wroteSaid}
 use Rattle.ring.specs.Claim.{Absent, Claim, Opened, Runs, Step, absent, begins-fresh, begun, copies-session, copies-token, more, none, reads, reads-jointly, reads-token, receives, receives-words, writes, writes-token}
 use Rattle.ring.specs.Holds.{Holds, Same}
 use Rattle.ring.specs.Run.{Call, Made, Tracked, TrackedToken, answered, at, begins, contentsRun, copy-session, copy-token, copySession, copyToken, fresh, startBy, fromToken, fromTokenAt, joint, jointAt, nextOf, noted-event, onContents, onWords, readAt, readBy, readLeft, reading, receiveAt, receiveBy, receiveLeft, receiving, receiving-words, refused, refusedBy, run, starting, step, token-reading, token-writing, tokenAt, tokenBy, turned, turnedBy, upd, withSession, wordsBy, wordsRun, writeAt, writeBy, writeLeft, writerPast, writing}
@@ -199,16 +195,16 @@ module _ (n : ℕ) (σ : Ring) where
   from-shown s x zero h = begins-zero s (x .past) (onWords .token-read (x .token)) (h refl)
   from-shown s x (suc c) h = refl
 
-  token-shown : (s : Carried) (row : List ℕ) (r : Written) (row′ : List ℕ) → WriteTokenPromise (s .session) row (replyOf r) row′ → (c : ℕ)
+  token-shown : (s : Carried) (row : List ℕ) (r : Reply) (row′ : List ℕ) → WriteTokenPromise (s .session) row r row′ → (c : ℕ)
       → writeTokenCode (contentOf (s .session)) (length row) ≡ c
       → shown (tokenWritten σ s r row′ c) ≡ tokenBy onWords n (shown σ) (contentIn s) row c
   unfolding writeToken replied laid onWords
   token-shown s row r row′ h zero e =
       let t = write-token-step (s .session) row r row′ h in
       let u = t .2 e in
-      let w : take (replyOf r .words) row′ ≡ tokenWords (contentOf (s .session)) =
-      ap (take (replyOf r .words)) (u .1)
-      ∙ take-at (tokenWords (contentOf (s .session))) (drop (length (tokenWords (contentOf (s .session)))) row) (replyOf r .words) (sym (u .0))
+      let w : take (r .words) row′ ≡ tokenWords (contentOf (s .session)) =
+      ap (take (r .words)) (u .1)
+      ∙ take-at (tokenWords (contentOf (s .session))) (drop (length (tokenWords (contentOf (s .session)))) row) (r .words) (sym (u .0))
       in
       λ i.
       record {
@@ -220,7 +216,7 @@ module _ (n : ℕ) (σ : Ring) where
         events = σ .events ++ (answered 0 (u .0 i) (t .1 i) ∷ []);
       }
   token-shown s row r row′ h (suc c) e =
-      let k : replyOf r .words ≡ 0 =
+      let k : r .words ≡ 0 =
       ap (λ (x : Reply). x .words) (h .0) ∙ ap (λ (x : ℕ). replied x (length (tokenWords (contentOf (s .session)))) .words) e
       in
       λ i.
@@ -370,23 +366,23 @@ module _ (n p : ℕ) (two : 2 ≤ n) (eight : n ≤ 8) (one : 1 ≤ p) (p64 : p 
           (Rw .code) refl
           (same-at n rows _ _ _ write-runs (next (writing o i plot value row)))
 
-      write-is : (r : Wrote) (ws′ row′ : List ℕ) → WritePromise (σ .stores o) (s .session) plot value row (replyOf (r .written)) (r .session) ws′ row′
-          → shown (writeLeft ownOf n σ o i s (wroteSaid r ws′ row′) (replyOf (r .written) .code)) ≡ step onWords n (shown σ) (writing o i plot value row)
+      write-is : (r : WriteAnswer) (ws′ row′ : List ℕ) → WritePromise (σ .stores o) (s .session) plot value row (r .reply) (r .session) ws′ row′
+          → shown (writeLeft ownOf n σ o i s (wroteSaid r ws′ row′) (r .reply .code)) ≡ step onWords n (shown σ) (writing o i plot value row)
       write-is r ws′ row′ h =
           let t = write-step (σ .stores o) (s .session) (sized-at n σ z i s e) plot value row r ws′ row′ h in
           let u = write-sends (σ .stores o) (contentOf (s .session)) plot value row in
           let is : resultOf (wroteSaid r ws′ row′) ≡ Rw =
           result-is (wroteSaid r ws′ row′) Rw (t .0) (t .1) (sym (write-found (σ .stores o) (contentOf (s .session)) plot value row)) (t .3) (t .2) (t .4)
-          (cut-row n p p64 (Rw .sent) written-frames row row′ (replyOf (r .written) .words) (t .4 ∙ u .0) (t .1 ∙ u .1))
+          (cut-row n p p64 (Rw .sent) written-frames row row′ (r .reply .words) (t .4 ∙ u .0) (t .1 ∙ u .1))
           in
-          write-shown n σ o i s (wroteSaid r ws′ row′) (replyOf (r .written) .code)
+          write-shown n σ o i s (wroteSaid r ws′ row′) (r .reply .code)
           ∙ ap (λ (x : Res). writeBy onWords n (shown σ) o i (contentIn s) x (x .code)) is
           ∙ sym write-runs
 
     -- a reading of one plot
-    read-is : (o i plot : ℕ) (s : Carried) (r : PlotRead) (ws′ : List ℕ) → o < n → at (σ .sessions) i ≡ s ∷ []
-        → ReadPromise (σ .stores o) (s .session) plot (codeOf (r .status)) (r .found) (r .entry) (r .session) ws′
-        → shown (readLeft σ o i s (plot ∷ []) (readSaid r ws′) (codeOf (r .status))) ≡ step onWords n (shown σ) (reading o i plot)
+    read-is : (o i plot : ℕ) (s : Carried) (r : ReadAnswer) (ws′ : List ℕ) → o < n → at (σ .sessions) i ≡ s ∷ []
+        → ReadPromise (σ .stores o) (s .session) plot (r .code) (r .found) (r .entry) (r .session) ws′
+        → shown (readLeft σ o i s (plot ∷ []) (readSaid r ws′) (r .code)) ≡ step onWords n (shown σ) (reading o i plot)
     unfolding step
     read-is o i plot s r ws′ lt e h =
         let t = read-step (σ .stores o) (s .session) plot r ws′ h in
@@ -394,7 +390,7 @@ module _ (n p : ℕ) (two : 2 ≤ n) (eight : n ≤ 8) (one : 1 ≤ p) (p64 : p 
         let is : resultOf (readSaid r ws′) ≡ onWords .on-read (σ .stores o) (contentOf (s .session)) plot =
         result-is (readSaid r ws′) (onWords .on-read (σ .stores o) (contentOf (s .session)) plot) (t .0) (sym (b .0)) (t .1) (t .3) (t .2) (sym (b .1)) (sym (b .2))
         in
-        read-shown n σ o i s (plot ∷ []) (readSaid r ws′) (codeOf (r .status))
+        read-shown n σ o i s (plot ∷ []) (readSaid r ws′) (r .code)
         ∙ ap (λ (x : Res). readBy onWords n (shown σ) o i (contentIn s) (plot ∷ []) x (x .code)) is
         ∙ sym
         (on-office o (readAt onWords n (shown σ) o i plot (at (map contentIn (σ .sessions)) i)) lt
@@ -451,29 +447,29 @@ module _ (n p : ℕ) (two : 2 ≤ n) (eight : n ≤ 8) (one : 1 ≤ p) (p64 : p 
               plots _
           go (suc y) K = refl
 
-      joint-holds : (r : JointRead) (ws′ row′ : List ℕ) → JointPromise (σ .stores o) (s .session) plots row (codeOf (r .status)) (r .session) ws′ row′
-          → shown (readLeft σ o i s plots (jointSaid (σ .log) plots r ws′ row′) (codeOf (r .status))) ≡ step onWords n (shown σ) (joint o i plots row)
+      joint-holds : (r : SessionAnswer) (ws′ row′ : List ℕ) → JointPromise (σ .stores o) (s .session) plots row (r .code) (r .session) ws′ row′
+          → shown (readLeft σ o i s plots (jointSaid (σ .log) plots r ws′ row′) (r .code)) ≡ step onWords n (shown σ) (joint o i plots row)
       unfolding step onWords
       joint-holds r ws′ row′ h =
           let t = joint-step (σ .stores o) (s .session) plots row r ws′ row′ h in
           let b = joint-blank (σ .stores o) (contentOf (s .session)) plots row in
           let ji = joint-is n p two eight one p64 rows enough (shown σ) c S k o lt (contentOf (s .session)) plots row in
-          let cj : codeOf (r .status) ≡ J .code = t .0 ∙ ap (λ (x : Res). x .code) ji in
+          let cj : r .code ≡ J .code = t .0 ∙ ap (λ (x : Res). x .code) ji in
           let rj : row′ ≡ J .row = t .3 ∙ ap (λ (x : Res). x .row) ji in
-          let f : jointBack (codeOf (r .status)) (σ .log) plots row′ ≡ Rj .found =
+          let f : jointBack (r .code) (σ .log) plots row′ ≡ Rj .found =
           (λ i. jointBack (cj i) (S .log i) plots (rj i)) ∙ found-J ∙ sym (ap (λ (x : Res). x .found) ji)
           in
           let is : resultOf (jointSaid (σ .log) plots r ws′ row′) ≡ Rj =
           result-is (jointSaid (σ .log) plots r ws′ row′) Rj (t .0) (sym (b .0)) f (t .2) (t .1) (t .3) (sym (b .1))
           in
-          read-shown n σ o i s plots (jointSaid (σ .log) plots r ws′ row′) (codeOf (r .status))
+          read-shown n σ o i s plots (jointSaid (σ .log) plots r ws′ row′) (r .code)
           ∙ ap (λ (x : Res). readBy onWords n (shown σ) o i (contentIn s) plots x (x .code)) is
           ∙ sym
           (on-office o (jointAt onWords n (shown σ) o i plots row (at (map contentIn (σ .sessions)) i)) lt
           ∙ ap (jointAt onWords n (shown σ) o i plots row) (there i s e))
 
     -- a receive
-    received-is : (o : ℕ) (f row : List ℕ) (r : Written) (ws′ row′ : List ℕ) → ReceivePromise (σ .stores o) f row (replyOf r) ws′ row′
+    received-is : (o : ℕ) (f row : List ℕ) (r : Reply) (ws′ row′ : List ℕ) → ReceivePromise (σ .stores o) f row r ws′ row′
         → ((w : List ℕ) → List·Memᴰ w (onWords .on-receive (σ .stores o) f row .sent) → accepts n p w ≡ true)
         → resultOf (receivedSaid r ws′ row′) ≡ onWords .on-receive (σ .stores o) f row
     received-is o f row r ws′ row′ h frames =
@@ -482,7 +478,7 @@ module _ (n p : ℕ) (two : 2 ≤ n) (eight : n ≤ 8) (one : 1 ≤ p) (p64 : p 
         let b = receive-blank (σ .stores o) f row in
         result-is (receivedSaid r ws′ row′) (onWords .on-receive (σ .stores o) f row) (t .0) (t .1) (sym (b .0)) (t .2)
         (content-back (freshContent 0) (omega arith) ∙ sym (b .1)) (t .3)
-        (cut-row n p p64 (onWords .on-receive (σ .stores o) f row .sent) frames row row′ (replyOf r .words) (t .3 ∙ u .0) (t .1 ∙ u .1))
+        (cut-row n p p64 (onWords .on-receive (σ .stores o) f row .sent) frames row row′ (r .words) (t .3 ∙ u .0) (t .1 ∙ u .1))
 
     receive-empty : (ws f row : List ℕ) → (onWords .on-receive ws f row .code ≡ 0 → ⊥) → onWords .on-receive ws f row .sent ≡ []
     unfolding onWords
@@ -496,10 +492,10 @@ module _ (n p : ℕ) (two : 2 ≤ n) (eight : n ≤ 8) (one : 1 ≤ p) (p64 : p 
       unfolding step
       receive-runs = on-office o (receiveAt onWords n (shown σ) o row (σ .lines o)) lt ∙ ap (receiveAt onWords n (shown σ) o row) e
 
-      receive-is : (r : Written) (ws′ row′ : List ℕ) → ReceivePromise (σ .stores o) f row (replyOf r) ws′ row′
-          → shown (receiveLeft n σ o rest (receivedSaid r ws′ row′) (replyOf r .code)) ≡ step onWords n (shown σ) (receiving o row)
+      receive-is : (r : Reply) (ws′ row′ : List ℕ) → ReceivePromise (σ .stores o) f row r ws′ row′
+          → shown (receiveLeft n σ o rest (receivedSaid r ws′ row′) (r .code)) ≡ step onWords n (shown σ) (receiving o row)
       receive-is r ws′ row′ h =
-          receive-shown n σ o rest (receivedSaid r ws′ row′) (replyOf r .code)
+          receive-shown n σ o rest (receivedSaid r ws′ row′) (r .code)
           ∙ ap (λ (x : Res). receiveBy onWords n (shown σ) o rest x (x .code))
           (received-is o f row r ws′ row′ h
           (receive-frames o rest Rh (step onContents n c (receiving o row)) (step-ok n p two eight c k (receiving o row)) (receive-empty (σ .stores o) f row)
@@ -508,12 +504,12 @@ module _ (n p : ℕ) (two : 2 ≤ n) (eight : n ≤ 8) (one : 1 ≤ p) (p64 : p 
           ∙ sym receive-runs
 
     -- words that nobody sent: the code, the store and the row are all that a run has of them
-    words-is : (o : ℕ) (words row : List ℕ) (r : Written) (ws′ row′ : List ℕ) → o < n → ReceivePromise (σ .stores o) words row (replyOf r) ws′ row′
-        → shown (cond (eqb (replyOf r .code) 9) (turned σ o (receivedSaid r ws′ row′)) σ) ≡ step onWords n (shown σ) (receiving-words o words row)
+    words-is : (o : ℕ) (words row : List ℕ) (r : Reply) (ws′ row′ : List ℕ) → o < n → ReceivePromise (σ .stores o) words row r ws′ row′
+        → shown (cond (eqb (r .code) 9) (turned σ o (receivedSaid r ws′ row′)) σ) ≡ step onWords n (shown σ) (receiving-words o words row)
     unfolding step onWords
     words-is o words row r ws′ row′ lt h =
         let t = receive-step (σ .stores o) words row r ws′ row′ h in
-        words-shown n σ o (receivedSaid r ws′ row′) (eqb (replyOf r .code) 9)
+        words-shown n σ o (receivedSaid r ws′ row′) (eqb (r .code) 9)
         ∙ (λ i.
         cond (eqb (t .0 i) 9)
         (record {
@@ -597,20 +593,20 @@ beyond n o p ws le = rw (le-ltb o n le) (go (ringOk n p))
 
 stores-are : (n p : ℕ) (rows ws : ℕ → List ℕ) → Opened n p rows ws → (o : ℕ) → cond (ltb o n) (ws o) (rows o) ≡ openOffice n o p (rows o) .1
 stores-are n p rows ws opened o =
-    ⊎-elim (λ (lt : o < n). rw (lt-ltb o n lt) (opened o lt .2 .1)) (λ (le : n ≤ o). rw (le-ltb o n le) (sym (beyond n o p (rows o) le)))
+    ⊎-elim (λ (lt : o < n). rw (lt-ltb o n lt) (opened o lt .1)) (λ (le : n ≤ o). rw (le-ltb o n le) (sym (beyond n o p (rows o) le)))
     (lt-or-le o n)
 
 pub claim : Claim
 unfolding wordsRun contentsRun run
 claim n p some rows ws opened cs τ R =
     let first = opened 0 (omega (arith, some)) in
-    let r = ranges n p (settled n 0 p (rows 0) (sym (first .2 .0) ∙ first .1) .0) in
+    let r = ranges n p (settled n 0 p (rows 0) (sym (first .0)) .0) in
     let two : 2 ≤ n = r .0 in
     let eight : n ≤ 8 = r .1 in
     let one : 1 ≤ p = r .2 in
     let p64 : p ≤ 64 = r .3 in
     let long : (o : ℕ) → o < n → need n ≤ length (rows o) =
-    λ o lt. let x = opened o lt in settled n o p (rows o) (sym (x .2 .0) ∙ x .1) .1
+    λ o lt. let x = opened o lt in settled n o p (rows o) (sym (x .0)) .1
     in
     let e : begun n rows ws .stores ≡ (λ o. openOffice n o p (rows o) .1) = λ i o. stores-are n p rows ws opened o i in
     let S : Same n rows (shown (begun n rows ws)) (contentsRun n p []) =

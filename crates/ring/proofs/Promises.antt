@@ -10,15 +10,12 @@ use Rattle.causal.proofs.Codes.{check-none}
 use Rattle.frame.specs.Calls.{laid, laidIf}
 use Rattle.frame.specs.Frames.{accepts, frameOf, frameWords, ringOk}
 use Rattle.frame.specs.Promises.{ReadTokenPromise, WriteTokenPromise}
-use Rattle.frame.specs.Refusals.{Reply, codeOf, replied, replyOf}
+use Rattle.frame.specs.Refusals.{Reply, replied}
 use Rattle.frame.specs.Sessions.{Content, contentOf, freshContent, sessionOf}
 use Rattle.frame.specs.TokenCalls.{contentIf, readToken, readTokenCode, writeToken, writeTokenCode, writeTokenRow}
 use Rattle.frame.specs.Tokens.{acceptsToken, contentFrom, rowsOf, tokenWords}
 use Rattle.frame.specs.declared.entry.Frame.{Frame}
-use Rattle.frame.specs.declared.refusal.Status.{Status}
-use Rattle.frame.specs.declared.refusal.Written.{Written}
 use Rattle.frame.specs.declared.session.Session.{Session}
-use Rattle.frame.specs.declared.token.TokenRead.{TokenRead}
 use Rattle.frame.proofs.Changed.{token-sound}
 use Rattle.frame.proofs.OwnTurns.{content-back}
 use Rattle.frame.proofs.Sessions.{session-facts}
@@ -26,12 +23,8 @@ use Rattle.store.specs.Offices.{Found, None, Office, Some, current, officeOf, r
 use Rattle.office.specs.Answers.{anyFound, entryFound, freshBy}
 use Rattle.office.specs.Calls.{Result, answerWords, freshCode, given, handed, holdAll, jointCode, jointOn, noted, notedAll, openOffice, parsed, readCode, readJoint, readOn, readPlot, receive, receiveCode, receiveOn, receiveSends, receivedBy, sentOf, threeWords, worded, write, writeCode, writeOn, writeSends, wroteSession}
 use Rattle.office.specs.Promises.{FreshPromise, JointPromise, OpenPromise, ReadPromise, ReceivePromise, WritePromise}
-use Rattle.office.specs.declared.joint.JointRead.{JointRead}
-use Rattle.office.specs.declared.open.Fresh.{Fresh}
-use Rattle.office.specs.declared.read.PlotRead.{PlotRead}
-use Rattle.office.specs.declared.write.Wrote.{Wrote}
 use Rattle.office.proofs.Answers.{joint-content, read-content, write-content}
-use Rattle.ring.specs.Answers.{handedBack}
+use Rattle.ring.specs.Answers.{ReadAnswer, SessionAnswer, WriteAnswer, handedBack}
 use Rattle.ring.specs.Run.{onWords}
 
 -- rows one behind the other
@@ -42,9 +35,9 @@ joined (l ∷ ls) = l ++ joined ls
 -- ---- a write
 
 -- a session of a program has room for 16 own writes
-pub write-step : (ws : List ℕ) (s : Session) → length (s .own) ≡ 16 → (plot value : ℕ) (row : List ℕ) (r : Wrote) (ws′ row′ : List ℕ) → WritePromise ws s plot value row (replyOf (r .written)) (r .session) ws′ row′
-    → (replyOf (r .written) .code ≡ onWords .on-write ws (contentOf s) plot value row .code)
-    × (replyOf (r .written) .words ≡ onWords .on-write ws (contentOf s) plot value row .count)
+pub write-step : (ws : List ℕ) (s : Session) → length (s .own) ≡ 16 → (plot value : ℕ) (row : List ℕ) (r : WriteAnswer) (ws′ row′ : List ℕ) → WritePromise ws s plot value row (r .reply) (r .session) ws′ row′
+    → (r .reply .code ≡ onWords .on-write ws (contentOf s) plot value row .code)
+    × (r .reply .words ≡ onWords .on-write ws (contentOf s) plot value row .count)
     × (contentOf (r .session) ≡ onWords .on-write ws (contentOf s) plot value row .session)
     × (ws′ ≡ onWords .on-write ws (contentOf s) plot value row .store)
     × (row′ ≡ onWords .on-write ws (contentOf s) plot value row .row)
@@ -109,16 +102,16 @@ read-found ws s plot =
     go true (suc c) f = refl
     go false c f = refl
 
-pub read-step : (ws : List ℕ) (s : Session) (plot : ℕ) (r : PlotRead) (ws′ : List ℕ) → ReadPromise ws s plot (codeOf (r .status)) (r .found) (r .entry) (r .session) ws′
-    → (codeOf (r .status) ≡ onWords .on-read ws (contentOf s) plot .code)
-    × (handedBack (codeOf (r .status)) (r .found) (r .entry) ≡ onWords .on-read ws (contentOf s) plot .found)
+pub read-step : (ws : List ℕ) (s : Session) (plot : ℕ) (r : ReadAnswer) (ws′ : List ℕ) → ReadPromise ws s plot (r .code) (r .found) (r .entry) (r .session) ws′
+    → (r .code ≡ onWords .on-read ws (contentOf s) plot .code)
+    × (handedBack (r .code) (r .found) (r .entry) ≡ onWords .on-read ws (contentOf s) plot .found)
     × (contentOf (r .session) ≡ onWords .on-read ws (contentOf s) plot .session)
     × (ws′ ≡ onWords .on-read ws (contentOf s) plot .store)
 unfolding onWords
 read-step ws s plot r ws′ h = (h .0, rw (h .0, h .1, h .2) (read-found ws (contentOf s) plot), ap contentOf (h .3) ∙ read-content ws s plot, h .4)
 
-pub joint-step : (ws : List ℕ) (s : Session) (plots row : List ℕ) (r : JointRead) (ws′ row′ : List ℕ) → JointPromise ws s plots row (codeOf (r .status)) (r .session) ws′ row′
-    → (codeOf (r .status) ≡ onWords .on-joint ws (contentOf s) plots row .code)
+pub joint-step : (ws : List ℕ) (s : Session) (plots row : List ℕ) (r : SessionAnswer) (ws′ row′ : List ℕ) → JointPromise ws s plots row (r .code) (r .session) ws′ row′
+    → (r .code ≡ onWords .on-joint ws (contentOf s) plots row .code)
     × (contentOf (r .session) ≡ onWords .on-joint ws (contentOf s) plots row .session)
     × (ws′ ≡ onWords .on-joint ws (contentOf s) plots row .store)
     × (row′ ≡ onWords .on-joint ws (contentOf s) plots row .row)
@@ -160,9 +153,9 @@ joint-found ws s plots row = go (soundStore ws) (jointCode (officeOf ws) s plots
 
 -- ---- a receive
 
-pub receive-step : (ws frame row : List ℕ) (r : Written) (ws′ row′ : List ℕ) → ReceivePromise ws frame row (replyOf r) ws′ row′
-    → (replyOf r .code ≡ onWords .on-receive ws frame row .code)
-    × (replyOf r .words ≡ onWords .on-receive ws frame row .count)
+pub receive-step : (ws frame row : List ℕ) (r : Reply) (ws′ row′ : List ℕ) → ReceivePromise ws frame row r ws′ row′
+    → (r .code ≡ onWords .on-receive ws frame row .code)
+    × (r .words ≡ onWords .on-receive ws frame row .count)
     × (ws′ ≡ onWords .on-receive ws frame row .store)
     × (row′ ≡ onWords .on-receive ws frame row .row)
 unfolding onWords
@@ -189,22 +182,22 @@ words-step ws words row = refl
 
 -- ---- opening, and fresh sessions
 
-pub open-step : (n o p : ℕ) (ws : List ℕ) (r : Status) (ws′ : List ℕ) → OpenPromise n o p ws (codeOf r) ws′ → ws′ ≡ openOffice n o p ws .1
-open-step n o p ws r ws′ h = h .1
+pub open-step : (n o p : ℕ) (ws : List ℕ) (code : ℕ) (ws′ : List ℕ) → OpenPromise n o p ws code ws′ → ws′ ≡ openOffice n o p ws .1
+open-step n o p ws code ws′ h = h .1
 
-pub fresh-step : (n : ℕ) (r : Fresh) → FreshPromise n (codeOf (r .status)) (r .session)
-    → (codeOf (r .status) ≡ freshCode n) × (freshCode n ≡ 0 → contentOf (r .session) ≡ freshContent n)
+pub fresh-step : (n : ℕ) (r : SessionAnswer) → FreshPromise n (r .code) (r .session)
+    → (r .code ≡ freshCode n) × (freshCode n ≡ 0 → contentOf (r .session) ≡ freshContent n)
 unfolding freshBy
 fresh-step n r h =
     (h .0, λ a. ap contentOf (h .1) ∙ ap (λ (c : ℕ). contentOf (sessionOf (freshBy c n))) a ∙ content-back (freshContent n) (omega arith))
 
 -- ---- tokens
 
-pub write-token-step : (s : Session) (row : List ℕ) (r : Written) (row′ : List ℕ) → WriteTokenPromise s row (replyOf r) row′
-    → (replyOf r .code ≡ writeTokenCode (contentOf s) (length row))
+pub write-token-step : (s : Session) (row : List ℕ) (r : Reply) (row′ : List ℕ) → WriteTokenPromise s row r row′
+    → (r .code ≡ writeTokenCode (contentOf s) (length row))
     × (row′ ≡ writeTokenRow (contentOf s) row)
     × (writeTokenCode (contentOf s) (length row) ≡ 0
-    → (replyOf r .words ≡ length (tokenWords (contentOf s))) × (row′ ≡ laid (onWords .token-of (contentOf s)) row))
+    → (r .words ≡ length (tokenWords (contentOf s))) × (row′ ≡ laid (onWords .token-of (contentOf s)) row))
 unfolding onWords writeToken writeTokenRow replied laidIf
 write-token-step s row r row′ h = (
   ap (λ (x : Reply). x .code) (h .0) ∙ code (writeTokenCode (contentOf s) (length row)),
@@ -227,8 +220,8 @@ token-few words n p a =
     let c = check-none (acceptsToken n p words) 9 _ (omega arith) (b .1) in
     session-facts n p (contentFrom words) (token-sound n p words (c .0)) .few
 
-pub read-token-step : (words : List ℕ) (n p : ℕ) (r : TokenRead) → ReadTokenPromise words n p (codeOf (r .status)) (r .session)
-    → (codeOf (r .status) ≡ onWords .token-code n p words)
+pub read-token-step : (words : List ℕ) (n p : ℕ) (r : SessionAnswer) → ReadTokenPromise words n p (r .code) (r .session)
+    → (r .code ≡ onWords .token-code n p words)
     × (onWords .token-code n p words ≡ 0 → contentOf (r .session) ≡ onWords .token-read words)
 unfolding onWords readToken contentIf
 read-token-step words n p r h =

@@ -8,11 +8,10 @@ use native.Mathlib.Omega.{arith}
 use lib.Dec.{eqb}
 use lib.ListN.{length, length-append, length-replicate, length-set, replicate, set}
 use Rattle.frame.specs.Entries.{blankEntry}
-use Rattle.frame.specs.Refusals.{codeOf, replyOf}
+use Rattle.frame.specs.Refusals.{Reply}
 use Rattle.frame.specs.Sessions.{Content, contentOf, filled, freshContent, sessionOf}
 use Rattle.frame.specs.TokenCalls.{contentIf, readToken, readTokenCode}
 use Rattle.frame.specs.Tokens.{contentFrom}
-use Rattle.frame.specs.declared.refusal.Written.{Written}
 use Rattle.frame.specs.declared.session.Session.{Session}
 use Rattle.store.specs.Offices.{Found, None, Office, Some, current, officeOf, reveal}
 use Rattle.office.specs.Answers.{extendedBy, freshBy, notedAllIn, notedIn, readJointSession, readPlotSession, sessionIf, writeSession}
@@ -117,7 +116,7 @@ module _ (n : ℕ) (σ : Ring) (z : Sized σ) where
   begins-sized s past h zero = more-sized _ h
   begins-sized s past h (suc c) = z
 
-  token-sized : (s : Carried) (r : Written) (row′ : List ℕ) (c : ℕ) → Sized (tokenWritten σ s r row′ c)
+  token-sized : (s : Carried) (r : Reply) (row′ : List ℕ) (c : ℕ) → Sized (tokenWritten σ s r row′ c)
   token-sized s r row′ zero = z
   token-sized s r row′ (suc c) = z
 
@@ -128,18 +127,18 @@ module _ (n : ℕ) (σ : Ring) (z : Sized σ) where
   step-sized (absent c a) = z
   step-sized (writes o i plot value row s r ws′ row′ lt e h) =
       write-sized o i s (wroteSaid r ws′ row′) (own-is (r .session) _ (h .1) (sized-write (σ .stores o) (s .session) plot value row (sized-at i s e)))
-      (replyOf (r .written) .code)
+      (r .reply .code)
   step-sized (reads o i plot s r ws′ lt e h) =
       read-sized o i s (plot ∷ []) (readSaid r ws′) (own-is (r .session) _ (h .3) (sized-read (σ .stores o) (s .session) plot (sized-at i s e)))
-      (codeOf (r .status))
+      (r .code)
   step-sized (reads-jointly o i plots row s r ws′ row′ lt e h) =
       read-sized o i s plots (jointSaid (σ .log) plots r ws′ row′)
-      (own-is (r .session) _ (h .1) (sized-joint (σ .stores o) (s .session) plots row (sized-at i s e))) (codeOf (r .status))
-  step-sized (receives o row f rest r ws′ row′ lt e h) = receive-sized o rest (receivedSaid r ws′ row′) (replyOf r .code)
-  step-sized (receives-words o words row r ws′ row′ lt h) = words-sized o (receivedSaid r ws′ row′) (eqb (replyOf r .code) 9)
-  step-sized (begins-fresh m r h) = begins-sized (r .session) [] (own-is (r .session) _ (h .1) (sized-fresh m)) (codeOf (r .status))
-  step-sized (writes-token i row s r row′ e h) = token-sized s r row′ (replyOf r .code)
+      (own-is (r .session) _ (h .1) (sized-joint (σ .stores o) (s .session) plots row (sized-at i s e))) (r .code)
+  step-sized (receives o row f rest r ws′ row′ lt e h) = receive-sized o rest (receivedSaid r ws′ row′) (r .code)
+  step-sized (receives-words o words row r ws′ row′ lt h) = words-sized o (receivedSaid r ws′ row′) (eqb (r .code) 9)
+  step-sized (begins-fresh m r h) = begins-sized (r .session) [] (own-is (r .session) _ (h .1) (sized-fresh m)) (r .code)
+  step-sized (writes-token i row s r row′ e h) = token-sized s r row′ (r .code)
   step-sized (reads-token t m p x r e h) =
-      begins-sized (r .session) (x .past) (own-is (r .session) _ (h .1) (sized-token (x .token) m p)) (codeOf (r .status))
+      begins-sized (r .session) (x .past) (own-is (r .session) _ (h .1) (sized-token (x .token) m p)) (r .code)
   step-sized (copies-session i s e) = more-sized s (sized-at i s e)
   step-sized (copies-token t x e) = z

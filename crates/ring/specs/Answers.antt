@@ -7,15 +7,11 @@ use lib.Dec.{eqb}
 use lib.ListN.{drop, getD, length, take}
 use Rattle.frame.specs.Entries.{blankEntry, nameOf}
 use Rattle.frame.specs.Frames.{countIn, officesIn}
-use Rattle.frame.specs.Refusals.{codeOf, replyOf}
+use Rattle.frame.specs.Refusals.{Reply}
 use Rattle.frame.specs.Sessions.{contentOf, freshContent, sessionOf}
 use Rattle.frame.specs.declared.entry.Entry.{Entry}
-use Rattle.frame.specs.declared.refusal.Written.{Written}
 use Rattle.frame.specs.declared.session.Session.{Session}
 use Rattle.store.specs.Offices.{Found, None, Some}
-use Rattle.office.specs.declared.joint.JointRead.{JointRead}
-use Rattle.office.specs.declared.read.PlotRead.{PlotRead}
-use Rattle.office.specs.declared.write.Wrote.{Wrote}
 use Rattle.ring.specs.Run.{Made, SaidAs, State, StateAs, Tracked, TrackedAs, tokenLeft}
 
 -- ---- what crosses
@@ -33,7 +29,7 @@ Said = SaidAs Session (List ℕ) (List ℕ)
 abbrev pub ownOf : Session → List Entry
 ownOf s = contentOf s .own
 
--- what it says: of each session its content (the slots beyond its count mean nothing, whatever a call leaves there)
+-- what it says: of each session its content (the slots beyond its count mean nothing: a promise fixes them too, and the run does not look)
 abbrev pub contentIn : Carried → Tracked
 contentIn s = record { session = contentOf (s .session); past = s .past }
 
@@ -47,6 +43,22 @@ shown σ =
       log = σ .log;
       events = σ .events;
     }
+
+-- what a call answers, as its promise speaks of it: by value, lent or as C has it, the same numbers, entry and session. A call that hands back words
+-- alone answers a `Reply`
+pub record WriteAnswer : Type 0 where
+  pub reply : Reply
+  pub session : Session
+
+pub record ReadAnswer : Type 0 where
+  pub code : ℕ
+  pub found : Bool
+  pub entry : Entry
+  pub session : Session
+
+pub record SessionAnswer : Type 0 where
+  pub code : ℕ
+  pub session : Session
 
 -- ---- what is read off an answer
 
@@ -89,36 +101,36 @@ unfoldable pub jointBack : ℕ → List Made → List ℕ → List ℕ → List 
 jointBack zero log plots row = foundIn log plots row
 jointBack (suc c) log plots row = []
 
-abbrev pub wroteSaid : Wrote → List ℕ → List ℕ → Said
+abbrev pub wroteSaid : WriteAnswer → List ℕ → List ℕ → Said
 wroteSaid r ws′ row′ =
     record {
-      code = replyOf (r .written) .code;
-      count = replyOf (r .written) .words;
+      code = r .reply .code;
+      count = r .reply .words;
       found = [];
       store = ws′;
       session = r .session;
       row = row′;
-      sent = framesIn (take (replyOf (r .written) .words) row′);
+      sent = framesIn (take (r .reply .words) row′);
     }
 
-abbrev pub readSaid : PlotRead → List ℕ → Said
+abbrev pub readSaid : ReadAnswer → List ℕ → Said
 readSaid r ws′ =
     record {
-      code = codeOf (r .status);
+      code = r .code;
       count = 0;
-      found = handedBack (codeOf (r .status)) (r .found) (r .entry);
+      found = handedBack (r .code) (r .found) (r .entry);
       store = ws′;
       session = r .session;
       row = [];
       sent = [];
     }
 
-abbrev pub jointSaid : List Made → List ℕ → JointRead → List ℕ → List ℕ → Said
+abbrev pub jointSaid : List Made → List ℕ → SessionAnswer → List ℕ → List ℕ → Said
 jointSaid log plots r ws′ row′ =
     record {
-      code = codeOf (r .status);
+      code = r .code;
       count = 0;
-      found = jointBack (codeOf (r .status)) log plots row′;
+      found = jointBack (r .code) log plots row′;
       store = ws′;
       session = r .session;
       row = row′;
@@ -126,18 +138,18 @@ jointSaid log plots r ws′ row′ =
     }
 
 -- a receive has no session: that field is a fixed blank
-abbrev pub receivedSaid : Written → List ℕ → List ℕ → Said
+abbrev pub receivedSaid : Reply → List ℕ → List ℕ → Said
 receivedSaid r ws′ row′ =
     record {
-      code = replyOf r .code;
-      count = replyOf r .words;
+      code = r .code;
+      count = r .words;
       found = [];
       store = ws′;
       session = sessionOf (freshContent 0);
       row = row′;
-      sent = framesIn (take (replyOf r .words) row′);
+      sent = framesIn (take (r .words) row′);
     }
 
 -- a token is the words written in front of the row
-abbrev pub tokenWritten : Ring → Carried → Written → List ℕ → ℕ → Ring
-tokenWritten σ s r row′ c = tokenLeft σ (take (replyOf r .words) row′) (s .past) (replyOf r .words) row′ c
+abbrev pub tokenWritten : Ring → Carried → Reply → List ℕ → ℕ → Ring
+tokenWritten σ s r row′ c = tokenLeft σ (take (r .words) row′) (s .past) (r .words) row′ c

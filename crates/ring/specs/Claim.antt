@@ -11,19 +11,12 @@ use mathlib.Core.Path.{_≡_}
 use lib.Dec.{eqb, ltb}
 use lib.ListN.{length}
 use Rattle.frame.specs.Promises.{ReadTokenPromise, WriteTokenPromise}
-use Rattle.frame.specs.Refusals.{codeOf, replyOf}
-use Rattle.frame.specs.declared.refusal.Status.{Status}
-use Rattle.frame.specs.declared.refusal.Written.{Written}
-use Rattle.frame.specs.declared.token.TokenRead.{TokenRead}
+use Rattle.frame.specs.Refusals.{Reply}
 use Rattle.store.specs.Offices.{need}
 use Rattle.office.specs.Promises.{FreshPromise, JointPromise, OpenPromise, ReadPromise, ReceivePromise, WritePromise}
-use Rattle.office.specs.declared.joint.JointRead.{JointRead}
-use Rattle.office.specs.declared.open.Fresh.{Fresh}
-use Rattle.office.specs.declared.read.PlotRead.{PlotRead}
-use Rattle.office.specs.declared.write.Wrote.{Wrote}
 use Rattle.ring.specs.Holds.{Holds}
 use Rattle.ring.specs.Run.{Call, TrackedToken, at, begins, contentsRun, copy-session, copy-token, fresh, joint, readLeft, reading, receiveLeft, receiving, receiving-words, token-reading, token-writing, turned, withSession, withToken, wordsRun, writeLeft, writing}
-use Rattle.ring.specs.Answers.{Carried, Ring, jointSaid, ownOf, readSaid, receivedSaid, shown, tokenWritten, wroteSaid}
+use Rattle.ring.specs.Answers.{ReadAnswer, SessionAnswer, WriteAnswer, Carried, Ring, jointSaid, ownOf, readSaid, receivedSaid, shown, tokenWritten, wroteSaid}
 
 -- ---- one call
 
@@ -46,29 +39,30 @@ Absent n σ (copy-token t) = at (σ .tokens) t ≡ []
 -- says
 pub data Step (n : ℕ) (σ : Ring) : Call → Ring → Type 0 where
   absent : (c : Call) → Absent n σ c → Step n σ c σ
-  writes : (o i plot value : ℕ) (row : List ℕ) (s : Carried) (r : Wrote) (ws′ row′ : List ℕ) → o < n → at (σ .sessions) i ≡ s ∷ []
-      → WritePromise (σ .stores o) (s .session) plot value row (replyOf (r .written)) (r .session) ws′ row′
-      → Step n σ (writing o i plot value row) (writeLeft ownOf n σ o i s (wroteSaid r ws′ row′) (replyOf (r .written) .code))
-  reads : (o i plot : ℕ) (s : Carried) (r : PlotRead) (ws′ : List ℕ) → o < n → at (σ .sessions) i ≡ s ∷ []
-      → ReadPromise (σ .stores o) (s .session) plot (codeOf (r .status)) (r .found) (r .entry) (r .session) ws′
-      → Step n σ (reading o i plot) (readLeft σ o i s (plot ∷ []) (readSaid r ws′) (codeOf (r .status)))
-  -- its row has the name of an entry, not the entry: that is looked up in the log, where each name is once (`Holds`, distinct)
-  reads-jointly : (o i : ℕ) (plots row : List ℕ) (s : Carried) (r : JointRead) (ws′ row′ : List ℕ) → o < n → at (σ .sessions) i ≡ s ∷ []
-      → JointPromise (σ .stores o) (s .session) plots row (codeOf (r .status)) (r .session) ws′ row′
-      → Step n σ (joint o i plots row) (readLeft σ o i s plots (jointSaid (σ .log) plots r ws′ row′) (codeOf (r .status)))
+  writes : (o i plot value : ℕ) (row : List ℕ) (s : Carried) (r : WriteAnswer) (ws′ row′ : List ℕ) → o < n → at (σ .sessions) i ≡ s ∷ []
+      → WritePromise (σ .stores o) (s .session) plot value row (r .reply) (r .session) ws′ row′
+      → Step n σ (writing o i plot value row) (writeLeft ownOf n σ o i s (wroteSaid r ws′ row′) (r .reply .code))
+  reads : (o i plot : ℕ) (s : Carried) (r : ReadAnswer) (ws′ : List ℕ) → o < n → at (σ .sessions) i ≡ s ∷ []
+      → ReadPromise (σ .stores o) (s .session) plot (r .code) (r .found) (r .entry) (r .session) ws′
+      → Step n σ (reading o i plot) (readLeft σ o i s (plot ∷ []) (readSaid r ws′) (r .code))
+  -- its row has the name of an entry, not the entry: that is looked up in the log, where each id is once (`Holds`, distinct), and so each name of a
+  -- serial from 1 to 32
+  reads-jointly : (o i : ℕ) (plots row : List ℕ) (s : Carried) (r : SessionAnswer) (ws′ row′ : List ℕ) → o < n → at (σ .sessions) i ≡ s ∷ []
+      → JointPromise (σ .stores o) (s .session) plots row (r .code) (r .session) ws′ row′
+      → Step n σ (joint o i plots row) (readLeft σ o i s plots (jointSaid (σ .log) plots r ws′ row′) (r .code))
   -- "a hearing gets, unaltered, the oldest one that its office hasn't heard from its predecessor"; refused, it stays the oldest
-  receives : (o : ℕ) (row f : List ℕ) (rest : List (List ℕ)) (r : Written) (ws′ row′ : List ℕ) → o < n → σ .lines o ≡ f ∷ rest
-      → ReceivePromise (σ .stores o) f row (replyOf r) ws′ row′ → Step n σ (receiving o row) (receiveLeft n σ o rest (receivedSaid r ws′ row′) (replyOf r .code))
+  receives : (o : ℕ) (row f : List ℕ) (rest : List (List ℕ)) (r : Reply) (ws′ row′ : List ℕ) → o < n → σ .lines o ≡ f ∷ rest
+      → ReceivePromise (σ .stores o) f row r ws′ row′ → Step n σ (receiving o row) (receiveLeft n σ o rest (receivedSaid r ws′ row′) (r .code))
   -- "or else words that it refuses with 9", whether or not a frame waits: other words are no call of a run
-  receives-words : (o : ℕ) (words row : List ℕ) (r : Written) (ws′ row′ : List ℕ) → o < n → ReceivePromise (σ .stores o) words row (replyOf r) ws′ row′
-      → Step n σ (receiving-words o words row) (cond (eqb (replyOf r .code) 9) (turned σ o (receivedSaid r ws′ row′)) σ)
+  receives-words : (o : ℕ) (words row : List ℕ) (r : Reply) (ws′ row′ : List ℕ) → o < n → ReceivePromise (σ .stores o) words row r ws′ row′
+      → Step n σ (receiving-words o words row) (cond (eqb (r .code) 9) (turned σ o (receivedSaid r ws′ row′)) σ)
   -- of any ring size: one that the ring does not have makes a session that its offices refuse
-  begins-fresh : (m : ℕ) (r : Fresh) → FreshPromise m (codeOf (r .status)) (r .session) → Step n σ (fresh m) (begins σ (r .session) [] (codeOf (r .status)))
-  writes-token : (i : ℕ) (row : List ℕ) (s : Carried) (r : Written) (row′ : List ℕ) → at (σ .sessions) i ≡ s ∷ []
-      → WriteTokenPromise (s .session) row (replyOf r) row′ → Step n σ (token-writing i row) (tokenWritten σ s r row′ (replyOf r .code))
+  begins-fresh : (m : ℕ) (r : SessionAnswer) → FreshPromise m (r .code) (r .session) → Step n σ (fresh m) (begins σ (r .session) [] (r .code))
+  writes-token : (i : ℕ) (row : List ℕ) (s : Carried) (r : Reply) (row′ : List ℕ) → at (σ .sessions) i ≡ s ∷ []
+      → WriteTokenPromise (s .session) row r row′ → Step n σ (token-writing i row) (tokenWritten σ s r row′ (r .code))
   -- with any ring size and plots, of the words that were written as that token
-  reads-token : (t m p : ℕ) (x : TrackedToken (List ℕ)) (r : TokenRead) → at (σ .tokens) t ≡ x ∷ [] → ReadTokenPromise (x .token) m p (codeOf (r .status)) (r .session)
-      → Step n σ (token-reading t m p) (begins σ (r .session) (x .past) (codeOf (r .status)))
+  reads-token : (t m p : ℕ) (x : TrackedToken (List ℕ)) (r : SessionAnswer) → at (σ .tokens) t ≡ x ∷ [] → ReadTokenPromise (x .token) m p (r .code) (r .session)
+      → Step n σ (token-reading t m p) (begins σ (r .session) (x .past) (r .code))
   copies-session : (i : ℕ) (s : Carried) → at (σ .sessions) i ≡ s ∷ [] → Step n σ (copy-session i) (withSession σ s)
   copies-token : (t : ℕ) (x : TrackedToken (List ℕ)) → at (σ .tokens) t ≡ x ∷ [] → Step n σ (copy-token t) (withToken σ x)
 
@@ -80,7 +74,7 @@ pub data Runs (n : ℕ) : Ring → List Call → Ring → Type 0 where
 
 -- each office of the ring was opened over its row, and accepted; ws o is the store that the opening left
 abbrev pub Opened : ℕ → ℕ → (ℕ → List ℕ) → (ℕ → List ℕ) → Type 0
-Opened n p rows ws = (o : ℕ) → o < n → (r : Status) × (codeOf r ≡ 0) × OpenPromise n o p (rows o) (codeOf r) (ws o)
+Opened n p rows ws = (o : ℕ) → o < n → OpenPromise n o p (rows o) 0 (ws o)
 
 -- "every office of one ring freshly opened and no errand, slip or frame about" (a number that no office has keeps its row)
 abbrev pub begun : ℕ → (ℕ → List ℕ) → (ℕ → List ℕ) → Ring

@@ -1,12 +1,12 @@
--- THE THIRD DEMAND, as one statement: code → contract → promise → run → Holds. Its one theorem is `third-demand`, proofs/Demand.antt; take a
--- link away, and there is none.
+-- THE THIRD DEMAND, as one statement: code → contract → promise → run → Holds. Its one theorem is `third-demand`, proofs/Demand.antt. The links meet
+-- in the promises, which contracts and claim cite by name.
 --   code → contract → promise   `frame`, `office`, `lent`, `host`: the code of each call, lent call and export meets its contract; that asks for
 --                               nothing, and ensures the promise (frame/specs/Promises.antt, office/specs/Promises.antt; the links are in
 --                               Contract.antt, in the proofs of each of these crates)
 --   promise → run               `claim`, `answered`: whatever the answers, if they keep the promises, a list of calls leads to its run; and
 --                               every list of calls has such answers (specs/Claim.antt; what is read off an answer: specs/Answers.antt)
---   run → Holds                 `opens`, `demand3`: the openings are accepted, and every run keeps what paper 01 asks of it (specs/Run.antt,
---                               specs/Holds.antt)
+--   run → Holds                 in `claim` too; given apart, since the program stands on them: `opens`, `demand3`: openings in range are accepted, and
+--                               every run keeps what paper 01 asks of it (specs/Run.antt, specs/Holds.antt)
 -- Assumes nothing.
 use base.Logic.{SProp}
 use contract.Monad.{Fun}

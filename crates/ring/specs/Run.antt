@@ -1,4 +1,4 @@
--- Runs of calls. `step` uses an office only through the calls that it is given: with the calls on words it is the run of paper 01,
+-- Runs of calls. `step` uses an office's store only through the calls that it is given: with the calls on words it is the run of paper 01,
 -- "Runs"; with the same calls on contents (no words in stores, lines and tokens) it is the protocol by its rules alone. Assumes nothing.
 use Prim.Native.Nat.{ℕ, suc, zero}
 use mathlib.Core.Bool.{cond}
