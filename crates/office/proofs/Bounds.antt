@@ -2,7 +2,7 @@
 -- nothing.
 use Prim.Native.Nat.{ℕ, _+_}
 use mathlib.Core.Bool.{true}
-use mathlib.Core.List.{[], _∷_}
+use mathlib.Core.List.{List, [], _∷_}
 use mathlib.Core.Path.{_≡_, refl}
 use lib.Count.{trailingZeros}
 use lib.ListN.{replicate}
@@ -15,13 +15,13 @@ use Rattle.causal.specs.Tests.{allBelow, both, either, implies}
 use Rattle.frame.specs.Calls.{laid}
 use Rattle.frame.specs.Entries.{boundsOk, clockOk, clockPlaceOk, entryOk, idsOk, idsPlaceOk, outranks, sameContent}
 use Rattle.frame.specs.Frames.{accepts, bodyWords, frameOf, frameOk, frameWords, framed, ringOk}
-use Rattle.frame.specs.Sessions.{freshContent, idsOf, ownOk, sessionOk}
+use Rattle.frame.specs.Sessions.{Content, freshContent, idsOf, ownOk, sessionOk}
 use Rattle.frame.specs.Tokens.{rowsOf}
 use Rattle.frame.specs.Words.{clockFrom, clockWords, idWordIf, idWords, idWordsTo, idsFrom, summed, total}
 use Rattle.frame.specs.declared.entry.Entry.{Entry}
 use Rattle.frame.proofs.Bounds.{carrying, loaded}
 use Rattle.frame.proofs.Cases.{entryA}
-use Rattle.store.specs.Offices.{Office, Some, bestOwn, bestTo, better, clockOf, consider, current, gapless, heldOk, hold, made, maxTo, reveal, settingsOk, soundOffice}
+use Rattle.store.specs.Offices.{Office, Some, bestOwn, bestTo, better, clockOf, consider, current, emptyOffice, gapless, heldOk, hold, made, maxTo, reveal, settingsOk, soundOffice}
 use Rattle.store.specs.Reveal.{revealed, steps}
 use Rattle.office.specs.Calls.{allNoneOver, answerWords, entryCode, handed, holdAll, holdNew, jointCode, jointOn, missing, newEntry, noneOver, noted, notedAll, openOffice, ownCode, plotsOk, readCode, readOn, receiveCode, receiveOn, receiveSends, receivedBy, sentOf, storeNeed, threeWords, writeCode, writeOn, wroteSession}
 use Rattle.office.proofs.Cases.{before, gotA}
@@ -73,6 +73,14 @@ higherThanA = record { office = 0; serial = 2; plot = 5; value = 1; clock = 2 �
 abbrev lowerThanA : Entry
 lowerThanA = record { office = 1; serial = 1; plot = 5; value = 1; clock = 0 ∷ 1 ∷ 0 ∷ 0 ∷ 0 ∷ 0 ∷ 0 ∷ 0 ∷ []; deps = zeros }
 
+-- an office of 6 plots
+abbrev six : Office
+six = emptyOffice 3 2 6
+
+-- a session with a clock and read names, that carries nothing
+abbrev having : List ℕ → List ℕ → Content
+having clock read = record { offices = 3; clock = clock; read = read; own = [] }
+
 pub record Openings : Type 0 where
   -- ring of 2 to 8, 1 to 64 plots, own number below the ring size, a store of the need
   pub ring-1 : openOffice 1 0 64 (replicate 4627 0) .0 ≡ 1
@@ -90,6 +98,8 @@ pub record Openings : Type 0 where
   pub need-2 : storeNeed 2 1 64 ≡ (0, 1171)
   pub need-8 : storeNeed 8 7 64 ≡ (0, 4627)
   pub need-own-over : storeNeed 8 8 64 ≡ (1, 0)
+  pub need-plots-0 : storeNeed 3 2 0 ≡ (1, 0)
+  pub need-plots-65 : storeNeed 3 2 65 ≡ (1, 0)
 
 pub record Limits : Type 0 where
   -- plots 0 to 63 of 64
@@ -116,6 +126,24 @@ pub record Limits : Type 0 where
   pub onward-short : receiveOn before (framed 3 1 entryA) (replicate 6 0) .code ≡ 8
   pub last-needs-none : receiveOn before (framed 3 0 entryA) [] .code ≡ 0
 
+-- the plots are the office's own, not 64
+pub record SixPlots : Type 0 where
+  pub read-5 : readOn six (freshContent 3) 5 .code ≡ 0
+  pub read-6 : readOn six (freshContent 3) 6 .code ≡ 4
+  pub joint-5 : jointOn six (freshContent 3) (5 ∷ []) (replicate 3 0) .code ≡ 0
+  pub joint-6 : jointOn six (freshContent 3) (6 ∷ []) (replicate 3 0) .code ≡ 4
+  pub write-5 : writeOn six (freshContent 3) 5 1 (replicate 7 0) .code ≡ 0
+  pub write-6 : writeOn six (freshContent 3) 6 1 (replicate 7 0) .code ≡ 4
+  pub carries-5 : readOn six (carrying (entryA ∷ [])) 5 .code ≡ 0
+  pub carries-6 : readOn six (carrying (otherPlot ∷ [])) 5 .code ≡ 3
+
+-- 3: "names, clocks and plots are in range for that ring"
+pub record Unsound : Type 0 where
+  pub clock-32 : readOn before (having (32 ∷ 0 ∷ 0 ∷ 0 ∷ 0 ∷ 0 ∷ 0 ∷ 0 ∷ []) zeros) 5 .code ≡ 0
+  pub clock-33 : readOn before (having (33 ∷ 0 ∷ 0 ∷ 0 ∷ 0 ∷ 0 ∷ 0 ∷ 0 ∷ []) zeros) 5 .code ≡ 3
+  pub clock-unused : readOn before (having (0 ∷ 0 ∷ 0 ∷ 1 ∷ 0 ∷ 0 ∷ 0 ∷ 0 ∷ []) zeros) 5 .code ≡ 3
+  pub read-stranger : readOn before (having zeros (0 ∷ 0 ∷ 0 ∷ 1 ∷ 0 ∷ 0 ∷ 0 ∷ 0 ∷ [])) 5 .code ≡ 3
+
 pub record Sides : Type 0 where
   -- 11: "it is held with other content", whichever part; and not with the same
   pub same-again : receiveOn (gotA 1) (framed 3 0 entryA) [] .code ≡ 0
@@ -140,6 +168,8 @@ pub record Sides : Type 0 where
 pub record Bounds : Type 0 where
   pub opening : Openings
   pub limits : Limits
+  pub six-plots : SixPlots
+  pub unsound : Unsound
   pub sides : Sides
 
 pub bounds : Bounds
@@ -163,6 +193,8 @@ bounds =
             need-2 = refl;
             need-8 = refl;
             need-own-over = refl;
+            need-plots-0 = refl;
+            need-plots-65 = refl;
           };
       limits =
           record {
@@ -183,6 +215,24 @@ bounds =
             onward-fits = refl;
             onward-short = refl;
             last-needs-none = refl;
+          };
+      six-plots =
+          record {
+            read-5 = refl;
+            read-6 = refl;
+            joint-5 = refl;
+            joint-6 = refl;
+            write-5 = refl;
+            write-6 = refl;
+            carries-5 = refl;
+            carries-6 = refl;
+          };
+      unsound =
+          record {
+            clock-32 = refl;
+            clock-33 = refl;
+            clock-unused = refl;
+            read-stranger = refl;
           };
       sides =
           record {

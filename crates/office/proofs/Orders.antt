@@ -23,12 +23,16 @@ use Rattle.frame.proofs.Cases.{entryA, entryB}
 use Rattle.store.specs.Offices.{bestOwn, bestTo, better, clockOf, consider, current, entryAt, gapless, heldOk, hold, made, maxTo, officeOf, reveal, settingsOk, slotWords, slotsTo, soundOffice, soundStore, storeWords}
 use Rattle.store.specs.Reveal.{revealed, steps}
 use Rattle.office.specs.Calls.{Result, allNoneOver, answerWords, entryCode, handed, holdAll, holdNew, jointCode, jointOn, missing, newEntry, noneOver, noted, notedAll, openOffice, ownCode, plotsOk, readCode, readJoint, readOn, readPlot, receive, receiveCode, receiveOn, receiveSends, receivedBy, sentOf, threeWords, write, writeCode, writeOn, wroteSession}
-use Rattle.office.proofs.Bounds.{made32, otherDeps, otherValue}
+use Rattle.office.proofs.Bounds.{made32, otherDeps, otherPlot, otherValue}
 use Rattle.office.proofs.Cases.{before, gotA, gotB, readB}
 
 -- the store of `before`, office 2 of a ring of three, and of the same with A held
 abbrev opened : List ℕ
 opened = openOffice 3 2 64 (replicate 1747 0) .1
+
+-- the same with 6 plots
+abbrev opened6 : List ℕ
+opened6 = openOffice 3 2 6 (replicate 1747 0) .1
 
 abbrev storedA : List ℕ
 storedA = storeWords opened (gotA 1)
@@ -100,6 +104,11 @@ pub record Receiving : Type 0 where
       (receive opened (frameWords (framed 3 1 (unmade zeros))) row) ≡ 9 ∷ 10 ∷ []
   pub order-9-11 : codes (receive storedA (frameWords (framed 3 1 otherValue) ++ (0 ∷ [])) row)
       (receive storedA (frameWords (framed 3 1 otherValue)) row) ≡ 9 ∷ 11 ∷ []
+  -- "9: not a frame for this ring and plots": of another ring size, with too many still to hear, with a wrong check, on a plot too high
+  pub other-ring : receive opened (frameWords (framed 4 1 entryA)) row .code ≡ 9
+  pub hops-over : receive opened (frameWords (framed 3 2 entryA)) row .code ≡ 9
+  pub wrong-check : receive opened (0x10011300 ∷ 0x30000005 ∷ 0x400002C5 ∷ 0x50000001 ∷ 0x50000000 ∷ 0x50000000 ∷ 0xF00115CA ∷ []) row .code ≡ 9
+  pub six-plots : codes (receive opened6 (frameWords (framed 3 1 otherPlot)) row) (receive opened6 (frameWords (framed 3 1 entryA)) row) ≡ 9 ∷ 0 ∷ []
   -- 10 and 11 exclude each other, as above
   pub order-10-12 : codes (receiveOn before (framed 3 1 (unmade (1 ∷ 0 ∷ 0 ∷ 0 ∷ 0 ∷ 0 ∷ 0 ∷ 0 ∷ []))) row)
       (receiveOn before (framed 3 1 entryB) row) ≡ 10 ∷ 12 ∷ []
@@ -158,6 +167,10 @@ orders =
             order-2-9 = refl;
             order-9-10 = refl;
             order-9-11 = refl;
+            other-ring = refl;
+            hops-over = refl;
+            wrong-check = refl;
+            six-plots = refl;
             order-10-12 = refl;
             order-11-12 = refl;
             order-12-8 = refl;

@@ -2,7 +2,7 @@
 -- the value of [2,1]. Here one entry is kept whole." Assumes nothing.
 use Prim.Native.Nat.{ℕ}
 use mathlib.Core.Bool.{true}
-use mathlib.Core.List.{[], _∷_}
+use mathlib.Core.List.{List, [], _∷_}
 use mathlib.Core.Path.{_≡_, refl}
 use lib.Count.{trailingZeros}
 use Rattle.causal.specs.Clocks.{join}
@@ -41,6 +41,14 @@ hears O e = receiveOn O (framed 3 0 e) [] .store
 abbrev pub hearer : Office
 hearer = emptyOffice 3 2 64
 
+-- the refusal codes of three hearings, one after another
+abbrev pub codesOf : Entry → Entry → Entry → List ℕ
+codesOf a b c =
+    receiveOn hearer (framed 3 0 a) [] .code
+    ∷ receiveOn (hears hearer a) (framed 3 0 b) [] .code
+    ∷ receiveOn (hears (hears hearer a) b) (framed 3 0 c) [] .code
+    ∷ []
+
 abbrev pub one-order : Office
 one-order = hears (hears (hears hearer clock-2-0) clock-0-3) clock-2-1
 
@@ -52,6 +60,9 @@ pub record Three : Type 0 where
   pub keeps-2-0 : entryOk 3 64 clock-2-0 ≡ true
   pub keeps-0-3 : entryOk 3 64 clock-0-3 ≡ true
   pub keeps-2-1 : entryOk 3 64 clock-2-1 ≡ true
+  -- none of the hearings is refused
+  pub one-heard : codesOf clock-2-0 clock-0-3 clock-2-1 ≡ 0 ∷ 0 ∷ 0 ∷ []
+  pub other-heard : codesOf clock-2-0 clock-2-1 clock-0-3 ≡ 0 ∷ 0 ∷ 0 ∷ []
   -- met in either order, the same one is kept, whole
   pub kept-one : current one-order 7 ≡ Some clock-2-1
   pub kept-other : current other-order 7 ≡ Some clock-2-1
@@ -65,6 +76,8 @@ three-clocks =
       keeps-2-0 = refl;
       keeps-0-3 = refl;
       keeps-2-1 = refl;
+      one-heard = refl;
+      other-heard = refl;
       kept-one = refl;
       kept-other = refl;
       sound-one = refl;

@@ -10,7 +10,7 @@ use Rattle.frame.specs.Entries.{entryOk}
 use Rattle.frame.specs.Frames.{accepts, frameOf, frameWords, framed}
 use Rattle.frame.proofs.Cases.{cases, entryA, entryB, rowA, rowB}
 use Rattle.store.specs.Offices.{Some, current}
-use Rattle.office.proofs.Three.{clock-0-3, clock-2-0, clock-2-1, hearer, hears, three-clocks}
+use Rattle.office.proofs.Three.{clock-0-3, clock-2-0, clock-2-1, codesOf, hearer, hears, three-clocks}
 use Rattle.script.specs.Fields.{allDigits, fields, inFront, isBelow, isDigit, proper, valueOf}
 use Rattle.script.specs.Lines.{lineIn, lineOf}
 use Rattle.script.specs.Replies.{decimal, digitsIn, nameBytes, numbered, replyBytes}
@@ -62,6 +62,8 @@ pub record Table : Type 0 where
   pub entry-2-0 : entryOk 3 64 clock-2-0 ≡ true
   pub entry-0-3 : entryOk 3 64 clock-0-3 ≡ true
   pub entry-2-1 : entryOk 3 64 clock-2-1 ≡ true
+  pub one-heard : codesOf clock-2-0 clock-0-3 clock-2-1 ≡ 0 ∷ 0 ∷ 0 ∷ []
+  pub other-heard : codesOf clock-2-0 clock-2-1 clock-0-3 ≡ 0 ∷ 0 ∷ 0 ∷ []
   pub one-order : current (hears (hears (hears hearer clock-2-0) clock-0-3) clock-2-1) 7 ≡ Some clock-2-1
   pub other-order : current (hears (hears (hears hearer clock-2-0) clock-2-1) clock-0-3) 7 ≡ Some clock-2-1
 
@@ -105,6 +107,8 @@ table =
       entry-2-0 = three-clocks .keeps-2-0;
       entry-0-3 = three-clocks .keeps-0-3;
       entry-2-1 = three-clocks .keeps-2-1;
+      one-heard = three-clocks .one-heard;
+      other-heard = three-clocks .other-heard;
       one-order = three-clocks .kept-one;
       other-order = three-clocks .kept-other;
     }
