@@ -33,6 +33,10 @@ room = replicate 1747 0
 abbrev gapA : Entry
 gapA = record { office = 0; serial = 2; plot = 5; value = 709; clock = 2 ∷ 0 ∷ 0 ∷ 0 ∷ 0 ∷ 0 ∷ 0 ∷ 0 ∷ []; deps = zeros }
 
+-- an office with other sets: held h, visible v
+abbrev settled : List ℕ → List ℕ → Office
+settled h v = record { offices = 3; own = 2; plots = 64; held = h; visible = v; entry = held .entry }
+
 pub record Cases : Type 0 where
   -- an office that made nothing
   pub none-made : made empty ≡ 0
@@ -51,6 +55,15 @@ pub record Cases : Type 0 where
   pub sound-both : soundOffice held ≡ true
   pub unsound-dep : soundOffice (hold empty entryB) ≡ false
   pub unsound-gap : soundOffice (hold (emptyOffice 3 0 64) gapA) ≡ false
+  -- visible but not held; visible with a hidden dependency; held on a plot that the office has not
+  pub unsound-not-held : soundOffice (settled zeros (1 ∷ 0 ∷ 0 ∷ 0 ∷ 0 ∷ 0 ∷ 0 ∷ 0 ∷ [])) ≡ false
+  pub unsound-hidden-dep : soundOffice (settled (held .held) (0 ∷ 1 ∷ 0 ∷ 0 ∷ 0 ∷ 0 ∷ 0 ∷ 0 ∷ [])) ≡ false
+  pub sound-plot : soundOffice (hold (emptyOffice 3 2 6) entryA) ≡ true
+  pub unsound-plot : soundOffice (hold (emptyOffice 3 2 5) entryA) ≡ false
+  -- settings words out of range
+  pub unsound-ring-9 : soundStore (9 ∷ 2 ∷ 64 ∷ replicate 5200 0) ≡ false
+  pub unsound-own : soundStore (3 ∷ 3 ∷ 64 ∷ replicate 1744 0) ≡ false
+  pub unsound-plots-65 : soundStore (3 ∷ 2 ∷ 65 ∷ replicate 1744 0) ≡ false
   pub sound-words : soundStore (storeWords room visible) ≡ true
   pub short-words : soundStore (storeWords (take 1746 room) empty) ≡ false
   pub nine-offices : settingsOk 9 0 64 ≡ false
@@ -72,6 +85,13 @@ cases =
       sound-both = refl;
       unsound-dep = refl;
       unsound-gap = refl;
+      unsound-not-held = refl;
+      unsound-hidden-dep = refl;
+      sound-plot = refl;
+      unsound-plot = refl;
+      unsound-ring-9 = refl;
+      unsound-own = refl;
+      unsound-plots-65 = refl;
       sound-words = refl;
       short-words = refl;
       nine-offices = refl;
