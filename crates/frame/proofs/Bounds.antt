@@ -114,6 +114,7 @@ pub record Tokens : Type 0 where
   pub room : writeTokenCode (loaded 1) 12 ∷ writeTokenCode (loaded 1) 11 ∷ [] ≡ 0 ∷ 8 ∷ []
   pub order-3-8 : writeTokenCode (carrying (numbered 0 zeros ∷ [])) 0 ∷ writeTokenCode (loaded 1) 0 ∷ [] ≡ 3 ∷ 8 ∷ []
   pub order-3-8-ring : writeTokenCode (freshContent 9) 0 ∷ writeTokenCode (freshContent 8) 0 ∷ [] ≡ 3 ∷ 8 ∷ []
+  pub carries-16 : writeTokenCode (loaded 16) 117 ≡ 0
   pub carries-17 : writeTokenCode (loaded 17) 0 ≡ 3
 
 pub record Bounds : Type 0 where
@@ -196,6 +197,7 @@ bounds =
             room = refl;
             order-3-8 = refl;
             order-3-8-ring = refl;
+            carries-16 = refl;
             carries-17 = refl;
           };
     }

@@ -5,6 +5,8 @@ use mathlib.Core.Bool.{Bool, true}
 use mathlib.Core.List.{List, [], _∷_, List·Memᴰ, List·Memᴰ·head, List·Memᴰ·tail}
 use mathlib.Core.Path.{_≡_, refl, ap, _∙_}
 use native.Mathlib.Omega.{arith}
+use lib.ListN.{drop, length, take}
+use lib.Seq.{take-at}
 use Rattle.causal.specs.Codes.{check}
 use Rattle.causal.specs.Lists.{zeros}
 use Rattle.causal.specs.Sets.{inserted}
@@ -15,10 +17,10 @@ use Rattle.frame.specs.declared.entry.Entry.{Entry}
 use Rattle.frame.specs.declared.entry.Frame.{Frame}
 use Rattle.frame.specs.Entries.{entryOk, idOf}
 use Rattle.frame.specs.Frames.{ringOk, frameOk, frameOf, frameWords, accepts}
-use Rattle.frame.specs.Calls.{readFrameCode, readFrame, frameIf, writeFrameCode}
+use Rattle.frame.specs.Calls.{readFrameCode, readFrame, frameIf, laid, laidIf, writeFrameCode, writeFrameRow}
 use Rattle.frame.specs.Sessions.{Content, ownOk, sessionOk}
 use Rattle.frame.specs.Tokens.{tokenWords, contentFrom, acceptsToken}
-use Rattle.frame.specs.TokenCalls.{readTokenCode, readToken, contentIf, writeTokenCode}
+use Rattle.frame.specs.TokenCalls.{readTokenCode, readToken, contentIf, writeTokenCode, writeTokenRow}
 use Rattle.frame.proofs.Entries.{entry-facts, facts-entry, frame-facts, facts-frame, facts-ring, ring-facts}
 use Rattle.frame.proofs.Back.{frame-back, frame-accepted}
 use Rattle.frame.proofs.Sessions.{SaneEntry, SaneContent, session-facts, facts-session, own-facts, facts-own}
@@ -106,3 +108,17 @@ token-reads-back s room p sane w l m1 m =
   where
     back : contentFrom (tokenWords s) ≡ s → contentIf 0 (tokenWords s) ≡ s
     back h = h
+
+-- ---- in the row that the call leaves: it begins with these words
+
+front : (c : ℕ) (ws row : List ℕ) → c ≡ 0 → take (length ws) (laidIf c ws row) ≡ ws
+unfolding laidIf laid
+front c ws row e = rw e (take-at ws (drop (length ws) row) (length ws) refl)
+
+pub frame-in-row : (f : Frame) (row : List ℕ) → writeFrameCode f (length row) ≡ 0 → take (length (frameWords f)) (writeFrameRow f row) ≡ frameWords f
+unfolding writeFrameRow
+frame-in-row f row w = front (writeFrameCode f (length row)) (frameWords f) row w
+
+pub token-in-row : (s : Content) (row : List ℕ) → writeTokenCode s (length row) ≡ 0 → take (length (tokenWords s)) (writeTokenRow s row) ≡ tokenWords s
+unfolding writeTokenRow
+token-in-row s row w = front (writeTokenCode s (length row)) (tokenWords s) row w
