@@ -7,7 +7,7 @@ use mathlib.Core.Logic.{_⊎_, inl, inr, ⊎-elim}
 use mathlib.Core.Path.{_∙_, _≡_, ap, refl, sym}
 use native.Mathlib.Omega.{arith}
 use lib.Dec.{eqb, leb, ltb}
-use lib.ListN.{length}
+use lib.ListN.{length, set}
 use borrow.Author.Tests.{eq-eqb, eqb-true}
 use Rattle.causal.specs.Clocks.{join}
 use Rattle.causal.specs.Codes.{check}
@@ -31,7 +31,7 @@ use Rattle.mesh.specs.World.{Inv, Reach, Reveal, self}
 use Rattle.mesh.proofs.Carry.{reached-held}
 use Rattle.mesh.proofs.Reveal.{reveal-inv}
 use Rattle.mesh.proofs.Sessions.{past-known, past-made, sound-later, take-sound, take-visible}
-use Rattle.ring.specs.Run.{Made, Tracked, gained, onContents, readBy, readIn, refusedBy, together, writerPast}
+use Rattle.ring.specs.Run.{Event, Made, Tracked, gained, onContents, readBy, readIn, refusedBy, together, writerPast}
 use Rattle.ring.proofs.Base.{Fine, dep-made, events-more, held-made, made-range, read-held, read-within, refused-whole, revealing, visible-held}
 use Rattle.ring.proofs.Change.{Changed, Never}
 use Rattle.ring.proofs.Fit.{Agrees, OfficeFit, Sys, TrackedFit, Whole, ids, mem-set, seen, shape, upd-case, upd-said, upd-same, world, wpast}
@@ -188,6 +188,13 @@ gained-new log (Some e ∷ fs) past h m =
       λ q j. gained-keeps log fs _ q (List·Memᴰ·tail (Memᴰ·append-left past j)),
     ))
     (λ i. gained-new log fs _ h i) (List·Memᴰ·cases-cons m)
+
+-- "An accepted reading adds": what the session's past had before, it has after, and at the reading
+pub reading-adds : (n : ℕ) (g : Sys) (o i : ℕ) (r : Tracked) (plots : List ℕ) (R : Result Office Frame)
+    → ((x : Tracked) × (readIn onContents n g o i r plots R .sessions ≡ set (g .sessions) i x) × ((k : ℕ) → List·Memᴰ k (r .past) → List·Memᴰ k (x .past)))
+    × ((v : Event) × (readIn onContents n g o i r plots R .events ≡ g .events ++ (v ∷ [])) × ((k : ℕ) → List·Memᴰ k (r .past) → List·Memᴰ k (v .past)))
+reading-adds n g o i r plots R =
+    ((_, refl, λ k m. gained-keeps (g .log) (R .found) (r .past) k m), (_, refl, λ k m. gained-keeps (g .log) (R .found) (r .past) k m))
 
 together-in : (qs : List ℕ) (fs : List Found) (q : ℕ) (f : Found) → List·Memᴰ (q, f) (together qs fs) → List·Memᴰ f fs
 unfolding together
