@@ -1,5 +1,5 @@
--- The program as a whole, from what `run` promises. However it ends, lines of the input were played, its ring is a run and keeps the third demand,
--- and no reply is `refused 8`. Where it ends at the input's end, these are all lines of the input, in order. Assumes nothing.
+-- The program as a whole, from what `run` promises. However it ends, what is shown is the scene of some lines, its ring is a run and keeps the third
+-- demand, and no reply to them is `refused 8`. Where it ends at the input's end, these are all lines of the input, in order. Assumes nothing.
 use Prim.Native.Nat.{ℕ, _*_, _<_, _≤_}
 use mathlib.Core.List.{List, List·Memᴰ, Memᴰ·of-map, []}
 use mathlib.Core.Logic.{⊎-elim}
@@ -64,7 +64,7 @@ module _ (stores : List ℕ) (long : length stores ≡ 5241) (r : Outcome) (stor
       bs : List ℕ
       bs = P .bytes
 
-  -- however the program ends: lines were played, the ring that is shown is theirs and a run, and no reply to them is refusal 8
+  -- however the program ends: what is shown is the scene of some lines, its ring is a run, and no reply to them is refusal 8
   abbrev pub Kept : Type 0
   Kept =
       (ls : List Line) × Shows (playAll g (rowed ls) .0) (r .stage .desk) stores′ lines′
