@@ -1,12 +1,12 @@
 -- Laws of sets of ids, by membership. Assumes nothing.
 use mathlib.Core.Path.{_≡_, refl, sym, ap, _∙_}
-use mathlib.Core.Bool.{Bool, true, false}
+use mathlib.Core.Bool.{Bool, true, false, cond}
 use mathlib.Core.List.{List, [], _∷_}
 use Prim.Native.Nat.{ℕ, zero, suc, _+_, _-_, _*_, _/_, _%_, _^_, _≤_, _<_, max}
 use mathlib.Core.Logic.{_⊎_, inl, inr, ⊎-elim}
 use native.Mathlib.Numerals.{add-one}
 use native.Mathlib.Omega.{arith}
-use lib.Bits.{bitOr, bitXor, or-lt, xor-lt}
+use lib.Bits.{bitOr, bitXor, or-lt, or-zero-r, xor-lt}
 use lib.Count.{trailingZeros}
 use lib.Dec.{eqb, lit<}
 use lib.ListN.{length, getD, set, drop, length-set, getD-replicate, List·getD-eq-default, drop-of-length-le}
@@ -17,7 +17,7 @@ use Rattle.causal.specs.Tests.{both, allBelow}
 use Rattle.causal.specs.Lists.{zip8, zeros, sumBelow}
 use Rattle.causal.specs.Sets.{bit, has, isIn, IdSet, unite, minus, inserted, isEmpty, wordIn, subsetOf, sizeOf, Within, lowestIn, lowestOf}
 use Rattle.causal.specs.declared.set.Lowest.the-variants.{At, Empty}
-use Rattle.causal.proofs.Tests.{lt-or-le, eq-or-ne, all-at, all-intro, split}
+use Rattle.causal.proofs.Tests.{lt-or-le, eq-or-ne, same-test, both-intro, both-true, all-at, all-intro, split}
 use Rattle.causal.proofs.Lists.{zip8-at, sum-le}
 use Rattle.causal.proofs.Bits.{bit-lt, bit-or, bit-minus, bit-pow, bit-zero-word, bits-ext, same, same-eq, same-ne, tz-below, tz-at, or-is-zero, none-left}
 
@@ -126,6 +126,39 @@ ids-inserted s k w = record { eight = length-set s (k / 32) v ∙ w .eight; fits
 
     fit : (i : ℕ) → getD (set s (k / 32) v) i 0 < 2 ^ 32
     fit i = ⊎-elim (here i) (λ n. rw (getD-set-other s (k / 32) i v 0 n) (w .fits i)) (eq-or-ne i (k / 32))
+
+-- ---- a member more, place by place
+
+-- eight words, each with what a test of its place gives it
+pub insert-eight : (s : List ℕ) (k w : ℕ) → length s ≡ 8 → k < 256 → w ≡ 2 ^ (k % 32) → (a b c d e f g h : ℕ)
+    → a ≡ cond (eqb (k / 32) 0) w 0 → b ≡ cond (eqb (k / 32) 1) w 0 → c ≡ cond (eqb (k / 32) 2) w 0 → d ≡ cond (eqb (k / 32) 3) w 0
+    → e ≡ cond (eqb (k / 32) 4) w 0 → f ≡ cond (eqb (k / 32) 5) w 0 → g ≡ cond (eqb (k / 32) 6) w 0 → h ≡ cond (eqb (k / 32) 7) w 0
+    → unite s (a ∷ b ∷ c ∷ d ∷ e ∷ f ∷ g ∷ h ∷ []) ≡ inserted s k
+unfolding unite inserted
+insert-eight s k w l m q a b c d e f g h ea eb ec ed ee ef eg eh = ext-getD 0 (zip8 bitOr s more) (inserted s k) (sym (length-set s (k / 32) _ ∙ l)) word
+  where
+    more : List ℕ
+    more = a ∷ b ∷ c ∷ d ∷ e ∷ f ∷ g ∷ h ∷ []
+
+    at : (j : ℕ) → j < 8 → getD more j 0 ≡ cond (eqb (k / 32) j) w 0
+    at zero r = ea
+    at (suc zero) r = eb
+    at (suc (suc zero)) r = ec
+    at (suc (suc (suc zero))) r = ed
+    at (suc (suc (suc (suc zero)))) r = ee
+    at (suc (suc (suc (suc (suc zero))))) r = ef
+    at (suc (suc (suc (suc (suc (suc zero)))))) r = eg
+    at (suc (suc (suc (suc (suc (suc (suc zero))))))) r = eh
+    at (suc (suc (suc (suc (suc (suc (suc (suc j)))))))) r = omega arith
+
+    word : (j : ℕ) → j < 8 → getD (zip8 bitOr s more) j 0 ≡ getD (inserted s k) j 0
+    word j r = zip8-at bitOr s more j r ∙ ap (bitOr (getD s j 0)) (at j r) ∙ ⊎-elim here there (eq-or-ne (k / 32) j)
+      where
+        here : k / 32 ≡ j → bitOr (getD s j 0) (cond (eqb (k / 32) j) w 0) ≡ getD (inserted s k) j 0
+        here n = rw (← n) (rw (eq-eqb (k / 32) (k / 32) refl, q) (sym (getD-set-same s (k / 32) _ 0 (omega arith))))
+
+        there : (k / 32 ≡ j → ⊥) → bitOr (getD s j 0) (cond (eqb (k / 32) j) w 0) ≡ getD (inserted s k) j 0
+        there n = rw (ne-eqb (k / 32) j n, getD-set-other s (k / 32) j _ 0 (λ (x : j ≡ k / 32). n (sym x))) (or-zero-r (getD s j 0))
 
 -- ---- the empty set
 
@@ -335,6 +368,23 @@ unite-left a b w k h = omega (arith, has-unite a b k (has-in a k (omega (arith, 
 
 pub unite-right : (a b : List ℕ) → IdSet b → Within b (unite a b)
 unite-right a b w k h = omega (arith, has-unite a b k (has-in b k (omega (arith, w .eight)) h), has-lt a k)
+
+-- a union lies where both sets lie
+pub unite-subset : (a b t : List ℕ) → IdSet a → IdSet b → IdSet t → subsetOf (unite a b) t ≡ both (subsetOf a t) (subsetOf b t)
+unite-subset a b t x y z = same-test _ _ to from
+  where
+    u : IdSet (unite a b)
+    u = ids-unite a b x y
+
+    to : subsetOf (unite a b) t ≡ true → both (subsetOf a t) (subsetOf b t) ≡ true
+    to h =
+        let f = subset-within (unite a b) t u h in
+        both-intro _ _ (subset-by a t x z (λ k m. f k (unite-left a b x k m))) (subset-by b t y z (λ k m. f k (unite-right a b y k m)))
+
+    from : both (subsetOf a t) (subsetOf b t) ≡ true → subsetOf (unite a b) t ≡ true
+    from h =
+        let p = both-true (subsetOf a t) (subsetOf b t) h in
+        subset-by (unite a b) t u z (λ k m. ⊎-elim (λ e. subset-within a t x (p .0) k e) (λ e. subset-within b t y (p .1) k e) (in-unite a b k u m))
 
 pub in-inserted : (v : List ℕ) (k j : ℕ) → k < 256 → IdSet v → has (inserted v k) j ≡ 1 → (j ≡ k) ⊎ (has v j ≡ 1)
 in-inserted v k j l w h =

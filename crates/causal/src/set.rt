@@ -1,5 +1,7 @@
 // Sets of ids (01: of names) as eight words: id k, 0 <= k < 256, is bit k % 32 of word k / 32.
 ghost use mathlib.Core.Path.{_≡_};
+ghost use mathlib.Core.Bool.{cond};
+ghost use lib.Dec.{eqb};
 ghost use Rattle.causal.specs.Sets.{isIn, inserted, unite, minus, isEmpty, subsetOf, sizeOf, lowestOf};
 
 pub enum Lowest {
@@ -17,17 +19,35 @@ pub fn contains(set: [u32; 8], k: usize) -> bool
     (set[k / 32] >> (k % 32)) % 2 == 1
 }
 
-// The set with k. A number from 256 on leaves it as it is.
+// What word j of a set gets where word i of it gets w.
+fn at_word(i: usize, j: usize, w: u32) -> u32
+    ensures { λ r. ⌜ r ≡ cond (eqb i j) w 0 ⌝ }
+{
+    if i == j {
+        return w;
+    }
+    0
+}
+
+// The set with k. A number from 256 on leaves it as it is. All words at once: no word is stored at a place that is computed.
 pub fn insert(set: [u32; 8], k: usize) -> [u32; 8]
     ensures { λ r. ⌜ r ≡ inserted set k ⌝ }
 {
     if k >= 256 {
         return set;
     }
-    let mut out = set;
     let i = k / 32;
-    out[i] = out[i] | (1u32 << (k % 32));
-    out
+    let w = 1u32 << (k % 32);
+    [
+        set[0] | at_word(i, 0, w),
+        set[1] | at_word(i, 1, w),
+        set[2] | at_word(i, 2, w),
+        set[3] | at_word(i, 3, w),
+        set[4] | at_word(i, 4, w),
+        set[5] | at_word(i, 5, w),
+        set[6] | at_word(i, 6, w),
+        set[7] | at_word(i, 7, w),
+    ]
 }
 
 pub fn union(a: [u32; 8], b: [u32; 8]) -> [u32; 8]

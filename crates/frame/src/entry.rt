@@ -42,14 +42,21 @@ pub fn ring_ok(offices: u32, plots: u32) -> bool
     plots <= 64
 }
 
+// The greatest number that place j of a clock may have, in a ring of n offices.
+fn most(n: usize, j: usize) -> u32
+    ensures { λ r. ⌜ r ≡ cond (ltb j n) 32 0 ⌝ }
+{
+    if j < n {
+        return 32;
+    }
+    0
+}
+
 // 0 where place j of a clock may be x, in a ring of n offices.
 fn over(n: usize, x: u32, j: usize) -> u32
     ensures { λ r. ⌜ eqb r 0 ≡ cond (ltb j n) (leb x 32) (eqb x 0) ⌝ }
 {
-    if j >= n {
-        return x;
-    }
-    if x > 32 {
+    if x > most(n, j) {
         return 1;
     }
     0

@@ -15,6 +15,7 @@ pub mod Readings
 pub mod JointReads
 pub mod OwnCodes
 pub mod Sends
+pub mod Forecasts
 pub mod Shape
 pub mod Holds
 pub mod Writes

@@ -2,7 +2,7 @@
 -- holds in the store. proofs/Sends.antt, proofs/Holds.antt: they are what Calls says. Assumes nothing.
 use Prim.Native.Nat.{ℕ, _+_, _-_, _<_, _≤_}
 use mathlib.Core.Path.{_≡_}
-use mathlib.Core.Bool.{Bool, true, false}
+use mathlib.Core.Bool.{Bool, true, false, cond}
 use mathlib.Core.List.{List, [], _∷_, _++_}
 use lib.Dec.{ltb}
 use lib.ListN.{length, getD}
@@ -54,6 +54,11 @@ framesIn held n (e ∷ es) = frameIf (isIn held (idOf e)) n e ++ framesIn held n
 
 unfoldable pub allFrames : List ℕ → ℕ → List Entry → Entry → List ℕ
 allFrames held n es e = framesIn held n es ++ frameWords (started n e)
+
+-- how many of them make a frame
+unfoldable pub outside : List ℕ → List Entry → ℕ
+outside held [] = 0
+outside held (e ∷ es) = cond (isIn held (idOf e)) 0 1 + outside held es
 
 -- each of the first own writes makes a frame
 abbrev pub Framed : ℕ → List Entry → ℕ → Type 0

@@ -1,6 +1,7 @@
 // The calls of one office.
 mod code;
 mod entries;
+pub mod forecast;
 pub mod joint;
 pub mod need;
 mod note;

@@ -42,7 +42,7 @@ fn room_ok(f: Frame, room: usize) -> bool
 }
 
 // 10 and 11; 12: a dependency is not held; 8.
-fn receive_code(store: &[u32], held: [u32; 8], f: Frame, room: usize) -> u32
+pub fn receive_code(store: &[u32], held: [u32; 8], f: Frame, room: usize) -> u32
     requires { ⌜ (soundStore (now store) ≡ true) × (held ≡ part (now store) 3 8) × (frameOk (getD (now store) 0 0) (getD (now store) 2 0) f ≡ true) ⌝ }
     ensures { λ r. ⌜ r ≡ receiveCode (officeOf (now (store .entry))) f room ⌝ }
 {

@@ -60,7 +60,7 @@ fn second_codes(store: &[u32], held: [u32; 8], count: usize, read: [u32; 8]) -> 
     0
 }
 
-fn early_code(store: &[u32], s: Session, plot: u32, value: u32) -> u32
+pub fn early_code(store: &[u32], s: Session, plot: u32, value: u32) -> u32
     ensures { λ r. ⌜ r ≡ check (soundStore (now (store .entry))) 2 (earlyCode (officeOf (now (store .entry))) (contentOf s) plot value) ⌝ }
 {
     let first = first_codes(store, s, plot, value);

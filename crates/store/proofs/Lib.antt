@@ -8,6 +8,7 @@ pub mod Keep
 pub mod Eights
 pub mod Gaps
 pub mod Rules
+pub mod Deps
 pub mod Places
 pub mod Ready
 pub mod Joins

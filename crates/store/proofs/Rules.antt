@@ -1,89 +1,24 @@
--- Soundness, slot by slot: how the checks of code go together, and what a sound store says. Assumes nothing.
-use Prim.Native.Nat.{ℕ, suc, _+_, _-_, _*_, _<_, _≤_}
+-- Soundness: how the checks of a store go together, and what a sound store says. Assumes nothing.
+use Prim.Native.Nat.{ℕ, _+_, _*_, _<_, _≤_}
 use mathlib.Core.Path.{_≡_, refl, sym, ap, ap₂, _∙_}
-use mathlib.Core.Bool.{Bool, true, false, not, cond}
-use mathlib.Core.Logic.{⊎-elim}
+use mathlib.Core.Bool.{Bool, true, false, cond}
 use mathlib.Core.List.{List}
 use native.Mathlib.Omega.{arith}
 use lib.Dec.{ltb, leb, eqb}
 use lib.ListN.{length, getD}
-use borrow.Author.Tests.{eqb-true, ltb-true, leb-true, lt-leb, not-true, not-false}
+use borrow.Author.Tests.{eqb-true, ltb-true, leb-true, lt-leb}
 use Rattle.causal.specs.Tests.{both, implies, allBelow}
 use Rattle.causal.specs.Lists.{part}
 use Rattle.causal.specs.Sets.{bit, has, isEmpty, isIn, subsetOf}
-use Rattle.causal.proofs.Tests.{not-so, false-true, both-false, both-intro, both-true, all-none, all-more, all-fails, all-at, all-ext, all-intro, implies-elim, both-one}
+use Rattle.causal.proofs.Tests.{both-false, both-intro, both-true, all-at, all-ext, all-intro, implies-elim}
 use Rattle.causal.proofs.Sets.{empty-out, is-in, has-in, has-lt, subset-sound}
 use Rattle.causal.proofs.Lists.{part-length}
-use Rattle.causal.proofs.Walk.{Passed, Next, fold-next, fold-end, has-word}
+use Rattle.causal.proofs.Walk.{has-word}
 use Rattle.frame.specs.declared.entry.Entry.{Entry}
 use Rattle.frame.specs.Entries.{entryOk, blankEntry}
 use Rattle.frame.specs.Frames.{ringOk}
 use Rattle.store.specs.Offices.{need, slotAt, entryAt, officeOf, settingsOk, heldOk, gapless, soundOffice, soundStore}
 use Rattle.store.specs.Slots.{Laid, noGap, fits, slotOk}
-
--- ---- the slots of one word of the held set
-
-module _ (ws : List ℕ) (n p : ℕ) (held visible : List ℕ) (i : ℕ) where
-  abbrev At : ℕ → Bool
-  At b = slotOk ws n p held visible (32 * i + b)
-
-  abbrev Rest : ℕ → Bool
-  Rest b = both (ltb (32 * i + b) (32 * n)) (fits n p (entryAt ws (32 * i + b)) (32 * i + b) held visible)
-
-  slot-clear : (b : ℕ) → b < 32 → bit (getD held i 0) b ≡ 0 → slotOk ws n p held visible (32 * i + b) ≡ true
-  unfolding slotOk isIn implies
-  slot-clear b l z = rw (has-word held i b l, z) refl
-
-  slot-set : (b : ℕ) → b < 32 → bit (getD held i 0) b ≡ 1 → slotOk ws n p held visible (32 * i + b) ≡ Rest b
-  unfolding slotOk isIn implies
-  slot-set b l z = rw (has-word held i b l, z) refl
-
-  same-at : (b : ℕ) → b < 32 → bit (getD held i 0) b ≡ 0 → allBelow (suc b) At ≡ allBelow b At
-  unfolding allBelow
-  same-at b l z = ap (both (allBelow b At)) (slot-clear b l z) ∙ both-one (allBelow b At)
-
-  pub slots-more : (b rest t : ℕ) (r : Bool) → Next (getD held i 0) b rest t → allBelow b At ≡ true → r ≡ Rest t → not r ≡ false → allBelow (t + 1) At ≡ true
-  slots-more b rest t r x a e f =
-      all-more At t (fold-next (λ j. allBelow j At) (getD held i 0) same-at b rest t x ∙ a) (slot-set t (x .below) (x .member) ∙ sym e ∙ not-false r f)
-
-  pub slots-fail : (b rest t : ℕ) (r : Bool) → Next (getD held i 0) b rest t → r ≡ Rest t → not r ≡ true → false ≡ allBelow 32 At
-  slots-fail b rest t r x e f = sym (all-fails At 32 t (x .below) (slot-set t (x .below) (x .member) ∙ sym e ∙ not-true r f))
-
-  pub slots-done : (b rest : ℕ) → Passed (getD held i 0) b rest → rest ≡ 0 → allBelow b At ≡ true → true ≡ allBelow 32 At
-  slots-done b rest x z a = sym (fold-end (λ j. allBelow j At) (getD held i 0) same-at b rest x z ∙ a)
-
--- ---- word by word
-
-module _ (P : ℕ → Bool) where
-  all-add : (m n : ℕ) → allBelow m P ≡ true → allBelow n (λ b. P (m + b)) ≡ true → allBelow (m + n) P ≡ true
-  all-add m n a b = all-intro P (m + n) each
-    where
-      each : (j : ℕ) → j < m + n → P j ≡ true
-      each j l =
-          ⊎-elim (λ (s : j < m). all-at P m a j s)
-          (λ (s : m ≤ j).
-          let e : m + (j - m) ≡ j = omega arith in
-          ap P (sym e) ∙ all-at (λ b. P (m + b)) n b (j - m) (omega arith))
-          (Rattle.causal.proofs.Tests.lt-or-le j m)
-
-  pub words-none : allBelow (32 * 0) P ≡ true
-  words-none = all-none P
-
-  pub words-more : (i : ℕ) (r : Bool) → allBelow (32 * i) P ≡ true → r ≡ allBelow 32 (λ b. P (32 * i + b)) → not r ≡ false → allBelow (32 * (i + 1)) P ≡ true
-  words-more i r a e f =
-      let q : 32 * (i + 1) ≡ 32 * i + 32 = omega arith in
-      rw q (all-add (32 * i) 32 a (sym e ∙ not-false r f))
-
-  pub words-fail : (i : ℕ) (r : Bool) → i < 8 → r ≡ allBelow 32 (λ b. P (32 * i + b)) → not r ≡ true → false ≡ allBelow 256 P
-  words-fail i r l e f =
-      sym
-      (not-so _
-      (λ a.
-      let t : allBelow 32 (λ b. P (32 * i + b)) ≡ true = all-intro (λ b. P (32 * i + b)) 32 (λ b m. all-at P 256 a (32 * i + b) (omega arith)) in
-      false-true (sym (not-true r f) ∙ e ∙ t)))
-
-  pub words-done : (i : ℕ) → allBelow (32 * i) P ≡ true → i ≤ 8 → 8 ≤ i → true ≡ allBelow 256 P
-  words-done i a l g = let q : 256 ≡ 32 * i = omega arith in rw q (sym a)
 
 -- ---- the content of a store
 

@@ -1,5 +1,6 @@
 pub mod Reveal
 pub mod Offices
 pub mod Slots
+pub mod Deps
 pub mod Current
 pub mod Tops

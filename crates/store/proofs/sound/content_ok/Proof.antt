@@ -39,7 +39,8 @@ shared-slice-read-slots-ok-2 : tie.Need-shared-slice-read-slots-ok-2
 shared-slice-read-slots-ok-2 c = let z = c .before .before .before .before .before .before .before .before .before in omega (arith, z .pre .long, z .pre .few, z .pre .own)
 
 slots-ok-requires : tie.Need-slots-ok-requires
-slots-ok-requires c κs = let z = c .before .before .before .before .before .before .before .before .before in (z .pre .long, z .pre .few)
+slots-ok-requires c κs = let z = c .before .before .before .before .before .before .before .before .before in
+    (z .pre .long, z .pre .few, sym (c .before .before .before .before .before .subset .ensures) ∙ not-false _ (c .before .before .before .before .if1 .left))
 
 returns-3 : tie.Need-returns-3
 returns-3 c = let z = c .before .before .before .before .before .before .before .before .before .before .before in

@@ -1,27 +1,127 @@
-use mathlib.Core.Path.{ap, _∙_}
-use Rattle.causal.proofs.Chain.{chain, lt-passes}
-use Rattle.frame.specs.declared.entry.Entry.{Entry}
-use Rattle.store.specs.Slots.{fits}
 use native.Mathlib.Omega.{arith}
+use mathlib.Core.Path.{ap, _∙_}
+use Rattle.causal.specs.Sets.{bit}
+use Rattle.causal.proofs.Chain.{chain}
+use Rattle.frame.specs.Entries.{clockOk}
+use Rattle.store.specs.Deps.{loneOk}
 use borrow.Author.Needs.{needs}
 use Rattle.store.proofs.sound.slot_ok.Statement.{statement}
 use Rattle.store.proofs.sound.slot_ok.Tie as tie
 
+mul-at : tie.Need-mul-at
+mul-at c = search needs
+
+add-at : tie.Need-add-at
+add-at c = search needs
+
+mul-at-2 : tie.Need-mul-at-2
+mul-at-2 c = search needs
+
+add-at-2 : tie.Need-add-at-2
+add-at-2 c = search needs
+
 mul-if1 : tie.Need-mul-if1
 mul-if1 c = search needs
 
+shared-slice-read-if1 : tie.Need-shared-slice-read-if1
+shared-slice-read-if1 c = search needs
+
 returns : tie.Need-returns
+unfolding loneOk bit
 returns c = search (chain, arith) depth 9
 
-entry-at-requires : tie.Need-entry-at-requires
-entry-at-requires c κs = search needs
+add-if2 : tie.Need-add-if2
+add-if2 c = search needs
 
-fits-in-requires : tie.Need-fits-in-requires
-fits-in-requires c κs = search needs
+mul-if2 : tie.Need-mul-if2
+mul-if2 c = search needs
+
+shared-slice-read-if2 : tie.Need-shared-slice-read-if2
+shared-slice-read-if2 c = search needs
 
 returns-2 : tie.Need-returns-2
-returns-2 c = let z = c .before .before .before .before in
-    lt-passes _ _ _ _ (c .before .before .if1 .left) (c .fits-in .ensures ∙ ap (λ (e : Entry). fits (z .args .n) (z .args .p) e (z .args .k) (z .args .held) (z .args .visible)) (c .before .entry-at .ensures))
+unfolding loneOk bit
+returns-2 c = search (chain, arith) depth 9
+
+add-if3 : tie.Need-add-if3
+add-if3 c = search needs
+
+add-if3-2 : tie.Need-add-if3-2
+add-if3-2 c = search needs
+
+mul-if3 : tie.Need-mul-if3
+mul-if3 c = search needs
+
+shared-slice-read-if3 : tie.Need-shared-slice-read-if3
+shared-slice-read-if3 c = search needs
+
+add-if3-3 : tie.Need-add-if3-3
+add-if3-3 c = search needs
+
+returns-3 : tie.Need-returns-3
+unfolding loneOk bit
+returns-3 c = search (chain, arith) depth 9
+
+add-if4 : tie.Need-add-if4
+add-if4 c = search needs
+
+add-if4-2 : tie.Need-add-if4-2
+add-if4-2 c = search needs
+
+mul-if4 : tie.Need-mul-if4
+mul-if4 c = search needs
+
+shared-slice-read-if4 : tie.Need-shared-slice-read-if4
+shared-slice-read-if4 c = search needs
+
+shr-if4 : tie.Need-shr-if4
+shr-if4 c = search needs
+
+returns-4 : tie.Need-returns-4
+unfolding loneOk bit
+returns-4 c = search (chain, arith) depth 9
+
+add-set-at : tie.Need-add-set-at
+add-set-at c = search needs
+
+set-at-requires : tie.Need-set-at-requires
+set-at-requires c κs = search needs
+
+clock-ok-requires : tie.Need-clock-ok-requires
+clock-ok-requires c κs = search needs
+
+returns-5 : tie.Need-returns-5
+unfolding loneOk bit
+returns-5 c = let h = c .clock-ok .ensures ∙ ap (clockOk _) (c .before .set-at .ensures) in search (chain, arith) depth 9
 
 pub slot-ok-spec : {M : Type 1} → statement M
-slot-ok-spec = tie.close (tie.spec mul-if1 returns entry-at-requires fits-in-requires returns-2)
+slot-ok-spec =
+    tie.close
+    (tie.spec
+    mul-at
+    add-at
+    mul-at-2
+    add-at-2
+    mul-if1
+    shared-slice-read-if1
+    returns
+    add-if2
+    mul-if2
+    shared-slice-read-if2
+    returns-2
+    add-if3
+    add-if3-2
+    mul-if3
+    shared-slice-read-if3
+    add-if3-3
+    returns-3
+    add-if4
+    add-if4-2
+    mul-if4
+    shared-slice-read-if4
+    shr-if4
+    returns-4
+    add-set-at
+    set-at-requires
+    clock-ok-requires
+    returns-5)

@@ -1,50 +1,58 @@
-use mathlib.Core.Path.{_≡_}
-use Prim.Native.Nat.{_-_, _*_, _≤_}
-use mathlib.Core.Bool.{true}
-use Rattle.causal.specs.Tests.{allBelow}
-use Rattle.store.specs.Slots.{slotOk}
-use Rattle.store.proofs.Rules.{words-none, words-more, words-fail, words-done}
+use native.Mathlib.Omega.{arith}
+use mathlib.Core.Path.{refl}
+use Rattle.causal.specs.Sets.{minus}
+use Rattle.causal.proofs.Array.{id-set}
+use Rattle.causal.proofs.Chain.{chain}
+use Rattle.store.proofs.Deps.{slots-are}
 use borrow.Author.Needs.{needs}
 use Rattle.store.proofs.sound.slots_ok.Statement.{statement}
 use Rattle.store.proofs.sound.slots_ok.Tie as tie
 
-abbrev Inv-loop : tie.InvT-loop
-Inv-loop store n p held visible i₀ i = (i ≤ 8) × (allBelow (32 * i) (slotOk store n p held visible) ≡ true)
+ids-ok-requires : tie.Need-ids-ok-requires
+ids-ok-requires c κs = search needs
 
-abbrev μ-loop : tie.MeasureT-loop
-μ-loop store n p held visible i₀ i = 8 - i
+returns : tie.Need-returns
+returns c = let z = c .before .before .before in
+    slots-are (z .args .store .now) (λ i. c .before .before .shared-slice-known .given i .fits) (z .args .n) (z .args .p) (z .pre .0) (z .pre .1) (z .args .held) (z .args .visible) (minus (z .args .held) (z .args .visible))
+    (id-set (z .args .held) (z .good .1 .1 .1 .0)) (id-set (z .args .visible) (z .good .1 .1 .1 .1 .0)) (z .pre .2) refl _ (search (chain, arith) depth 9)
 
-loop-holds : tie.Need-loop-holds Inv-loop μ-loop
-loop-holds c = (search needs, words-none _)
+words-ok-requires : tie.Need-words-ok-requires
+words-ok-requires c κs = search needs
 
-word-ok-requires : tie.Need-word-ok-requires Inv-loop μ-loop
-word-ok-requires c κs = search needs
+returns-2 : tie.Need-returns-2
+returns-2 c = let z = c .before .before .before .before .before in
+    slots-are (z .args .store .now) (λ i. c .before .before .before .before .shared-slice-known .given i .fits) (z .args .n) (z .args .p) (z .pre .0) (z .pre .1) (z .args .held) (z .args .visible) (minus (z .args .held) (z .args .visible))
+    (id-set (z .args .held) (z .good .1 .1 .1 .0)) (id-set (z .args .visible) (z .good .1 .1 .1 .1 .0)) (z .pre .2) refl _ (search (chain, arith) depth 9)
 
-returns : tie.Need-returns Inv-loop μ-loop
-returns c = search words-fail
+deps-within-requires : tie.Need-deps-within-requires
+deps-within-requires c κs = search needs
 
-add-i : tie.Need-add-i Inv-loop μ-loop
-add-i c = search needs
+returns-3 : tie.Need-returns-3
+returns-3 c = let z = c .before .before .before .before .before .before .before in
+    slots-are (z .args .store .now) (λ i. c .before .before .before .before .before .before .shared-slice-known .given i .fits) (z .args .n) (z .args .p) (z .pre .0) (z .pre .1) (z .args .held) (z .args .visible) (minus (z .args .held) (z .args .visible))
+    (id-set (z .args .held) (z .good .1 .1 .1 .0)) (id-set (z .args .visible) (z .good .1 .1 .1 .1 .0)) (z .pre .2) refl _ (search (chain, arith) depth 9)
 
-loop-less : tie.Need-loop-less Inv-loop μ-loop
-loop-less c = search needs
+without-requires : tie.Need-without-requires
+without-requires c κs = search needs
 
-loop-again : tie.Need-loop-again Inv-loop μ-loop
-loop-again c = (search needs, search words-more)
+deps-within-requires-2 : tie.Need-deps-within-requires-2
+deps-within-requires-2 c κs = search needs
 
-returns-2 : tie.Need-returns-2 Inv-loop μ-loop
-returns-2 c = search words-done
+returns-4 : tie.Need-returns-4
+returns-4 c = let z = c .before .before .before .before .before .before .before .before .before in
+    slots-are (z .args .store .now) (λ i. c .before .before .before .before .before .before .before .before .shared-slice-known .given i .fits) (z .args .n) (z .args .p) (z .pre .0) (z .pre .1) (z .args .held) (z .args .visible) (c .before .without .result)
+    (id-set (z .args .held) (z .good .1 .1 .1 .0)) (id-set (z .args .visible) (z .good .1 .1 .1 .1 .0)) (z .pre .2) (c .before .without .ensures) _ (search (chain, arith) depth 9)
 
 pub slots-ok-spec : {M : Type 1} → statement M
 slots-ok-spec =
     tie.close
     (tie.spec
-    Inv-loop
-    μ-loop
-    loop-holds
-    word-ok-requires
+    ids-ok-requires
     returns
-    add-i
-    loop-less
-    loop-again
-    returns-2)
+    words-ok-requires
+    returns-2
+    deps-within-requires
+    returns-3
+    without-requires
+    deps-within-requires-2
+    returns-4)
