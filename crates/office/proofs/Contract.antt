@@ -16,12 +16,13 @@ use Rattle.frame.specs.declared.refusal.Written.{Written}
 use Rattle.frame.specs.declared.session.Session.{Session}
 use Rattle.frame.proofs.Contract.{One, Row, Three, Two}
 use Rattle.office.specs.Decide.{withSeen}
-use Rattle.office.specs.Promises.{FreshPromise, JointPromise, NeedPromise, OpenPromise, ReadPromise, ReceivePromise, WritePromise}
+use Rattle.office.specs.Promises.{FreshPromise, JointPromise, MakePromise, NeedPromise, OpenPromise, ReadPromise, ReceivePromise, WritePromise}
 use Rattle.office.specs.declared.joint.JointRead.{JointRead}
 use Rattle.office.specs.declared.joint.JointSeen.{JointSeen}
 use Rattle.office.specs.declared.open.Fresh.{Fresh}
 use Rattle.office.specs.declared.read.PlotRead.{PlotRead}
 use Rattle.office.specs.declared.read.PlotSeen.{PlotSeen}
+use Rattle.office.specs.declared.write.Made.{Made}
 use Rattle.office.specs.declared.write.Wrote.{Wrote}
 use Rattle.office.proofs.joint.read_joint as read-joint
 use Rattle.office.proofs.joint.see_joint as see-joint
@@ -31,6 +32,7 @@ use Rattle.office.proofs.open.open_office as open-office
 use Rattle.office.proofs.read.read_plot as read-plot
 use Rattle.office.proofs.read.see_plot as see-plot
 use Rattle.office.proofs.receive.receive as receive
+use Rattle.office.proofs.write.make as make
 use Rattle.office.proofs.write.write as write
 
 module _ {M : Type 1} (𝓤 : URA M) (H : Heap 𝓤) (A : Atoms 𝓤) (mem : Memory → SProp 𝓤) (run : Routine → Fun 𝓤) where
@@ -75,6 +77,11 @@ module _ {M : Type 1} (𝓤 : URA M) (H : Heap 𝓤) (A : Atoms 𝓤) (mem : Mem
         → write.clauses 𝓤 H A mem run κs (ws, (s, (plot, (value, (row, tt))))) .ensures tt r (ws′, (s, (plot, (value, (row′, tt)))))
         ≡ fact 𝓤 (WritePromise (now ws) s plot value (now row) (replyOf (r .written)) (r .session) (now ws′) (now row′))
     pub write-asks : (κs : Two) (ws : Row) (s : Session) (plot value : ℕ) (row : Row) → write.clauses 𝓤 H A mem run κs (ws, (s, (plot, (value, (row, tt))))) .requires tt ≡ emp 𝓤
+    pub make-met : make.Statement.statement M
+    pub make-is : (κs : Two) (ws : Row) (s : Session) (plot value : ℕ) (row : Row) (r : Made) (ws′ row′ : Row)
+        → make.clauses 𝓤 H A mem run κs (ws, (s, (plot, (value, (row, tt))))) .ensures tt r (ws′, (s, (plot, (value, (row′, tt)))))
+        ≡ fact 𝓤 (MakePromise (now ws) s plot value (now row) (r .written) (r .entry) (now ws′) (now row′))
+    pub make-asks : (κs : Two) (ws : Row) (s : Session) (plot value : ℕ) (row : Row) → make.clauses 𝓤 H A mem run κs (ws, (s, (plot, (value, (row, tt))))) .requires tt ≡ emp 𝓤
     pub receive-met : receive.Statement.statement M
     pub receive-is : (κs : Three) (ws frame row : Row) (r : Written) (ws′ frame′ row′ : Row)
         → receive.clauses 𝓤 H A mem run κs (ws, (frame, (row, tt))) .ensures tt r (ws′, (frame′, (row′, tt)))
@@ -108,6 +115,9 @@ module _ {M : Type 1} (𝓤 : URA M) (H : Heap 𝓤) (A : Atoms 𝓤) (mem : Mem
         write-met = write.Met.met;
         write-is = λ κs ws s plot value row r ws′ row′. refl;
         write-asks = λ κs ws s plot value row. refl;
+        make-met = make.Met.met;
+        make-is = λ κs ws s plot value row r ws′ row′. refl;
+        make-asks = λ κs ws s plot value row. refl;
         receive-met = receive.Met.met;
         receive-is = λ κs ws frame row r ws′ frame′ row′. refl;
         receive-asks = λ κs ws frame row. refl;

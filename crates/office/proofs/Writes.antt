@@ -17,9 +17,12 @@ use Rattle.causal.proofs.Sets.{has-lt, subset-within}
 use Rattle.causal.proofs.Tests.{both-true}
 use Rattle.frame.specs.declared.entry.Entry.{Entry}
 use Rattle.frame.specs.declared.session.Session.{Session}
-use Rattle.frame.specs.Entries.{idOf, entryOk}
+use Rattle.frame.specs.Entries.{blankEntry, idOf, entryOk}
 use Rattle.frame.specs.Frames.{ringOk, frameOk}
-use Rattle.frame.specs.Refusals.{Reply}
+use Rattle.frame.specs.Refusals.{Reply, numberOf, replyOf}
+use Rattle.frame.specs.declared.refusal.Refusal.{Refusal}
+use Rattle.frame.specs.declared.refusal.Written.{Written}
+use Rattle.frame.specs.declared.refusal.Written.the-variants.{NotWritten, Words}
 use Rattle.frame.specs.Sessions.{contentOf, sessionOk, idsOf}
 use Rattle.frame.specs.Tokens.{rowsOf}
 use Rattle.frame.specs.Calls.{laid}
@@ -32,7 +35,8 @@ use Rattle.store.proofs.Bridge.{store-same}
 use Rattle.store.proofs.Keep.{Sound, store-facts}
 use Rattle.store.proofs.Changes.{hold-words}
 use Rattle.office.specs.Calls.{Result, refusal, newEntry, sentOf, writeSends, writeCode, holdAll, missing, ownCode, writeOn, write}
-use Rattle.office.specs.Answers.{sessionIf, extendedBy, writeSession}
+use Rattle.office.specs.Answers.{sessionIf, extendedBy, madeBy, withMade, writeSession}
+use Rattle.office.specs.Promises.{MakePromise, WritePromise}
 use Rattle.office.specs.Steps.{ownAt, ownTo, firstCodes, secondCodes, earlyCode, started, allFrames, Framed, holdsIn, Slots}
 use Rattle.office.proofs.KeepCalls.{all-known}
 use Rattle.office.proofs.Along.{Along, hold-end, start-along}
@@ -289,3 +293,44 @@ module _ (ws : List ℕ) (s : Session) (plot value : ℕ) (out : List ℕ) where
         d ∙ store-0 (n .0) w,
         f ∙ ap (λ (x : List ℕ). laid x out) r ∙ row-0 (n .0) w,
       )
+
+  -- ---- the entry that was made, in place of the session
+
+  none-made : (x : ℕ) → (x ≡ 0 → ⊥) → x ≡ write ws (contentOf s) plot value out .code
+      → blankEntry ≡ madeBy (write ws (contentOf s) plot value out .code) (newEntry (officeOf ws) (contentOf s) plot value)
+  unfolding madeBy
+  none-made zero n e = absurd (n refl)
+  none-made (suc c) n e = ap (λ (k : ℕ). madeBy k (newEntry (officeOf ws) (contentOf s) plot value)) e
+
+  pub not-made : (w : Written) (e : Entry) (x : Refusal) → w ≡ NotWritten x → e ≡ blankEntry → (numberOf x ≡ 0 → ⊥)
+      → Says (record { code = numberOf x; words = 0 }) s ws out → MakePromise ws s plot value out w e ws out
+  unfolding replyOf withMade
+  not-made w e x a b n S =
+      subst (λ (p : Written × Entry). MakePromise ws s plot value out (p .0) (p .1) ws out) (λ i. (sym a i, sym b i))
+      (S, none-made (numberOf x) n (ap (λ (r : Reply). r .code) (S .0)))
+
+  pub made-is : (m : ℕ) (e : Entry) (z y : List ℕ) → e ≡ newEntry (officeOf ws) (contentOf s) plot value
+      → Says (record { code = 0; words = m }) (extendedBy s e) z y → MakePromise ws s plot value out (Words m) e z y
+  unfolding replyOf withMade madeBy
+  made-is m e z y q S =
+      (S, q ∙ ap (λ (k : ℕ). madeBy k (newEntry (officeOf ws) (contentOf s) plot value)) (ap (λ (r : Reply). r .code) (S .0)))
+
+  few-of : (x : ℕ) → Early ≡ x → 0 ≡ write ws (contentOf s) plot value out .code → s .count < 16
+  few-of zero e z = few ws s plot value (ready ws s plot value e)
+  few-of (suc x) e z =
+      let S = write-early (suc x) (sym e) (λ (q : suc x ≡ 0). omega arith) in
+      let k : suc x ≡ write ws (contentOf s) plot value out .code = ap (λ (r : Reply). r .code) (S .0) in
+      absurd (omega arith)
+
+  module _ (w : Written) (e : Entry) (z y : List ℕ) (A : MakePromise ws s plot value out w e z y) where
+    pub wrote-few : (m : ℕ) → w ≡ Words m → s .count < 16
+    unfolding replyOf
+    wrote-few m h = few-of Early refl (ap (λ (r : Reply). r .code) (ap replyOf (sym h) ∙ A .0 .0))
+
+    pub wrote-same : (x : Refusal) → w ≡ NotWritten x → WritePromise ws s plot value out (replyOf w) s z y
+    unfolding withMade
+    wrote-same x h = (A .0 .0, ap (λ (v : Written). withMade s v e) (sym h) ∙ A .0 .1, A .0 .2, A .0 .3)
+
+    pub wrote-more : (m : ℕ) → w ≡ Words m → (t : Session) → t ≡ extendedBy s e → WritePromise ws s plot value out (replyOf w) t z y
+    unfolding withMade
+    wrote-more m h t q = (A .0 .0, q ∙ ap (λ (v : Written). withMade s v e) (sym h) ∙ A .0 .1, A .0 .2, A .0 .3)

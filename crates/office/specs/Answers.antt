@@ -7,6 +7,8 @@ use lib.ListN.{set}
 use Rattle.causal.specs.Sets.{inserted}
 use Rattle.causal.specs.Clocks.{join}
 use Rattle.frame.specs.declared.entry.Entry.{Entry}
+use Rattle.frame.specs.declared.refusal.Written.{Written}
+use Rattle.frame.specs.declared.refusal.Written.the-variants.{NotWritten, Words}
 use Rattle.frame.specs.declared.session.Session.{Session}
 use Rattle.frame.specs.Entries.{idOf, blankEntry}
 use Rattle.frame.specs.Sessions.{Content, contentOf, freshContent}
@@ -43,6 +45,16 @@ notedAllIn O (q ∷ qs) s = notedAllIn O qs (notedIn (current O q) s)
 unfoldable pub extendedBy : Session → Entry → Session
 extendedBy s e =
     record { offices = s .offices; clock = join (s .clock) (e .clock); read = s .read; count = s .count + 1; own = set (s .own) (s .count) e }
+
+-- the entry that a write made; on a refusal a fixed blank
+unfoldable pub madeBy : ℕ → Entry → Entry
+madeBy zero e = e
+madeBy (suc c) e = blankEntry
+
+-- the session that a write leaves, by what it answers and the entry that it made
+unfoldable pub withMade : Session → Written → Entry → Session
+withMade s (Words n) e = extendedBy s e
+withMade s (NotWritten r) e = s
 
 -- ---- the sessions that the calls leave
 

@@ -5,12 +5,14 @@ use Prim.Native.Nat.{ℕ}
 use mathlib.Core.Bool.{Bool}
 use mathlib.Core.List.{List}
 use mathlib.Core.Path.{_≡_}
-use Rattle.frame.specs.Refusals.{Reply}
+use Rattle.frame.specs.Refusals.{Reply, replyOf}
 use Rattle.frame.specs.Sessions.{contentOf, sessionOf}
 use Rattle.frame.specs.declared.entry.Entry.{Entry}
+use Rattle.frame.specs.declared.refusal.Written.{Written}
 use Rattle.frame.specs.declared.session.Session.{Session}
-use Rattle.office.specs.Answers.{anyFound, entryFound, freshBy, readJointSession, readPlotSession, writeSession}
-use Rattle.office.specs.Calls.{freshCode, openOffice, readJoint, readPlot, receive, storeNeed, write}
+use Rattle.store.specs.Offices.{officeOf}
+use Rattle.office.specs.Answers.{anyFound, entryFound, freshBy, madeBy, readJointSession, readPlotSession, withMade, writeSession}
+use Rattle.office.specs.Calls.{freshCode, newEntry, openOffice, readJoint, readPlot, receive, storeNeed, write}
 
 abbrev pub NeedPromise : ℕ → ℕ → ℕ → Reply → Type 0
 NeedPromise n o p reply = reply ≡ record { code = storeNeed n o p .0; words = storeNeed n o p .1 }
@@ -42,6 +44,12 @@ WritePromise ws s plot value row reply s′ ws′ row′ =
     × (s′ ≡ writeSession ws s plot value row)
     × (ws′ ≡ write ws (contentOf s) plot value row .store)
     × (row′ ≡ write ws (contentOf s) plot value row .row)
+
+-- the same, where the entry that was made is handed back in place of the session
+abbrev pub MakePromise : List ℕ → Session → ℕ → ℕ → List ℕ → Written → Entry → List ℕ → List ℕ → Type 0
+MakePromise ws s plot value row written entry ws′ row′ =
+    WritePromise ws s plot value row (replyOf written) (withMade s written entry) ws′ row′
+    × (entry ≡ madeBy (write ws (contentOf s) plot value row .code) (newEntry (officeOf ws) (contentOf s) plot value))
 
 abbrev pub ReceivePromise : List ℕ → List ℕ → List ℕ → Reply → List ℕ → List ℕ → Type 0
 ReceivePromise ws frame row reply ws′ row′ =

@@ -4,7 +4,7 @@ mod entries;
 pub mod forecast;
 pub mod joint;
 pub mod need;
-mod note;
+pub mod note;
 pub mod open;
 pub mod read;
 pub mod receive;

@@ -9,19 +9,36 @@ ghost use Prim.Native.Nat.{_+_, _<_, _≤_};
 ghost use lib.ListN.{length, getD};
 ghost use Rattle.causal.specs.Lists.{part};
 ghost use Rattle.causal.specs.Codes.{check};
-ghost use Rattle.frame.specs.Entries.{idOf};
+ghost use Rattle.frame.specs.Entries.{blankEntry, idOf};
 ghost use Rattle.frame.specs.Sessions.{contentOf};
 ghost use Rattle.store.specs.Offices.{slotAt, officeOf, soundStore};
 ghost use Rattle.store.specs.Slots.{Laid, holdWords};
 ghost use Rattle.office.specs.Calls.{newEntry};
 ghost use Rattle.office.specs.Answers.{extendedBy};
 ghost use Rattle.office.specs.Steps.{ownTo, firstCodes, secondCodes, earlyCode, holdsIn, Slots};
-ghost use Rattle.office.specs.Promises.{WritePromise};
+ghost use Rattle.office.specs.Promises.{MakePromise, WritePromise};
 ghost use Rattle.frame.specs.Refusals.{replyOf};
+ghost use Rattle.frame.specs.declared.refusal.Written.the-variants.{NotWritten};
 
 pub struct Wrote {
     pub written: Written,
     pub session: Session,
+}
+
+// What a write answers, and the entry that it made.
+pub struct Made {
+    pub written: Written,
+    pub entry: Entry, // a blank on a refusal
+}
+
+fn not_made(refusal: Refusal) -> Made
+    ensures { λ r. ⌜ (r .written ≡ NotWritten refusal) × (r .entry ≡ blankEntry) ⌝ }
+{
+    let entry = frame::entry::blank_entry();
+    Made {
+        written: Written::NotWritten(refusal),
+        entry,
+    }
 }
 
 // ---- refusals but for the room, as numbers: 0 is none
@@ -123,7 +140,7 @@ fn hold_all(store: &mut [u32], held: [u32; 8], s: Session, e: Entry)
 }
 
 // The session with the new entry among its own writes.
-fn extended(s: Session, e: Entry) -> Session
+pub fn extended(s: Session, e: Entry) -> Session
     requires { ⌜ s .count < 16 ⌝ }
     ensures { λ r. ⌜ r ≡ extendedBy s e ⌝ }
 {
@@ -138,31 +155,43 @@ fn extended(s: Session, e: Entry) -> Session
     t
 }
 
-// 01: write.
-pub fn write(store: &mut [u32], s: Session, plot: u32, value: u32, out: &mut [u32]) -> Wrote
-    ensures { λ r. ⌜ WritePromise (now (store .entry)) s plot value (now (out .entry)) (replyOf (r .written)) (r .session) (now (store .exit)) (now (out .exit)) ⌝ }
+// write, but for the session: what a write changes of it is told by the entry that it made.
+pub fn make(store: &mut [u32], s: Session, plot: u32, value: u32, out: &mut [u32]) -> Made
+    ensures { λ r. ⌜ MakePromise (now (store .entry)) s plot value (now (out .entry)) (r .written) (r .entry) (now (store .exit)) (now (out .exit)) ⌝ }
 {
     let code = early_code(store, s, plot, value);
     if code != 0 {
-        return Wrote {
-            written: Written::NotWritten(frame::refusal::refusal_of(code)),
-            session: s,
-        };
+        return not_made(frame::refusal::refusal_of(code));
     }
     let e = new_entry(store, s, plot, value);
     let n = store[0];
     let held = store::layout::set_at(store, 3);
     if crate::send::all_words(held, n, s, e) > out.len() {
-        return Wrote {
-            written: Written::NotWritten(Refusal::Room),
-            session: s,
-        };
+        return not_made(Refusal::Room);
     }
     let words = crate::send::put_all(held, n, s, e, out);
     hold_all(&mut *store, held, s, e);
-    let session = extended(s, e);
-    Wrote {
+    Made {
         written: Written::Words(words),
-        session,
+        entry: e,
+    }
+}
+
+// 01: write.
+pub fn write(store: &mut [u32], s: Session, plot: u32, value: u32, out: &mut [u32]) -> Wrote
+    ensures { λ r. ⌜ WritePromise (now (store .entry)) s plot value (now (out .entry)) (replyOf (r .written)) (r .session) (now (store .exit)) (now (out .exit)) ⌝ }
+{
+    let made = make(store, s, plot, value, out);
+    let written = made.written;
+    match written {
+        Written::NotWritten(_) => Wrote {
+            written,
+            session: s,
+        },
+        Written::Words(_) => {
+            let e = made.entry;
+            let session = extended(s, e);
+            Wrote { written, session }
+        }
     }
 }

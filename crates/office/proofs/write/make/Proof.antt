@@ -1,0 +1,202 @@
+use Prim.Native.Nat.{ℕ, _^_, _<_}
+use native.Mathlib.Omega.{arith}
+use mathlib.Core.Path.{_≡_, refl, sym, ap, _∙_}
+use lib.ListN.{length, getD}
+use Rattle.frame.specs.Refusals.{numberOf}
+use Rattle.frame.specs.Sessions.{contentOf}
+use Rattle.frame.specs.declared.refusal.Refusal.the-variants.{Room}
+use Rattle.store.specs.Offices.{officeOf, soundStore}
+use Rattle.office.specs.Answers.{extendedBy}
+use Rattle.store.proofs.Rules.{laid}
+use Rattle.office.proofs.OwnCodes.{early-le}
+use Rattle.office.proofs.Shape.{session-sane}
+use Rattle.office.proofs.Writes.{settings, ready, few, slots, frames, new-slot, new-frame, store-left, row-left, write-early, write-late, write-done, not-made, made-is}
+use borrow.Author.Needs.{needs}
+use Rattle.office.proofs.write.make.Statement.{statement}
+use Rattle.office.proofs.write.make.Tie as tie
+
+-- z: at the start; k: the refusals but for the room are known; t: there is none; e: the new entry is made; h: what is held is known;
+-- w: the words needed are known; u: there is room; p: the frames are put; d: all is held
+
+early-code-requires : tie.Need-early-code-requires
+early-code-requires c κs = search needs
+
+refusal-of-requires : tie.Need-refusal-of-requires
+refusal-of-requires c κs =
+    let k = c .before in
+    let z = k .before .before .before .before in
+    let ws = z .args .store .now in
+    let l = early-le (soundStore ws) (officeOf ws) (contentOf (z .args .s)) (z .args .plot) (z .args .value) in
+    (omega (arith, c .if1 .taken), omega (arith, k .early-code .ensures, l))
+
+not-made-requires : tie.Need-not-made-requires
+not-made-requires c κs = search needs
+
+same-length : tie.Need-same-length
+same-length c = search needs
+
+returns : tie.Need-returns
+returns c =
+    let k = c .before .before .before in
+    let z = k .before .before .before .before in
+    let x = c .before .refusal-of in
+    let w = write-early (z .args .store .now) (z .args .s) (z .args .plot) (z .args .value) (z .args .out .now) _ (k .early-code .ensures) (c .before .before .if1 .taken) in
+    not-made (z .args .store .now) (z .args .s) (z .args .plot) (z .args .value) (z .args .out .now) _ _ (x .result) (c .not-made .ensures .0) (c .not-made .ensures .1)
+    (λ (q : numberOf (x .result) ≡ 0). c .before .before .if1 .taken (sym (x .ensures) ∙ q))
+    (rw (x .ensures) w)
+
+new-entry-requires : tie.Need-new-entry-requires
+new-entry-requires c κs =
+    let t = c .before in
+    let k = t .before in
+    let z = k .before .before .before .before in
+    let s = z .args .s in
+    let ws = z .args .store .now in
+    let none = sym (k .early-code .ensures) ∙ t .if1 .left in
+    let R = ready ws s (z .args .plot) (z .args .value) none in
+    (R .sound, omega (arith, few ws s (z .args .plot) (z .args .value) R))
+
+slice-read-n : tie.Need-slice-read-n
+slice-read-n c =
+    let t = c .before .before .before in
+    let k = t .before in
+    let z = k .before .before .before .before in
+    let s = z .args .s in
+    let ws = z .args .store .now in
+    let none = sym (k .early-code .ensures) ∙ t .if1 .left in
+    let R = ready ws s (z .args .plot) (z .args .value) none in
+    let l : 0 < length ws = omega (arith, laid ws (R .sound) .long) in l
+
+set-at-requires : tie.Need-set-at-requires
+set-at-requires c κs =
+    let t = c .before .before .before .before in
+    let k = t .before in
+    let z = k .before .before .before .before in
+    let s = z .args .s in
+    let ws = z .args .store .now in
+    let none = sym (k .early-code .ensures) ∙ t .if1 .left in
+    let R = ready ws s (z .args .plot) (z .args .value) none in
+    omega (arith, laid ws (R .sound) .long)
+
+all-words-requires : tie.Need-all-words-requires
+all-words-requires c κs =
+    let h = c in
+    let e = h .before .before .before in
+    let t = e .before .before in
+    let k = t .before in
+    let z = k .before .before .before .before in
+    let s = z .args .s in
+    let ws = z .args .store .now in
+    let none = sym (k .early-code .ensures) ∙ t .if1 .left in
+    let R = ready ws s (z .args .plot) (z .args .value) none in
+    (omega (arith, few ws s (z .args .plot) (z .args .value) R), settings ws (R .sound) .low, settings ws (R .sound) .high)
+
+not-made-requires-2 : tie.Need-not-made-requires-2
+not-made-requires-2 c κs = search needs
+
+same-length-2 : tie.Need-same-length-2
+same-length-2 c = search needs
+
+returns-2 : tie.Need-returns-2
+unfolding numberOf
+returns-2 c =
+    let w = c .before .before in
+    let h = w .before in
+    let e = h .before .before .before in
+    let t = e .before .before in
+    let k = t .before in
+    let z = k .before .before .before .before in
+    let s = z .args .s in
+    let ws = z .args .store .now in
+    let none = sym (k .early-code .ensures) ∙ t .if1 .left in
+    let r = row-left ws s (z .args .plot) (z .args .value) (h .set-at .result) (e .new-entry .result) (h .set-at .ensures) (e .new-entry .ensures) in
+    not-made ws s (z .args .plot) (z .args .value) (z .args .out .now) _ _ Room (c .not-made2 .ensures .0) (c .not-made2 .ensures .1) (λ (q : 8 ≡ 0). omega arith)
+    (write-late ws s (z .args .plot) (z .args .value) (z .args .out .now) none (omega (arith, ap length r, w .all-words .ensures, c .before .if2 .taken)))
+
+put-all-requires : tie.Need-put-all-requires
+put-all-requires c κs =
+    let u = c .before in
+    let w = u .before in
+    let h = w .before in
+    let e = h .before .before .before in
+    let t = e .before .before in
+    let k = t .before in
+    let z = k .before .before .before .before in
+    let s = z .args .s in
+    let ws = z .args .store .now in
+    let none = sym (k .early-code .ensures) ∙ t .if1 .left in
+    let R = ready ws s (z .args .plot) (z .args .value) none in
+    let N = session-sane s _ (z .good .1 .0) (omega (arith, few ws s (z .args .plot) (z .args .value) R)) in
+    let fit : (i : ℕ) → getD ws i 0 < 2 ^ 32 = λ i. k .before .before .before .slice-known .given i .fits in
+    let new = new-frame ws s (z .args .plot) (z .args .value) R fit N (e .new-entry .result) (e .new-entry .ensures) in
+    let count = few ws s (z .args .plot) (z .args .value) R in
+    (omega (arith, count), frames ws s (R .sound) (R .session), new, omega (arith, w .all-words .ensures, u .if2 .left))
+
+hold-all-requires : tie.Need-hold-all-requires
+hold-all-requires c κs =
+    let p = c .before .before .before in
+    let h = p .before .before .before .before in
+    let e = h .before .before .before in
+    let t = e .before .before in
+    let k = t .before in
+    let z = k .before .before .before .before in
+    let s = z .args .s in
+    let ws = z .args .store .now in
+    let none = sym (k .early-code .ensures) ∙ t .if1 .left in
+    let R = ready ws s (z .args .plot) (z .args .value) none in
+    let N = session-sane s _ (z .good .1 .0) (omega (arith, few ws s (z .args .plot) (z .args .value) R)) in
+    let fit : (i : ℕ) → getD ws i 0 < 2 ^ 32 = λ i. k .before .before .before .slice-known .given i .fits in
+    let new = new-slot ws s (z .args .plot) (z .args .value) R fit N (e .new-entry .result) (e .new-entry .ensures) in
+    (omega (arith, few ws s (z .args .plot) (z .args .value) R), slots ws s (R .sound) (R .session), new)
+
+same-length-3 : tie.Need-same-length-3
+same-length-3 c = search needs
+
+same-length-4 : tie.Need-same-length-4
+same-length-4 c = search needs
+
+returns-3 : tie.Need-returns-3
+returns-3 c =
+    let d = c .before .before in
+    let p = d .before .before .before .before in
+    let u = p .before .before in
+    let w = u .before in
+    let h = w .before in
+    let e = h .before .before .before in
+    let t = e .before .before in
+    let k = t .before in
+    let z = k .before .before .before .before in
+    let s = z .args .s in
+    let ws = z .args .store .now in
+    let none = sym (k .early-code .ensures) ∙ t .if1 .left in
+    let R = ready ws s (z .args .plot) (z .args .value) none in
+    let N = session-sane s _ (z .good .1 .0) (omega (arith, few ws s (z .args .plot) (z .args .value) R)) in
+    let fit : (i : ℕ) → getD ws i 0 < 2 ^ 32 = λ i. k .before .before .before .slice-known .given i .fits in
+    let held = h .set-at in
+    let new = e .new-entry in
+    let left = d .hold-all .ensures ∙ store-left ws s (z .args .plot) (z .args .value) R fit N (held .result) (new .result) (held .ensures) (new .ensures) in
+    made-is ws s (z .args .plot) (z .args .value) (z .args .out .now) (p .put-all .result) (new .result) _ _ (new .ensures)
+    (write-done ws s (z .args .plot) (z .args .value) (z .args .out .now) none (p .put-all .result) (extendedBy s (new .result)) _ _ (held .result) (new .result) (held .ensures) (new .ensures)
+    (omega (arith, w .all-words .ensures, u .if2 .left)) (p .put-all .ensures .0) refl left (p .put-all .ensures .1))
+
+pub make-spec : {M : Type 1} → statement M
+make-spec =
+    tie.close
+    (tie.spec
+    early-code-requires
+    refusal-of-requires
+    not-made-requires
+    same-length
+    returns
+    new-entry-requires
+    slice-read-n
+    set-at-requires
+    all-words-requires
+    not-made-requires-2
+    same-length-2
+    returns-2
+    put-all-requires
+    hold-all-requires
+    same-length-3
+    same-length-4
+    returns-3)
