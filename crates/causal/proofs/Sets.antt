@@ -17,7 +17,7 @@ use Rattle.causal.specs.Tests.{both, allBelow}
 use Rattle.causal.specs.Lists.{zip8, zeros, sumBelow}
 use Rattle.causal.specs.Sets.{bit, has, isIn, IdSet, unite, minus, inserted, isEmpty, wordIn, subsetOf, sizeOf, Within, lowestIn, lowestOf}
 use Rattle.causal.specs.declared.set.Lowest.the-variants.{At, Empty}
-use Rattle.causal.proofs.Tests.{lt-or-le, eq-or-ne, same-test, both-intro, both-true, all-at, all-intro, split}
+use Rattle.causal.proofs.Tests.{lt-or-le, eq-or-ne, same-test, both-intro, both-true, all-at, all-both, all-intro, split}
 use Rattle.causal.proofs.Lists.{zip8-at, sum-le}
 use Rattle.causal.proofs.Bits.{bit-lt, bit-or, bit-minus, bit-pow, bit-zero-word, bits-ext, same, same-eq, same-ne, tz-below, tz-at, or-is-zero, none-left}
 
@@ -319,6 +319,16 @@ pub eight-tests : (p : ℕ → Bool) (a b c d e f g h : ℕ) → eqb a 0 ≡ p 0
     → isEmpty (a ∷ b ∷ c ∷ d ∷ e ∷ f ∷ g ∷ h ∷ []) ≡ allBelow 8 p
 unfolding isEmpty allBelow both
 eight-tests p a b c d e f g h t0 t1 t2 t3 t4 t5 t6 t7 = λ i. both (both (both (both (both (both (both (t0 i) (t1 i)) (t2 i)) (t3 i)) (t4 i)) (t5 i)) (t6 i)) (t7 i)
+
+-- a union is empty where both sets are
+pub empty-unite : (a b : List ℕ) → isEmpty (unite a b) ≡ both (isEmpty a) (isEmpty b)
+unfolding isEmpty unite
+empty-unite a b =
+    eight-tests (λ i. both (eqb (getD a i 0) 0) (eqb (getD b i 0) 0)) _ _ _ _ _ _ _ _ (zero-at 0) (zero-at 1) (zero-at 2) (zero-at 3) (zero-at 4) (zero-at 5) (zero-at 6) (zero-at 7)
+    ∙ all-both 8 (λ i. eqb (getD a i 0) 0) (λ i. eqb (getD b i 0) 0)
+  where
+    zero-at : (i : ℕ) → eqb (bitOr (getD a i 0) (getD b i 0)) 0 ≡ both (eqb (getD a i 0) 0) (eqb (getD b i 0) 0)
+    zero-at i = or-is-zero (getD a i 0) (getD b i 0)
 
 pub subset-left : (a b : List ℕ) → isEmpty (minus a b) ≡ subsetOf a b
 unfolding minus subsetOf wordIn

@@ -132,3 +132,14 @@ pub all-front : (p : ℕ → Bool) (n : ℕ) → allBelow (suc n) p ≡ both (p 
 unfolding allBelow both
 all-front p zero = sym (both-one (p 0))
 all-front p (suc n) = ap (λ (b : Bool). both b (p (suc n))) (all-front p n) ∙ both-assoc (p 0) (allBelow n (λ i. p (suc i))) (p (suc n))
+
+-- two tests at each number
+pub all-both : (n : ℕ) (p q : ℕ → Bool) → allBelow n (λ i. both (p i) (q i)) ≡ both (allBelow n p) (allBelow n q)
+all-both n p q =
+    same-test _ _
+    (λ h.
+    both-intro _ _ (all-intro p n (λ i l. both-true (p i) (q i) (all-at (λ i. both (p i) (q i)) n h i l) .0))
+    (all-intro q n (λ i l. both-true (p i) (q i) (all-at (λ i. both (p i) (q i)) n h i l) .1)))
+    (λ h.
+    let a = both-true (allBelow n p) (allBelow n q) h in
+    all-intro (λ i. both (p i) (q i)) n (λ i l. both-intro _ _ (all-at p n (a .0) i l) (all-at q n (a .1) i l)))

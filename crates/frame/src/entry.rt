@@ -5,7 +5,7 @@ ghost use Prim.Native.Nat.{_+_, _-_, _*_, _<_, _≤_};
 ghost use lib.Dec.{eqb, leb, ltb};
 ghost use lib.ListN.{getD};
 ghost use Rattle.causal.specs.Tests.{both, either};
-ghost use Rattle.causal.specs.Sets.{isIn};
+ghost use Rattle.causal.specs.Sets.{isEmpty, isIn};
 ghost use Rattle.frame.specs.Entries.{idOf, clockOk, idsOk, boundsOk, entryOk, outranks as outranksOf, blankEntry};
 ghost use Rattle.frame.specs.Frames.{ringOk, frameOk};
 
@@ -52,21 +52,21 @@ fn most(n: usize, j: usize) -> u32
     0
 }
 
-// 0 where place j of a clock may be x, in a ring of n offices.
+// 0 where place j of a clock may be x, in a ring of n offices; else all bits, as a comparison of eight places at once leaves them.
 fn over(n: usize, x: u32, j: usize) -> u32
     ensures { λ r. ⌜ eqb r 0 ≡ cond (ltb j n) (leb x 32) (eqb x 0) ⌝ }
 {
     if x > most(n, j) {
-        return 1;
+        return 0xFFFF_FFFF;
     }
     0
 }
 
-// Numbers of 0 to 32, and zero for offices that the ring has not. All places at once.
-pub fn clock_ok(n: usize, clock: [u32; 8]) -> bool
-    ensures { λ r. ⌜ r ≡ clockOk n clock ⌝ }
+// What is wrong with a clock, place by place: nothing where its numbers are 0 to 32, and zero for offices that the ring has not.
+pub fn overs(n: usize, clock: [u32; 8]) -> [u32; 8]
+    ensures { λ r. ⌜ isEmpty r ≡ clockOk n clock ⌝ }
 {
-    let left = [
+    [
         over(n, clock[0], 0),
         over(n, clock[1], 1),
         over(n, clock[2], 2),
@@ -75,7 +75,14 @@ pub fn clock_ok(n: usize, clock: [u32; 8]) -> bool
         over(n, clock[5], 5),
         over(n, clock[6], 6),
         over(n, clock[7], 7),
-    ];
+    ]
+}
+
+// May a clock be so?
+pub fn clock_ok(n: usize, clock: [u32; 8]) -> bool
+    ensures { λ r. ⌜ r ≡ clockOk n clock ⌝ }
+{
+    let left = overs(n, clock);
     causal::set::is_empty(left)
 }
 

@@ -3,12 +3,12 @@ use crate::layout;
 ghost use mathlib.Core.Path.{_≡_};
 ghost use mathlib.Core.Bool.{true};
 ghost use Prim.Native.Nat.{_+_, _*_, _<_, _≤_};
-ghost use lib.ListN.{length, getD};
+ghost use lib.ListN.{length};
 ghost use Rattle.causal.specs.Tests.{allBelow};
 ghost use Rattle.causal.specs.Sets.{subsetOf};
 ghost use Rattle.store.specs.Offices.{need, slotAt, officeOf, soundOffice, soundStore};
 ghost use Rattle.store.specs.Slots.{Laid, noGap, slotOk};
-ghost use Rattle.store.specs.Deps.{loneOk, wordOk, gatheredIn, gatheredTo};
+ghost use Rattle.store.specs.Deps.{Looks, LooksAll, idsFine, loneOk};
 
 // Are the bits of w that are set the lowest ones?
 fn no_gap(w: u32) -> bool
@@ -17,10 +17,10 @@ fn no_gap(w: u32) -> bool
     w & std::num::wrapping_add_u32(w, 1) == 0
 }
 
-// The rules that the words of one slot say by themselves: the slot of serial b + 1 of office i.
-fn slot_ok(store: &[u32], n: usize, p: u32, i: usize, b: u32) -> bool
+// The rules that single words of a slot say: the slot of serial b + 1 of office i.
+fn slot_ok(store: &[u32], p: u32, i: usize, b: u32) -> bool
     requires { ⌜ (slotAt (32 * i + b) + 18 ≤ length (now store)) × (i < 8) × (b < 32) ⌝ }
-    ensures { λ r. ⌜ r ≡ loneOk (now (store .entry)) n p i b ⌝ }
+    ensures { λ r. ⌜ r ≡ loneOk (now (store .entry)) p i b ⌝ }
 {
     let at = 19 + 18 * (32 * i + b as usize);
     if store[at] >= p {
@@ -32,67 +32,83 @@ fn slot_ok(store: &[u32], n: usize, p: u32, i: usize, b: u32) -> bool
     if store[at + 2 + i] != b + 1 {
         return false;
     }
-    if (store[at + 10 + i] >> b) % 2 != 0 {
+    (store[at + 10 + i] >> b) % 2 == 0
+}
+
+// What the slots of some ids say: whether single words keep the rules; then what is wrong with their clocks, and their deps, each of all
+// together, to be asked once.
+struct Looked {
+    ok: bool,
+    bad: [u32; 8],
+    deps: [u32; 8],
+}
+
+// Of the ids that word i of a set has, w, and those before.
+fn look(store: &[u32], n: usize, p: u32, i: usize, w: u32, before: Looked) -> Looked
+    requires { ⌜ (need i + 576 ≤ length (now store)) × (i < 8) ⌝ }
+    ensures { λ r. ⌜ Looks (now (store .entry)) n p i w (before .bad) (before .deps) r ⌝ }
+{
+    let mut bad = before.bad;
+    let mut deps = before.deps;
+    let mut rest = w;
+    while rest != 0 {
+        let b = u32::trailing_zeros(rest);
+        if !slot_ok(store, p, i, b) {
+            return Looked {
+                ok: false,
+                bad,
+                deps,
+            };
+        }
+        let k = 32 * i + b as usize;
+        let over = frame::entry::overs(n, layout::clock_at(store, k));
+        let worse = causal::set::union(bad, over);
+        let more = causal::set::union(deps, layout::deps_at(store, k));
+        bad = worse;
+        deps = more;
+        rest = rest & (rest - 1);
+    }
+    Looked {
+        ok: true,
+        bad,
+        deps,
+    }
+}
+
+// Of all ids of a set that are of the ring.
+fn look_all(store: &[u32], n: usize, p: u32, ids: [u32; 8]) -> Looked
+    requires { ⌜ (need n ≤ length (now store)) × (n ≤ 8) ⌝ }
+    ensures { λ r. ⌜ LooksAll (now (store .entry)) n p ids r ⌝ }
+{
+    let none = [0u32; 8];
+    let mut looked = Looked {
+        ok: true,
+        bad: none,
+        deps: none,
+    };
+    for i in 0..n {
+        let next = look(store, n, p, i, ids[i], looked);
+        looked = next;
+        if !looked.ok {
+            return looked;
+        }
+    }
+    looked
+}
+
+// Do the slots of a set of ids keep the rules, with their deps in another set?
+fn ids_fine(store: &[u32], n: usize, p: u32, ids: [u32; 8], all: [u32; 8]) -> bool
+    requires { ⌜ (need n ≤ length (now store)) × (n ≤ 8) ⌝ }
+    ensures { λ r. ⌜ r ≡ idsFine (now (store .entry)) n p ids all ⌝ }
+{
+    let looked = look_all(store, n, p, ids);
+    if !looked.ok {
         return false;
     }
-    let clock = layout::set_at(store, at + 2);
-    frame::entry::clock_ok(n, clock)
-}
-
-// The same of the slots of the ids that word i of a set has, w.
-fn word_ok(store: &[u32], n: usize, p: u32, i: usize, w: u32) -> bool
-    requires { ⌜ (need n ≤ length (now store)) × (n ≤ 8) × (i < n) ⌝ }
-    ensures { λ r. ⌜ r ≡ wordOk (now (store .entry)) n p i w ⌝ }
-{
-    let mut rest = w;
-    while rest != 0 {
-        if !slot_ok(store, n, p, i, u32::trailing_zeros(rest)) {
-            return false;
-        }
-        rest = rest & (rest - 1);
-    }
-    true
-}
-
-// The same of all held slots of the ring.
-fn words_ok(store: &[u32], n: usize, p: u32, held: [u32; 8]) -> bool
-    requires { ⌜ (need n ≤ length (now store)) × (n ≤ 8) ⌝ }
-    ensures { λ r. ⌜ r ≡ allBelow n (λ i. wordOk (now (store .entry)) n p i (getD held i 0)) ⌝ }
-{
-    for i in 0..n {
-        if !word_ok(store, n, p, i, held[i]) {
-            return false;
-        }
-    }
-    true
-}
-
-// w is word i of a set: the deps of its ids, and those before.
-fn deps_in(store: &[u32], i: usize, w: u32, before: [u32; 8]) -> [u32; 8]
-    requires { ⌜ (need i + 576 ≤ length (now store)) × (i < 8) ⌝ }
-    ensures { λ r. ⌜ r ≡ gatheredIn (now (store .entry)) i w 32 before ⌝ }
-{
-    let mut all = before;
-    let mut rest = w;
-    while rest != 0 {
-        let k = 32 * i + u32::trailing_zeros(rest) as usize;
-        let deps = layout::deps_at(store, k);
-        let more = causal::set::union(all, deps);
-        all = more;
-        rest = rest & (rest - 1);
-    }
-    all
-}
-
-// Are all deps of the ids of a set in another one? They are gathered, and asked once.
-fn deps_within(store: &[u32], n: usize, ids: [u32; 8], all: [u32; 8]) -> bool
-    requires { ⌜ (need n ≤ length (now store)) × (n ≤ 8) ⌝ }
-    ensures { λ r. ⌜ r ≡ subsetOf (gatheredTo (now (store .entry)) ids (32 * n)) all ⌝ }
-{
-    let mut deps = [0u32; 8];
-    for i in 0..n {
-        let more = deps_in(store, i, ids[i], deps);
-        deps = more;
+    let bad = looked.bad;
+    let deps = looked.deps;
+    if !causal::set::is_empty(bad) {
+        return false;
     }
     causal::set::subset(deps, all)
 }
@@ -107,14 +123,11 @@ fn slots_ok(store: &[u32], n: u32, p: u32, held: [u32; 8], visible: [u32; 8]) ->
     if !frame::entry::ids_ok(ring, held) {
         return false;
     }
-    if !words_ok(store, ring, p, held) {
-        return false;
-    }
-    if !deps_within(store, ring, visible, visible) {
+    if !ids_fine(store, ring, p, visible, visible) {
         return false;
     }
     let hidden = causal::set::without(held, visible);
-    deps_within(store, ring, hidden, held)
+    ids_fine(store, ring, p, hidden, held)
 }
 
 // What is visible is held, the held slots keep the rules, and the own serials have no gap. Nothing held, nothing to ask.

@@ -1,8 +1,6 @@
 use native.Mathlib.Omega.{arith}
-use mathlib.Core.Path.{ap, _∙_}
 use Rattle.causal.specs.Sets.{bit}
 use Rattle.causal.proofs.Chain.{chain}
-use Rattle.frame.specs.Entries.{clockOk}
 use Rattle.store.specs.Deps.{loneOk}
 use borrow.Author.Needs.{needs}
 use Rattle.store.proofs.sound.slot_ok.Statement.{statement}
@@ -62,37 +60,24 @@ returns-3 : tie.Need-returns-3
 unfolding loneOk bit
 returns-3 c = search (chain, arith) depth 9
 
-add-if4 : tie.Need-add-if4
-add-if4 c = search needs
+add-result : tie.Need-add-result
+add-result c = search needs
 
-add-if4-2 : tie.Need-add-if4-2
-add-if4-2 c = search needs
+add-result-2 : tie.Need-add-result-2
+add-result-2 c = search needs
 
-mul-if4 : tie.Need-mul-if4
-mul-if4 c = search needs
+mul-result : tie.Need-mul-result
+mul-result c = search needs
 
-shared-slice-read-if4 : tie.Need-shared-slice-read-if4
-shared-slice-read-if4 c = search needs
+shared-slice-read-result : tie.Need-shared-slice-read-result
+shared-slice-read-result c = search needs
 
-shr-if4 : tie.Need-shr-if4
-shr-if4 c = search needs
+shr-result : tie.Need-shr-result
+shr-result c = search needs
 
 returns-4 : tie.Need-returns-4
 unfolding loneOk bit
 returns-4 c = search (chain, arith) depth 9
-
-add-set-at : tie.Need-add-set-at
-add-set-at c = search needs
-
-set-at-requires : tie.Need-set-at-requires
-set-at-requires c κs = search needs
-
-clock-ok-requires : tie.Need-clock-ok-requires
-clock-ok-requires c κs = search needs
-
-returns-5 : tie.Need-returns-5
-unfolding loneOk bit
-returns-5 c = let h = c .clock-ok .ensures ∙ ap (clockOk _) (c .before .set-at .ensures) in search (chain, arith) depth 9
 
 pub slot-ok-spec : {M : Type 1} → statement M
 slot-ok-spec =
@@ -115,13 +100,9 @@ slot-ok-spec =
     shared-slice-read-if3
     add-if3-3
     returns-3
-    add-if4
-    add-if4-2
-    mul-if4
-    shared-slice-read-if4
-    shr-if4
-    returns-4
-    add-set-at
-    set-at-requires
-    clock-ok-requires
-    returns-5)
+    add-result
+    add-result-2
+    mul-result
+    shared-slice-read-result
+    shr-result
+    returns-4)

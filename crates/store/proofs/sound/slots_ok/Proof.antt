@@ -16,31 +16,23 @@ returns c = let z = c .before .before .before in
     slots-are (z .args .store .now) (λ i. c .before .before .shared-slice-known .given i .fits) (z .args .n) (z .args .p) (z .pre .0) (z .pre .1) (z .args .held) (z .args .visible) (minus (z .args .held) (z .args .visible))
     (id-set (z .args .held) (z .good .1 .1 .1 .0)) (id-set (z .args .visible) (z .good .1 .1 .1 .1 .0)) (z .pre .2) refl _ (search (chain, arith) depth 9)
 
-words-ok-requires : tie.Need-words-ok-requires
-words-ok-requires c κs = search needs
+ids-fine-requires : tie.Need-ids-fine-requires
+ids-fine-requires c κs = search needs
 
 returns-2 : tie.Need-returns-2
 returns-2 c = let z = c .before .before .before .before .before in
     slots-are (z .args .store .now) (λ i. c .before .before .before .before .shared-slice-known .given i .fits) (z .args .n) (z .args .p) (z .pre .0) (z .pre .1) (z .args .held) (z .args .visible) (minus (z .args .held) (z .args .visible))
     (id-set (z .args .held) (z .good .1 .1 .1 .0)) (id-set (z .args .visible) (z .good .1 .1 .1 .1 .0)) (z .pre .2) refl _ (search (chain, arith) depth 9)
 
-deps-within-requires : tie.Need-deps-within-requires
-deps-within-requires c κs = search needs
-
-returns-3 : tie.Need-returns-3
-returns-3 c = let z = c .before .before .before .before .before .before .before in
-    slots-are (z .args .store .now) (λ i. c .before .before .before .before .before .before .shared-slice-known .given i .fits) (z .args .n) (z .args .p) (z .pre .0) (z .pre .1) (z .args .held) (z .args .visible) (minus (z .args .held) (z .args .visible))
-    (id-set (z .args .held) (z .good .1 .1 .1 .0)) (id-set (z .args .visible) (z .good .1 .1 .1 .1 .0)) (z .pre .2) refl _ (search (chain, arith) depth 9)
-
 without-requires : tie.Need-without-requires
 without-requires c κs = search needs
 
-deps-within-requires-2 : tie.Need-deps-within-requires-2
-deps-within-requires-2 c κs = search needs
+ids-fine-requires-2 : tie.Need-ids-fine-requires-2
+ids-fine-requires-2 c κs = search needs
 
-returns-4 : tie.Need-returns-4
-returns-4 c = let z = c .before .before .before .before .before .before .before .before .before in
-    slots-are (z .args .store .now) (λ i. c .before .before .before .before .before .before .before .before .shared-slice-known .given i .fits) (z .args .n) (z .args .p) (z .pre .0) (z .pre .1) (z .args .held) (z .args .visible) (c .before .without .result)
+returns-3 : tie.Need-returns-3
+returns-3 c = let z = c .before .before .before .before .before .before .before in
+    slots-are (z .args .store .now) (λ i. c .before .before .before .before .before .before .shared-slice-known .given i .fits) (z .args .n) (z .args .p) (z .pre .0) (z .pre .1) (z .args .held) (z .args .visible) (c .before .without .result)
     (id-set (z .args .held) (z .good .1 .1 .1 .0)) (id-set (z .args .visible) (z .good .1 .1 .1 .1 .0)) (z .pre .2) (c .before .without .ensures) _ (search (chain, arith) depth 9)
 
 pub slots-ok-spec : {M : Type 1} → statement M
@@ -49,10 +41,8 @@ slots-ok-spec =
     (tie.spec
     ids-ok-requires
     returns
-    words-ok-requires
+    ids-fine-requires
     returns-2
-    deps-within-requires
-    returns-3
     without-requires
-    deps-within-requires-2
-    returns-4)
+    ids-fine-requires-2
+    returns-3)
