@@ -14,7 +14,7 @@ use Rattle.causal.specs.Sets.{isIn, unite, inserted, subsetOf}
 use Rattle.causal.proofs.Lists.{tab-length, tab-at, tab-more}
 use Rattle.frame.specs.declared.entry.Entry.{Entry}
 use Rattle.frame.specs.declared.session.Session.{Session}
-use Rattle.frame.specs.Entries.{idOf, clockOk, idsOk, entryOk, blankEntry}
+use Rattle.frame.specs.Entries.{idOf, clockOk, idsOk, boundsOk, entryOk, blankEntry}
 use Rattle.frame.specs.Sessions.{Content, nobody, contentOf, filled, sessionOf, idsOf, ownTurn, ownOk, headOk, sessionOk}
 use Rattle.frame.proofs.Sessions.{idsWith}
 
@@ -108,3 +108,22 @@ content-back c h =
     tab-at (length (c .own)) (ownsOf (filled (c .own))) i nobody m ∙ List·getD-append (c .own) (replicate (16 - length (c .own)) blankEntry) nobody i m)
     in
     λ i. record { offices = c .offices; clock = c .clock; read = c .read; own = own i }
+
+-- ---- the tests of one own write, in the order in which the code asks them
+
+tests-in-row : (a b c d e x : Bool) → both (both a (both b (both c (both d e)))) x ≡ both a (both b (both c (both d (both e x))))
+unfolding both
+tests-in-row false b c d e x = refl
+tests-in-row true false c d e x = refl
+tests-in-row true true false d e x = refl
+tests-in-row true true true false e x = refl
+tests-in-row true true true true e x = refl
+
+pub own-tests : (n p : ℕ) (read seen : List ℕ) (e : Entry) → ownTurn n p read seen e ≡
+    both (boundsOk n p (e .office) (e .serial) (e .plot) (e .value))
+    (both (eqb (getD (e .clock) (e .office) 0) (e .serial))
+    (both (not (isIn (e .deps) (idOf e)))
+    (both (clockOk n (e .clock))
+    (both (idsOk n (e .deps)) (both (not (isIn seen (idOf e))) (subsetOf (e .deps) (unite read seen)))))))
+unfolding ownTurn entryOk
+own-tests n p read seen e = tests-in-row _ _ _ _ _ _

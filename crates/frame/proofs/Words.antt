@@ -1,5 +1,5 @@
 -- Laws of words: kinds and payloads, the check sum, the words of a clock, the words of a set of ids. Assumes nothing.
-use Prim.Native.Nat.{ℕ, zero, suc, _+_, _*_, _/_, _%_, _<_, _≤_, max, zero-le}
+use Prim.Native.Nat.{ℕ, zero, suc, _+_, _-_, _*_, _/_, _%_, _<_, _≤_, max, zero-le}
 use mathlib.Core.Path.{_≡_, refl, sym, ap, _∙_}
 use mathlib.Core.Bool.{Bool, true, false, cond}
 use mathlib.Core.Logic.{_⊎_, inl, inr, ⊎-elim}
@@ -143,16 +143,26 @@ pub ids-size : (s : List ℕ) → length (idWords s) ≡ sizeOf s
 unfolding idWords sizeOf
 ids-size s = ids-length s 256
 
+-- a member, asked of its office's word
+pub in-word : (s : List ℕ) (j b : ℕ) → b < 32 → isIn s (32 * j + b) ≡ eqb (bit (getD s j 0) b) 1
+unfolding isIn
+in-word s j b h = ap (λ (x : ℕ). eqb x 1) (has-word s j b h)
+
+-- the same by the serial, where a test r of the word was made
+pub in-serial : {r : Bool} (s : List ℕ) (office serial : ℕ) → 1 ≤ serial → serial ≤ 32 → r ≡ eqb (bit (getD s office 0) (serial - 1)) 1
+    → r ≡ isIn s (32 * office + (serial - 1))
+in-serial s office serial l h e = e ∙ sym (in-word s office (serial - 1) (omega arith))
+
 -- the words of word j, and of all words before it
 pub ids-in : (s : List ℕ) (j b : ℕ) → b ≤ 32 → idWordsTo s (32 * j + b) ≡ idWordsTo s (32 * j) ++ idWordsIn j (getD s j 0) b
-unfolding idWordsTo idWordsIn isIn
+unfolding idWordsTo idWordsIn
 ids-in s j zero h = rw add-zero (sym (append-nil (idWordsTo s (32 * j))))
 ids-in s j (suc b) h =
-    let test : isIn s (32 * j + b) ≡ eqb (bit (getD s j 0) b) 1 = ap (λ (x : ℕ). eqb x 1) (has-word s j b (omega arith)) in
     rw add-suc
     (ap (λ (l : List ℕ). l ++ idWordIf (isIn s (32 * j + b)) (32 * j + b)) (ids-in s j b (omega arith))
     ∙ append-assoc (idWordsTo s (32 * j)) (idWordsIn j (getD s j 0) b) (idWordIf (isIn s (32 * j + b)) (32 * j + b))
-    ∙ ap (λ (t : Bool). idWordsTo s (32 * j) ++ (idWordsIn j (getD s j 0) b ++ idWordIf t (32 * j + b))) test)
+    ∙ ap (λ (t : Bool). idWordsTo s (32 * j) ++ (idWordsIn j (getD s j 0) b ++ idWordIf t (32 * j + b)))
+    (in-word s j b (omega arith)))
 
 -- ---- ids against words
 

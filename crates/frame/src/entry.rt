@@ -113,7 +113,8 @@ pub fn ids_ok(n: usize, ids: [u32; 8]) -> bool
     causal::set::is_empty(left)
 }
 
-fn bounds_ok(n: u32, p: u32, office: u32, serial: u32, plot: u32, value: u32) -> bool
+// The bounds of the numbers.
+pub fn bounds_ok(n: u32, p: u32, office: u32, serial: u32, plot: u32, value: u32) -> bool
     ensures { λ r. ⌜ r ≡ boundsOk n p office serial plot value ⌝ }
 {
     if office >= n {

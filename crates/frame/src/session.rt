@@ -1,8 +1,13 @@
 // Sessions (01: errands).
 ghost use mathlib.Core.Path.{_≡_};
-ghost use Prim.Native.Nat.{_≤_};
+ghost use mathlib.Core.Bool.{not};
+ghost use Prim.Native.Nat.{_+_, _-_, _*_, _<_, _≤_};
+ghost use lib.Dec.{eqb};
 ghost use lib.ListN.{getD};
+ghost use Rattle.causal.specs.Tests.{both};
+ghost use Rattle.causal.specs.Sets.{bit, isIn, unite, subsetOf};
 ghost use Rattle.causal.specs.Lists.{tab, zeros};
+ghost use Rattle.frame.specs.Entries.{clockOk, idsOk};
 ghost use Rattle.frame.specs.Sessions.{nobody, contentOf, sessionOf, idsOf, ownTurn, ownOk, headOk, sessionOk, freshContent};
 use crate::entry::Entry;
 
@@ -32,20 +37,69 @@ pub fn blank_session() -> Session
     }
 }
 
+// Is the entry of this serial in its office's word of a set?
+fn in_word(w: u32, serial: u32) -> bool
+    requires { ⌜ (1 ≤ serial) × (serial ≤ 32) ⌝ }
+    ensures { λ r. ⌜ r ≡ eqb (bit w (serial - 1)) 1 ⌝ }
+{
+    (w >> (serial - 1)) % 2 == 1
+}
+
+// The rules of an own write's clock and dependencies, an id that is not among the earlier ones, and no dependency but on what was read or
+// written before. Not by the functions of an entry's rules, which would copy the rows once more.
+fn own_past_ok(
+    n: usize,
+    office: usize,
+    serial: u32,
+    clock: [u32; 8],
+    deps: [u32; 8],
+    read: [u32; 8],
+    seen: [u32; 8],
+) -> bool
+    requires { ⌜ (office < 8) × (1 ≤ serial) × (serial ≤ 32) ⌝ }
+    ensures { λ r. ⌜ r ≡ both (eqb (getD clock office 0) serial) (both (not (isIn deps (32 * office + (serial - 1)))) (both (clockOk n clock) (both (idsOk n deps) (both (not (isIn seen (32 * office + (serial - 1)))) (subsetOf deps (unite read seen)))))) ⌝ }
+{
+    if clock[office] != serial {
+        return false;
+    }
+    if in_word(deps[office], serial) {
+        return false;
+    }
+    if !crate::entry::clock_ok(n, clock) {
+        return false;
+    }
+    if !crate::entry::ids_ok(n, deps) {
+        return false;
+    }
+    if in_word(seen[office], serial) {
+        return false;
+    }
+    let known = causal::set::union(read, seen);
+    causal::set::subset(deps, known)
+}
+
 // One own write: the entry rules, an id that is not among the earlier ones, and no dependency but on what was read or written before.
 fn own_ok(n: u32, p: u32, read: [u32; 8], seen: [u32; 8], e: Entry) -> bool
     ensures { λ r. ⌜ r ≡ ownTurn n p read seen e ⌝ }
 {
-    if !crate::entry::entry_ok(n, p, e) {
+    if !crate::entry::bounds_ok(n, p, e.office, e.serial, e.plot, e.value) {
         return false;
     }
-    let id = crate::entry::id_of(e);
-    if causal::set::contains(seen, id) {
+    // No clock has a number for a ninth office.
+    if e.office > 7 {
         return false;
     }
+    let clock = e.clock;
     let deps = e.deps;
-    let known = causal::set::union(read, seen);
-    causal::set::subset(deps, known)
+    own_past_ok(
+        n as usize,
+        e.office as usize,
+        e.serial,
+        clock,
+        deps,
+        read,
+        seen,
+    )
 }
 
 // The own writes, with the set of the ids seen so far.

@@ -1,48 +1,43 @@
 use native.Mathlib.Omega.{arith}
-use mathlib.Core.Path.{ap, _∙_}
+use mathlib.Core.Path.{_≡_, refl, sym, _∙_}
+use lib.ListN.{length}
+use borrow.Author.Tests.{not-false}
+use Rattle.causal.specs.Tests.{both}
 use Rattle.causal.proofs.Chain.{chain}
-use Rattle.causal.specs.Sets.{isIn, subsetOf}
 use Rattle.frame.specs.Sessions.{ownTurn}
+use Rattle.frame.proofs.Entries.{bounds-facts, far-entry}
+use Rattle.frame.proofs.OwnTurns.{own-tests}
 use borrow.Author.Needs.{needs}
 use Rattle.frame.proofs.session.own_ok.Statement.{statement}
 use Rattle.frame.proofs.session.own_ok.Tie as tie
 
-entry-ok-requires : tie.Need-entry-ok-requires
-entry-ok-requires c κs = search needs
+bounds-ok-requires : tie.Need-bounds-ok-requires
+bounds-ok-requires c κs = search needs
 
 returns : tie.Need-returns
-unfolding ownTurn
-returns c = search (chain, arith) depth 9
-
-id-of-requires : tie.Need-id-of-requires
-id-of-requires c κs = search needs
-
-contains-requires : tie.Need-contains-requires
-contains-requires c κs = search needs
+returns c = let z = c .before .before .args in rw (own-tests (z .n) (z .p) (z .read) (z .seen) (z .e)) (search (chain, arith) depth 9)
 
 returns-2 : tie.Need-returns-2
-unfolding ownTurn
-returns-2 c = let z = c .before .before .before .before .before .args in let h = c .before .contains .ensures ∙ ap (isIn (z .seen)) (c .before .before .id-of .ensures) in search (chain, arith) depth 9
+unfolding ownTurn both
+returns-2 c =
+    let z = c .before .before .before .before .args in
+    let l : length (z .e .clock) ≡ 8 = search needs in
+    rw (far-entry (z .n) (z .p) (z .e) l (omega (arith, c .if2 .taken))) refl
 
-union-requires : tie.Need-union-requires
-union-requires c κs = search needs
+cast-own-past-ok : tie.Need-cast-own-past-ok
+cast-own-past-ok c = search needs
 
-subset-requires : tie.Need-subset-requires
-subset-requires c κs = search needs
+own-past-ok-requires : tie.Need-own-past-ok-requires
+own-past-ok-requires c κs =
+    let z = c .before .before .before .before .before .before .before in
+    let e = z .args .e in
+    let f = bounds-facts (z .args .n) (z .args .p) (e .office) (e .serial) (e .plot) (e .value) (sym (c .before .before .before .before .before .before .bounds-ok .ensures) ∙ not-false _ (c .before .before .before .before .before .if1 .left)) in
+    (omega (arith, c .before .before .before .if2 .left), omega (arith, f), omega (arith, f))
 
 returns-3 : tie.Need-returns-3
-unfolding ownTurn
-returns-3 c = let z = c .before .before .before .before .before .before .before .before .args in let h = c .before .before .before .before .contains .ensures ∙ ap (isIn (z .seen)) (c .before .before .before .before .before .id-of .ensures) in let k = c .subset .ensures ∙ ap (subsetOf (z .e .deps)) (c .before .union .ensures) in search (chain, arith) depth 9
+returns-3 c = let z = c .before .before .before .before .before .before .before .before .args in rw (own-tests (z .n) (z .p) (z .read) (z .seen) (z .e)) (search (chain, arith) depth 9)
 
 pub own-ok-spec : {M : Type 1} → statement M
 own-ok-spec =
     tie.close
-    (tie.spec
-    entry-ok-requires
-    returns
-    id-of-requires
-    contains-requires
-    returns-2
-    union-requires
-    subset-requires
-    returns-3)
+    (tie.spec bounds-ok-requires returns returns-2 cast-own-past-ok own-past-ok-requires returns-3)
