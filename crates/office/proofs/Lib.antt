@@ -11,6 +11,7 @@ pub mod KeptSession
 pub mod Kept
 pub mod NoneOver
 pub mod Numbers
+pub mod Alone
 pub mod Readings
 pub mod JointReads
 pub mod OwnCodes

@@ -23,6 +23,15 @@ use Rattle.office.specs.Calls.{plotsOk, allNoneOver, threeWords}
 use Rattle.office.specs.declared.note.Seen.{Seen}
 use Rattle.office.specs.declared.read.Best.{Best}
 
+-- ---- a session that carries nothing
+
+-- as a struct, whatever stands in its row of entries, and its content
+abbrev pub alone : ℕ → List ℕ → List ℕ → List Entry → Session
+alone n clock read own = record { offices = n; clock = clock; read = read; count = 0; own = own }
+
+abbrev pub bare : ℕ → List ℕ → List ℕ → Content
+bare n clock read = record { offices = n; clock = clock; read = read; own = [] }
+
 -- ---- refusals
 
 unfoldable pub startCode : List ℕ → Content → ℕ

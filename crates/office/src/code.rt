@@ -9,7 +9,7 @@ ghost use Rattle.causal.specs.Sets.{subsetOf};
 ghost use Rattle.frame.specs.Refusals.{codeOf};
 ghost use Rattle.frame.specs.Sessions.{contentOf};
 ghost use Rattle.store.specs.Offices.{soundStore};
-ghost use Rattle.office.specs.Decide.{startCode};
+ghost use Rattle.office.specs.Decide.{bare, startCode};
 
 // The answer of a number.
 pub fn status_of(code: u32) -> Status
@@ -41,6 +41,19 @@ pub fn start_code(store: &[u32], s: Session) -> u32
     }
     let own = s.own;
     if !frame::session::owns_ok(store[0], store[2], read, own, count) {
+        return 3;
+    }
+    0
+}
+
+// start_code of a session that carries nothing, by its fields.
+pub fn alone_code(store: &[u32], offices: u32, clock: [u32; 8], read: [u32; 8]) -> u32
+    ensures { λ r. ⌜ r ≡ startCode (now (store .entry)) (bare offices clock read) ⌝ }
+{
+    if !store::sound::is_sound(store) {
+        return 2;
+    }
+    if !frame::session::head_ok(offices, 0, clock, read, store[0]) {
         return 3;
     }
     0

@@ -4,14 +4,14 @@ use frame::entry::Entry;
 use frame::refusal::Status;
 use frame::session::Session;
 ghost use mathlib.Core.Path.{_≡_};
-ghost use mathlib.Core.List.{_∷_, []};
+ghost use mathlib.Core.List.{List, _∷_, []};
 ghost use Prim.Native.Nat.{_≤_};
 ghost use lib.ListN.{length};
 ghost use Rattle.frame.specs.Refusals.{codeOf};
 ghost use Rattle.frame.specs.Sessions.{contentOf};
 ghost use Rattle.store.specs.Offices.{bestOwn};
 ghost use Rattle.office.specs.Answers.{anyFound, entryFound};
-ghost use Rattle.office.specs.Decide.{readRefusal, foundIn, Reaches, bestFrom, bestAbove, bestTo, notedSeen, seenOf, withSeen};
+ghost use Rattle.office.specs.Decide.{alone, bare, readRefusal, foundIn, Reaches, bestFrom, bestAbove, bestTo, notedSeen, seenOf, withSeen};
 ghost use Rattle.office.specs.Promises.{ReadPromise};
 
 pub struct PlotRead {
@@ -158,6 +158,59 @@ pub fn see_plot(store: &mut [u32], s: Session, plot: u32) -> PlotSeen
     let answer = answer_at(store, s, plot, k);
     store::reveal::show(&mut *store, visible);
     answer
+}
+
+// 2, 3, 4 and 12 for a session that carries nothing.
+fn alone_code(store: &[u32], offices: u32, clock: [u32; 8], read: [u32; 8], plot: u32) -> u32
+    ensures { λ r. ⌜ r ≡ readRefusal (now (store .entry)) (bare offices clock read) plot ⌝ }
+{
+    let start = crate::code::alone_code(store, offices, clock, read);
+    if start != 0 {
+        return start;
+    }
+    if plot >= store[2] {
+        return 4;
+    }
+    if !crate::code::held_all(store, read) {
+        return 12;
+    }
+    0
+}
+
+// see_plot for a session that carries nothing: its fields cross one by one, and its row of entries stays where it is.
+pub fn see_alone(
+    store: &mut [u32],
+    offices: u32,
+    clock: [u32; 8],
+    read: [u32; 8],
+    plot: u32,
+) -> PlotSeen
+    ensures { λ r. ⌜ ((own : List Entry) → ReadPromise (now (store .entry)) (alone offices clock read own) plot (codeOf (r .status)) (r .found) (r .entry) (withSeen (alone offices clock read own) (r .seen)) (now (store .exit))) ⌝ }
+{
+    let code = alone_code(store, offices, clock, read, plot);
+    if code != 0 {
+        let status = crate::code::status_of(code);
+        let entry = frame::entry::blank_entry();
+        return PlotSeen {
+            status,
+            found: false,
+            entry,
+            seen: Seen { clock, read },
+        };
+    }
+    let revealed = store::reveal::revealed_by(store, read);
+    let visible = revealed.visible;
+    let k = crate::note::place_number(store::current::current(store, visible, plot));
+    let best = best_at(store, k);
+    let entry = best.entry;
+    let seen = crate::note::note(store, k, Seen { clock, read });
+    store::reveal::show(&mut *store, visible);
+    PlotSeen {
+        status: Status::Accepted,
+        found: best.found,
+        entry,
+        seen,
+    }
 }
 
 pub fn read_plot(store: &mut [u32], s: Session, plot: u32) -> PlotRead
