@@ -11,10 +11,10 @@ pub mod KeptSession
 pub mod Kept
 pub mod NoneOver
 pub mod Numbers
-pub mod Alone
 pub mod Readings
 pub mod JointReads
 pub mod OwnCodes
+pub mod Alone
 pub mod Sends
 pub mod Forecasts
 pub mod Shape

@@ -50,7 +50,8 @@ pub fn start_code(store: &[u32], s: Session) -> u32
 pub fn alone_code(store: &[u32], offices: u32, clock: [u32; 8], read: [u32; 8]) -> u32
     ensures { λ r. ⌜ r ≡ startCode (now (store .entry)) (bare offices clock read) ⌝ }
 {
-    if !store::sound::is_sound(store) {
+    let sound = store::sound::is_sound(store);
+    if !sound {
         return 2;
     }
     if !frame::session::head_ok(offices, 0, clock, read, store[0]) {

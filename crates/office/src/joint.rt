@@ -5,6 +5,7 @@ use frame::refusal::Status;
 use frame::session::Session;
 ghost use mathlib.Core.Path.{_≡_};
 ghost use mathlib.Core.Bool.{true};
+ghost use mathlib.Core.List.{List};
 ghost use Prim.Native.Nat.{_+_, _*_, _<_, _≤_};
 ghost use lib.Dec.{leb};
 ghost use lib.ListN.{length};
@@ -16,7 +17,7 @@ ghost use Rattle.causal.specs.Sets.{subsetOf};
 ghost use Rattle.frame.specs.Sessions.{contentOf};
 ghost use Rattle.store.specs.Offices.{reveal, soundStore};
 ghost use Rattle.office.specs.Calls.{plotsOk, threeWords};
-ghost use Rattle.office.specs.Decide.{jointStart, jointRefusal, foundIn, Reaches, AllReach, PlacesTo, ownOver, noneOverTo, overAll, foundAmong, wordsTo, seenTo, withSeen, Decides};
+ghost use Rattle.office.specs.Decide.{alone, bare, jointStart, jointRefusal, foundIn, Reaches, AllReach, PlacesTo, ownOver, noneOverTo, overAll, foundAmong, wordsTo, seenTo, withSeen, Decides};
 ghost use Rattle.office.specs.Promises.{JointPromise};
 ghost use Rattle.frame.specs.Refusals.{codeOf};
 
@@ -239,6 +240,97 @@ pub fn see_joint(store: &mut [u32], s: Session, plots: &[u32], answer: &mut [u32
     JointSeen {
         status: Status::Accepted,
         seen,
+    }
+}
+
+// ---- the same for a session that carries nothing: its fields cross one by one, and its row of entries stays where it is
+
+fn alone_start(
+    store: &[u32],
+    offices: u32,
+    clock: [u32; 8],
+    read: [u32; 8],
+    plots: &[u32],
+    room: usize,
+) -> u32
+    ensures { λ r. ⌜ r ≡ jointStart (now (store .entry)) (bare offices clock read) (now (plots .entry)) room ⌝ }
+{
+    let start = crate::code::alone_code(store, offices, clock, read);
+    if start != 0 {
+        return start;
+    }
+    if !plots_ok(plots, store[2]) {
+        return 4;
+    }
+    if room < 3 * plots.len() {
+        return 8;
+    }
+    if !crate::code::held_all(store, read) {
+        return 12;
+    }
+    0
+}
+
+// No own write is over what is current: there is none.
+fn decide_alone(
+    store: &[u32],
+    offices: u32,
+    clock: [u32; 8],
+    read: [u32; 8],
+    plots: &[u32],
+    room: usize,
+) -> Decided
+    ensures { λ r. ⌜ (r .code ≡ jointRefusal (now (store .entry)) (bare offices clock read) (now (plots .entry)) room)
+        × (r .code ≡ 0 → Decides (now (store .entry)) read (now (plots .entry)) (r .visible) (r .places)) ⌝ }
+{
+    let code = alone_start(store, offices, clock, read, plots, room);
+    if code != 0 {
+        let visible = [0u32; 8];
+        let places = [256usize; 16];
+        return Decided {
+            code,
+            visible,
+            places,
+        };
+    }
+    let revealed = store::reveal::revealed_by(store, read);
+    let visible = revealed.visible;
+    let places = places_of(store, visible, plots);
+    Decided {
+        code: 0,
+        visible,
+        places,
+    }
+}
+
+pub fn see_joint_alone(
+    store: &mut [u32],
+    offices: u32,
+    clock: [u32; 8],
+    read: [u32; 8],
+    plots: &[u32],
+    answer: &mut [u32],
+) -> JointSeen
+    ensures { λ r. ⌜ ((own : List Entry) → JointPromise (now (store .entry)) (alone offices clock read own) (now (plots .entry)) (now (answer .entry)) (codeOf (r .status)) (withSeen (alone offices clock read own) (r .seen)) (now (store .exit)) (now (answer .exit))) ⌝ }
+{
+    let decided = decide_alone(store, offices, clock, read, plots, answer.len());
+    let code = decided.code;
+    let first = Seen { clock, read };
+    if code != 0 {
+        let status = crate::code::status_of(code);
+        return JointSeen {
+            status,
+            seen: first,
+        };
+    }
+    let visible = decided.visible;
+    let places = decided.places;
+    put_answers(store, places, plots.len(), &mut *answer);
+    let noted = note_all(store, places, plots.len(), first);
+    store::reveal::show(&mut *store, visible);
+    JointSeen {
+        status: Status::Accepted,
+        seen: noted,
     }
 }
 

@@ -198,16 +198,17 @@ pub fn see_alone(
             seen: Seen { clock, read },
         };
     }
-    let revealed = store::reveal::revealed_by(store, read);
-    let visible = revealed.visible;
-    let k = crate::note::place_number(store::current::current(store, visible, plot));
+    let shown = store::reveal::revealed_by(store, read);
+    let all = shown.visible;
+    let k = crate::note::place_number(store::current::current(store, all, plot));
     let best = best_at(store, k);
+    let found = best.found;
     let entry = best.entry;
     let seen = crate::note::note(store, k, Seen { clock, read });
-    store::reveal::show(&mut *store, visible);
+    store::reveal::show(&mut *store, all);
     PlotSeen {
         status: Status::Accepted,
-        found: best.found,
+        found,
         entry,
         seen,
     }

@@ -65,6 +65,14 @@ pub fn all_words(held: [u32; 8], n: u32, s: Session, e: Entry) -> usize
     own_words(held, n, own, count) + last
 }
 
+// The words of the new entry's frame alone.
+pub fn words_alone(n: u32, e: Entry) -> usize
+    requires { ⌜ (2 ≤ n) × (n ≤ 8) ⌝ }
+    ensures { λ r. ⌜ r ≡ length (frameWords (startedOf n e)) ⌝ }
+{
+    frame::writer::words_of(started(n, e))
+}
+
 // ---- the words
 
 // One frame, from `at` on: the rest of out is lent to the frame writer. Gives the place behind it.
@@ -115,4 +123,12 @@ pub fn put_all(held: [u32; 8], n: u32, s: Session, e: Entry, out: &mut [u32]) ->
     let own = s.own;
     let at = put_own(held, n, own, count, &mut *out);
     put_frame(last, &mut *out, at)
+}
+
+// The new entry's frame alone.
+pub fn put_alone(n: u32, e: Entry, out: &mut [u32]) -> usize
+    requires { ⌜ (frameOk n 64 (startedOf n e) ≡ true) × (length (frameWords (startedOf n e)) ≤ length (now out)) ⌝ }
+    ensures { λ r. ⌜ (r ≡ length (frameWords (startedOf n e))) × (now (out .exit) ≡ laid (frameWords (startedOf n e)) (now (out .entry))) ⌝ }
+{
+    put_frame(started(n, e), &mut *out, 0)
 }

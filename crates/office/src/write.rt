@@ -5,17 +5,19 @@ use frame::refusal::Written;
 use frame::session::Session;
 ghost use mathlib.Core.Path.{_≡_};
 ghost use mathlib.Core.Bool.{true};
+ghost use mathlib.Core.List.{List};
 ghost use Prim.Native.Nat.{_+_, _<_, _≤_};
 ghost use lib.ListN.{length, getD};
 ghost use Rattle.causal.specs.Lists.{part};
 ghost use Rattle.causal.specs.Codes.{check};
 ghost use Rattle.frame.specs.Entries.{blankEntry, idOf};
-ghost use Rattle.frame.specs.Sessions.{contentOf};
+ghost use Rattle.frame.specs.Sessions.{Content, contentOf, idsOf};
 ghost use Rattle.store.specs.Offices.{slotAt, officeOf, soundStore};
 ghost use Rattle.store.specs.Slots.{Laid, holdWords};
 ghost use Rattle.office.specs.Calls.{newEntry};
 ghost use Rattle.office.specs.Answers.{extendedBy};
 ghost use Rattle.office.specs.Steps.{ownTo, firstCodes, secondCodes, earlyCode, holdsIn, Slots};
+ghost use Rattle.office.specs.Decide.{alone, bare};
 ghost use Rattle.office.specs.Promises.{MakePromise, WritePromise};
 ghost use Rattle.frame.specs.Refusals.{replyOf};
 ghost use Rattle.frame.specs.declared.refusal.Written.the-variants.{NotWritten};
@@ -100,19 +102,24 @@ pub fn early_code(store: &[u32], s: Session, plot: u32, value: u32) -> u32
 
 // ---- what a write makes and leaves: own writes are not looked at where there are none
 
-fn new_entry(store: &[u32], s: Session, plot: u32, value: u32) -> Entry
-    requires { ⌜ (soundStore (now store) ≡ true) × (s .count ≤ 16) ⌝ }
-    ensures { λ r. ⌜ r ≡ newEntry (officeOf (now (store .entry))) (contentOf s) plot value ⌝ }
+// From the clock, the read ids and the ids of own writes of a session.
+fn entry_by(
+    store: &[u32],
+    known: [u32; 8],
+    read: [u32; 8],
+    own: [u32; 8],
+    plot: u32,
+    value: u32,
+) -> Entry
+    requires { ⌜ soundStore (now store) ≡ true ⌝ }
+    ensures { λ r. ⌜ ((s : Content) → s .clock ≡ known → s .read ≡ read → idsOf (s .own) ≡ own → r ≡ newEntry (officeOf (now (store .entry))) s plot value) ⌝ }
 {
     let office = store[1];
     let serial = store::clock::made(store) + 1;
     let seen = store::clock::office_clock(store);
-    let known = s.clock;
     let joined = causal::clock::join(seen, known);
     let mut clock = joined;
     clock[office as usize] = serial;
-    let read = s.read;
-    let own = frame::session::own_ids(s);
     let deps = causal::set::union(read, own);
     Entry {
         office,
@@ -122,6 +129,16 @@ fn new_entry(store: &[u32], s: Session, plot: u32, value: u32) -> Entry
         clock,
         deps,
     }
+}
+
+fn new_entry(store: &[u32], s: Session, plot: u32, value: u32) -> Entry
+    requires { ⌜ (soundStore (now store) ≡ true) × (s .count ≤ 16) ⌝ }
+    ensures { λ r. ⌜ r ≡ newEntry (officeOf (now (store .entry))) (contentOf s) plot value ⌝ }
+{
+    let known = s.clock;
+    let read = s.read;
+    let own = frame::session::own_ids(s);
+    entry_by(store, known, read, own, plot, value)
 }
 
 // The own writes that are not held, then the new entry.
@@ -173,6 +190,78 @@ pub fn make(store: &mut [u32], s: Session, plot: u32, value: u32, out: &mut [u32
     hold_all(&mut *store, held, s, e);
     Made {
         written: Written::Words(words),
+        entry: e,
+    }
+}
+
+// ---- the same for a session that carries nothing: its fields cross one by one, and its row of entries stays where it is
+
+fn alone_first(
+    store: &[u32],
+    offices: u32,
+    clock: [u32; 8],
+    read: [u32; 8],
+    plot: u32,
+    value: u32,
+) -> u32
+    ensures { λ r. ⌜ r ≡ check (soundStore (now (store .entry))) 2 (firstCodes (getD (now (store .entry)) 0 0) (getD (now (store .entry)) 2 0) (bare offices clock read) plot value) ⌝ }
+{
+    let start = crate::code::alone_code(store, offices, clock, read);
+    if start != 0 {
+        return start;
+    }
+    if plot >= store[2] {
+        return 4;
+    }
+    if value >= 0x1000_0000 {
+        return 5;
+    }
+    0
+}
+
+fn alone_early(
+    store: &[u32],
+    offices: u32,
+    clock: [u32; 8],
+    read: [u32; 8],
+    plot: u32,
+    value: u32,
+) -> u32
+    ensures { λ r. ⌜ r ≡ check (soundStore (now (store .entry))) 2 (earlyCode (officeOf (now (store .entry))) (bare offices clock read) plot value) ⌝ }
+{
+    let first = alone_first(store, offices, clock, read, plot, value);
+    if first != 0 {
+        return first;
+    }
+    let held = store::layout::set_at(store, 3);
+    second_codes(store, held, 0, read)
+}
+
+pub fn make_alone(
+    store: &mut [u32],
+    offices: u32,
+    clock: [u32; 8],
+    read: [u32; 8],
+    plot: u32,
+    value: u32,
+    out: &mut [u32],
+) -> Made
+    ensures { λ r. ⌜ ((own : List Entry) → MakePromise (now (store .entry)) (alone offices clock read own) plot value (now (out .entry)) (r .written) (r .entry) (now (store .exit)) (now (out .exit))) ⌝ }
+{
+    let code = alone_early(store, offices, clock, read, plot, value);
+    if code != 0 {
+        return not_made(frame::refusal::refusal_of(code));
+    }
+    let none = [0u32; 8];
+    let e = entry_by(store, clock, read, none, plot, value);
+    let n = store[0];
+    if crate::send::words_alone(n, e) > out.len() {
+        return not_made(Refusal::Room);
+    }
+    let sent = crate::send::put_alone(n, e, out);
+    store::hold::hold(&mut *store, e);
+    Made {
+        written: Written::Words(sent),
         entry: e,
     }
 }
