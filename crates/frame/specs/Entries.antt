@@ -25,6 +25,10 @@ clockPlaceOk n c j = cond (ltb j n) (leb (getD c j 0) 32) (eqb (getD c j 0) 0)
 unfoldable pub clockOk : ℕ → List ℕ → Bool
 clockOk n c = allBelow 8 (clockPlaceOk n c)
 
+-- no number of a clock is over its bound
+unfoldable pub underOk : List ℕ → List ℕ → Bool
+underOk most c = allBelow 8 (λ j. leb (getD c j 0) (getD most j 0))
+
 -- names in range: none of an office that the ring has not
 unfoldable pub idsPlaceOk : ℕ → List ℕ → ℕ → Bool
 idsPlaceOk n s j = either (ltb j n) (eqb (getD s j 0) 0)

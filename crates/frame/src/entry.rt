@@ -1,12 +1,13 @@
 // Entries, frames that carry them round the ring, and the rules they keep.
 ghost use mathlib.Core.Path.{_≡_};
 ghost use mathlib.Core.Bool.{cond, not};
-ghost use Prim.Native.Nat.{_+_, _-_, _*_, _<_, _≤_};
+ghost use mathlib.Core.List.{List};
+ghost use Prim.Native.Nat.{ℕ, _+_, _-_, _*_, _<_, _≤_};
 ghost use lib.Dec.{eqb, leb, ltb};
 ghost use lib.ListN.{getD};
 ghost use Rattle.causal.specs.Tests.{both, either};
 ghost use Rattle.causal.specs.Sets.{isEmpty, isIn};
-ghost use Rattle.frame.specs.Entries.{idOf, clockOk, idsOk, boundsOk, entryOk, outranks as outranksOf, blankEntry};
+ghost use Rattle.frame.specs.Entries.{idOf, clockOk, underOk, idsOk, boundsOk, entryOk, outranks as outranksOf, blankEntry};
 ghost use Rattle.frame.specs.Frames.{ringOk, frameOk};
 
 #[repr(C)]
@@ -52,37 +53,54 @@ fn most(n: usize, j: usize) -> u32
     0
 }
 
-// 0 where place j of a clock may be x, in a ring of n offices; else all bits, as a comparison of eight places at once leaves them.
-fn over(n: usize, x: u32, j: usize) -> u32
-    ensures { λ r. ⌜ eqb r 0 ≡ cond (ltb j n) (leb x 32) (eqb x 0) ⌝ }
+// The greatest numbers that a clock may have, place by place.
+pub fn mosts(n: usize) -> [u32; 8]
+    ensures { λ r. ⌜ ((clock : List ℕ) → underOk r clock ≡ clockOk n clock) ⌝ }
 {
-    if x > most(n, j) {
+    [
+        most(n, 0),
+        most(n, 1),
+        most(n, 2),
+        most(n, 3),
+        most(n, 4),
+        most(n, 5),
+        most(n, 6),
+        most(n, 7),
+    ]
+}
+
+// 0 where x is not over a bound; else all bits, as a comparison of eight places at once leaves them.
+fn over(x: u32, most: u32) -> u32
+    ensures { λ r. ⌜ eqb r 0 ≡ leb x most ⌝ }
+{
+    if x > most {
         return 0xFFFF_FFFF;
     }
     0
 }
 
-// What is wrong with a clock, place by place: nothing where its numbers are 0 to 32, and zero for offices that the ring has not.
-pub fn overs(n: usize, clock: [u32; 8]) -> [u32; 8]
-    ensures { λ r. ⌜ isEmpty r ≡ clockOk n clock ⌝ }
+// What is over its bound, place by place. Bounds in a row of their own, so that all places are compared at once.
+pub fn overs(most: [u32; 8], clock: [u32; 8]) -> [u32; 8]
+    ensures { λ r. ⌜ isEmpty r ≡ underOk most clock ⌝ }
 {
     [
-        over(n, clock[0], 0),
-        over(n, clock[1], 1),
-        over(n, clock[2], 2),
-        over(n, clock[3], 3),
-        over(n, clock[4], 4),
-        over(n, clock[5], 5),
-        over(n, clock[6], 6),
-        over(n, clock[7], 7),
+        over(clock[0], most[0]),
+        over(clock[1], most[1]),
+        over(clock[2], most[2]),
+        over(clock[3], most[3]),
+        over(clock[4], most[4]),
+        over(clock[5], most[5]),
+        over(clock[6], most[6]),
+        over(clock[7], most[7]),
     ]
 }
 
-// May a clock be so?
+// Numbers of 0 to 32, and zero for offices that the ring has not.
 pub fn clock_ok(n: usize, clock: [u32; 8]) -> bool
     ensures { λ r. ⌜ r ≡ clockOk n clock ⌝ }
 {
-    let left = overs(n, clock);
+    let most = mosts(n);
+    let left = overs(most, clock);
     causal::set::is_empty(left)
 }
 

@@ -14,7 +14,7 @@ use borrow.Author.Tests.{eq-eqb, eqb-true, lt-ltb, ltb-true, not-true, not-false
 use Rattle.causal.specs.Tests.{both, implies, allBelow}
 use Rattle.causal.specs.Lists.{part, zeros}
 use Rattle.causal.specs.Sets.{bit, has, isEmpty, isIn, IdSet, unite, minus, subsetOf}
-use Rattle.causal.proofs.Tests.{false-true, same-test, both-assoc, both-one, both-intro, both-true, all-none, all-more, all-fails, all-at, all-intro, implies-elim, implies-intro}
+use Rattle.causal.proofs.Tests.{false-true, same-test, both-assoc, both-one, both-intro, both-true, all-none, all-more, all-fails, all-at, all-ext, all-intro, implies-elim, implies-intro}
 use Rattle.causal.proofs.Lists.{part-at}
 use Rattle.causal.proofs.Sets.{empty-unite, has-in, has-lt, has-minus, has-zeros, in-is, in-or-out, is-in, is-out, out-is, ids-unite, ids-zeros, subset-by, subset-within, unite-subset}
 use Rattle.causal.proofs.Walk.{Passed, Next, fold-next, fold-end, has-word}
@@ -82,20 +82,20 @@ module _ (ws : List ℕ) (i w : ℕ) (before : List ℕ) where
 
 -- ---- the clocks of one word of a set, and all that a look at it says
 
-module _ (ws : List ℕ) (n p i w : ℕ) (first before : List ℕ) where
+module _ (ws : List ℕ) (may : List ℕ → Bool) (p i w : ℕ) (first before : List ℕ) where
   clocks-more : (b rest t : ℕ) (bad clock over worse : List ℕ) → Next w b rest t
-      → isEmpty bad ≡ both (isEmpty first) (allBelow b (At w (clockAt ws n i)))
-      → clock ≡ entryAt ws (32 * i + t) .clock → isEmpty over ≡ clockOk n clock → worse ≡ unite bad over
-      → isEmpty worse ≡ both (isEmpty first) (allBelow (t + 1) (At w (clockAt ws n i)))
+      → isEmpty bad ≡ both (isEmpty first) (allBelow b (At w (clockAt ws may i)))
+      → clock ≡ entryAt ws (32 * i + t) .clock → isEmpty over ≡ may clock → worse ≡ unite bad over
+      → isEmpty worse ≡ both (isEmpty first) (allBelow (t + 1) (At w (clockAt ws may i)))
   clocks-more b rest t bad clock over worse x e k o q =
-      ap isEmpty q ∙ empty-unite bad over ∙ ap₂ both e (o ∙ ap (clockOk n) k)
-      ∙ both-assoc (isEmpty first) (allBelow b (At w (clockAt ws n i))) (clockAt ws n i t)
-      ∙ ap (both (isEmpty first)) (sym (bits-more w (clockAt ws n i) b rest t x))
+      ap isEmpty q ∙ empty-unite bad over ∙ ap₂ both e (o ∙ ap may k)
+      ∙ both-assoc (isEmpty first) (allBelow b (At w (clockAt ws may i))) (clockAt ws may i t)
+      ∙ ap (both (isEmpty first)) (sym (bits-more w (clockAt ws may i) b rest t x))
 
   -- what is known of the bits below b
   pub record Below (b : ℕ) (bad deps : List ℕ) : Type 0 where
     pub lone : allBelow b (At w (loneOk ws p i)) ≡ true
-    pub clocks : isEmpty bad ≡ both (isEmpty first) (allBelow b (At w (clockAt ws n i)))
+    pub clocks : isEmpty bad ≡ both (isEmpty first) (allBelow b (At w (clockAt ws may i)))
     pub gathered : deps ≡ gatheredIn ws i w b before
 
   pub look-none : Below 0 first before
@@ -104,7 +104,7 @@ module _ (ws : List ℕ) (n p i w : ℕ) (first before : List ℕ) where
       record { lone = all-none _; clocks = sym (ap (both (isEmpty first)) (all-none _) ∙ both-one _); gathered = refl }
 
   pub look-more : (b rest t : ℕ) (bad deps : List ℕ) → Next w b rest t → Below b bad deps → (r : Bool) → r ≡ loneOk ws p i t → not r ≡ false
-      → (clock over worse : List ℕ) → clock ≡ entryAt ws (32 * i + t) .clock → isEmpty over ≡ clockOk n clock → worse ≡ unite bad over
+      → (clock over worse : List ℕ) → clock ≡ entryAt ws (32 * i + t) .clock → isEmpty over ≡ may clock → worse ≡ unite bad over
       → (d more : List ℕ) → d ≡ entryAt ws (32 * i + t) .deps → more ≡ unite deps d → Below (t + 1) worse more
   look-more b rest t bad deps x B r e f clock over worse k o q d more y z =
       record {
@@ -114,7 +114,7 @@ module _ (ws : List ℕ) (n p i w : ℕ) (first before : List ℕ) where
       }
 
   pub look-fails : (b rest t : ℕ) (bad deps : List ℕ) → Next w b rest t → (r : Bool) → r ≡ loneOk ws p i t → not r ≡ true
-      → Looks ws n p i w first before (record { ok = false; bad = bad; deps = deps })
+      → Looks ws may p i w first before (record { ok = false; bad = bad; deps = deps })
   look-fails b rest t bad deps x r e f =
       record {
         lone = bits-fail w (loneOk ws p i) b rest t x (sym e ∙ not-true r f);
@@ -123,11 +123,11 @@ module _ (ws : List ℕ) (n p i w : ℕ) (first before : List ℕ) where
       }
 
   pub look-done : (b rest : ℕ) (bad deps : List ℕ) → Passed w b rest → rest ≡ 0 → Below b bad deps
-      → Looks ws n p i w first before (record { ok = true; bad = bad; deps = deps })
+      → Looks ws may p i w first before (record { ok = true; bad = bad; deps = deps })
   look-done b rest bad deps x z B =
       record {
         lone = sym (bits-done w (loneOk ws p i) b rest x z ∙ B .lone);
-        clocks = λ h. B .clocks ∙ ap (both (isEmpty first)) (sym (bits-done w (clockAt ws n i) b rest x z));
+        clocks = λ h. B .clocks ∙ ap (both (isEmpty first)) (sym (bits-done w (clockAt ws may i) b rest x z));
         gathered = λ h. deps-done ws i w before b rest deps x z (B .gathered);
       }
 
@@ -152,30 +152,30 @@ module _ (ws v : List ℕ) where
   deps-none = refl
 
 -- what is known of the first i words
-module _ (ws : List ℕ) (n p : ℕ) (ids : List ℕ) where
+module _ (ws : List ℕ) (may : List ℕ → Bool) (n p : ℕ) (ids : List ℕ) where
   pub record Upto (i : ℕ) (r : Looked) : Type 0 where
     pub fine : r .ok ≡ true
     pub lone : allBelow i (λ j. ofWord (getD ids j 0) (loneOk ws p j)) ≡ true
-    pub clocks : isEmpty (r .bad) ≡ allBelow i (λ j. ofWord (getD ids j 0) (clockAt ws n j))
+    pub clocks : isEmpty (r .bad) ≡ allBelow i (λ j. ofWord (getD ids j 0) (clockAt ws may j))
     pub gathered : r .deps ≡ gatheredTo ws ids (32 * i)
 
   pub words-none : Upto 0 (record { ok = true; bad = zeros; deps = zeros })
   unfolding isEmpty allBelow both
   words-none = record { fine = refl; lone = refl; clocks = refl; gathered = deps-none ws ids }
 
-  pub words-more : (i : ℕ) (b r : Looked) → Upto i b → Looks ws n p i (getD ids i 0) (b .bad) (b .deps) r → r .ok ≡ true → Upto (i + 1) r
+  pub words-more : (i : ℕ) (b r : Looked) → Upto i b → Looks ws may p i (getD ids i 0) (b .bad) (b .deps) r → r .ok ≡ true → Upto (i + 1) r
   unfolding allBelow
   words-more i b r B L h =
       record {
         fine = h;
         lone = all-more (λ j. ofWord (getD ids j 0) (loneOk ws p j)) i (B .lone) (sym (L .lone) ∙ h);
         clocks =
-            L .clocks h ∙ ap (λ (x : Bool). both x (ofWord (getD ids i 0) (clockAt ws n i))) (B .clocks)
-            ∙ ap (λ (j : ℕ). allBelow j (λ j. ofWord (getD ids j 0) (clockAt ws n j))) (sym (add-one i));
+            L .clocks h ∙ ap (λ (x : Bool). both x (ofWord (getD ids i 0) (clockAt ws may i))) (B .clocks)
+            ∙ ap (λ (j : ℕ). allBelow j (λ j. ofWord (getD ids j 0) (clockAt ws may j))) (sym (add-one i));
         gathered = deps-next ws ids i (b .deps) (r .deps) (B .gathered) (L .gathered h);
       }
 
-  pub words-fail : (i : ℕ) (b r : Looked) → i < n → Looks ws n p i (getD ids i 0) (b .bad) (b .deps) r → not (r .ok) ≡ true → LooksAll ws n p ids r
+  pub words-fail : (i : ℕ) (b r : Looked) → i < n → Looks ws may p i (getD ids i 0) (b .bad) (b .deps) r → not (r .ok) ≡ true → LooksAll ws may n p ids r
   unfolding ofWords
   words-fail i b r l L h =
       let no = not-true (r .ok) h in
@@ -185,22 +185,35 @@ module _ (ws : List ℕ) (n p : ℕ) (ids : List ℕ) where
         gathered = λ e. false-true (sym no ∙ e);
       }
 
-  pub words-done : (i : ℕ) (r : Looked) → Upto i r → i ≤ n → n ≤ i → LooksAll ws n p ids r
+  pub words-done : (i : ℕ) (r : Looked) → Upto i r → i ≤ n → n ≤ i → LooksAll ws may n p ids r
   unfolding ofWords
   words-done i r B l m =
       let q : i ≡ n = omega arith in
       record {
         lone = B .fine ∙ sym (ap (λ (j : ℕ). allBelow j (λ j. ofWord (getD ids j 0) (loneOk ws p j))) (sym q) ∙ B .lone);
-        clocks = λ h. B .clocks ∙ ap (λ (j : ℕ). allBelow j (λ j. ofWord (getD ids j 0) (clockAt ws n j))) q;
+        clocks = λ h. B .clocks ∙ ap (λ (j : ℕ). allBelow j (λ j. ofWord (getD ids j 0) (clockAt ws may j))) q;
         gathered = λ h. B .gathered ∙ ap (λ (j : ℕ). gatheredTo ws ids (32 * j)) q;
       }
 
+  -- by a test that says the same of every clock
+  pub looks-as : (say : List ℕ → Bool) → ((c : List ℕ) → may c ≡ say c) → (r : Looked) → LooksAll ws may n p ids r → LooksAll ws say n p ids r
+  unfolding ofWords ofWord
+  looks-as say same r L =
+      record {
+        lone = L .lone;
+        clocks =
+            λ h. L .clocks h
+            ∙ all-ext _ _ n (λ i l. all-ext _ _ 32 (λ b m. ap (implies (eqb (bit (getD ids i 0) b) 1)) (same (entryAt ws (32 * i + b) .clock))));
+        gathered = L .gathered;
+      }
+
+module _ (ws : List ℕ) (n p : ℕ) (ids : List ℕ) where
   -- asked of all at once
-  module _ (all : List ℕ) (r : Looked) (L : LooksAll ws n p ids r) where
+  module _ (all : List ℕ) (r : Looked) (L : LooksAll ws (clockOk n) n p ids r) where
     pub not-lone : not (r .ok) ≡ true → false ≡ idsFine ws n p ids all
     unfolding idsFine both
     not-lone h =
-        ap (λ (b : Bool). both b (both (ofWords n ids (clockAt ws n)) (subsetOf (gatheredTo ws ids (32 * n)) all))) (sym (not-true (r .ok) h) ∙ L .lone)
+        ap (λ (b : Bool). both b (both (ofWords n ids (clockAt ws (clockOk n))) (subsetOf (gatheredTo ws ids (32 * n)) all))) (sym (not-true (r .ok) h) ∙ L .lone)
 
     pub not-clocks : not (r .ok) ≡ false → (e : Bool) → e ≡ isEmpty (r .bad) → not e ≡ true → false ≡ idsFine ws n p ids all
     unfolding idsFine both
@@ -266,7 +279,7 @@ module _ (ws : List ℕ) (fit : (i : ℕ) → getD ws i 0 < 2 ^ 32) (n : ℕ) (l
 
 -- ---- the words of one slot and the rules of its entry
 
-lone-to : (ws : List ℕ) (n p i b : ℕ) → i < n → n ≤ 8 → b < 32 → loneOk ws p i b ≡ true → clockAt ws n i b ≡ true → idsOk n (entryAt ws (32 * i + b) .deps) ≡ true → EntryFacts n p (entryAt ws (32 * i + b))
+lone-to : (ws : List ℕ) (n p i b : ℕ) → i < n → n ≤ 8 → b < 32 → loneOk ws p i b ≡ true → clockAt ws (clockOk n) i b ≡ true → idsOk n (entryAt ws (32 * i + b) .deps) ≡ true → EntryFacts n p (entryAt ws (32 * i + b))
 unfolding loneOk entryAt has
 lone-to ws n p i b l few m h clock ids =
     let a = both-true (ltb (getD ws (slotAt (32 * i + b)) 0) p) _ h in
@@ -330,17 +343,17 @@ module _ (ws : List ℕ) (fit : (i : ℕ) → getD ws i 0 < 2 ^ 32) (n p : ℕ) 
   -- what a set of ids that is fine says of one of them
   record One (all : List ℕ) (k : ℕ) : Type 0 where
     lone : loneOk ws p (k / 32) (k % 32) ≡ true
-    clock : clockAt ws n (k / 32) (k % 32) ≡ true
+    clock : clockAt ws (clockOk n) (k / 32) (k % 32) ≡ true
     deps : subsetOf (entryAt ws k .deps) all ≡ true
 
   one : (ids all : List ℕ) → IdSet all → idsFine ws n p ids all ≡ true → (k : ℕ) → k < 32 * n → has ids k ≡ 1 → One all k
   unfolding idsFine
   one ids all aw h k l m =
       let a = both-true (ofWords n ids (loneOk ws p)) _ h in
-      let c = both-true (ofWords n ids (clockAt ws n)) _ (a .1) in
+      let c = both-true (ofWords n ids (clockAt ws (clockOk n))) _ (a .1) in
       record {
         lone = words-at ws n p ids (loneOk ws p) (a .0) k l m;
-        clock = words-at ws n p ids (clockAt ws n) (c .0) k l m;
+        clock = words-at ws n p ids (clockAt ws (clockOk n)) (c .0) k l m;
         deps =
             implies-elim _ _ (all-at _ (32 * n) (sym (gathered-in ws fit n long ids all aw (32 * n) (omega arith)) ∙ c .1) k l) (is-in ids k m);
       }
@@ -407,7 +420,7 @@ module _ (ws : List ℕ) (fit : (i : ℕ) → getD ws i 0 < 2 ^ 32) (n p : ℕ) 
       both-intro _ _
       (words-by ws n p ids (loneOk ws p) (λ i b l m e. to-lone ws n p i b l few m (slot h (32 * i + b) (in-held (32 * i + b) (omega arith) e) .facts)))
       (both-intro _ _
-      (words-by ws n p ids (clockAt ws n) (λ i b l m e. slot h (32 * i + b) (in-held (32 * i + b) (omega arith) e) .facts .clock))
+      (words-by ws n p ids (clockAt ws (clockOk n)) (λ i b l m e. slot h (32 * i + b) (in-held (32 * i + b) (omega arith) e) .facts .clock))
       (gathered-in ws fit n long ids all aw (32 * n) (omega arith)
       ∙ all-intro _ (32 * n) (λ k l. implies-intro (isIn ids k) _ (λ v. deps k (omega arith) (in-is ids k v)))))
 

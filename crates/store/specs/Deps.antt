@@ -19,8 +19,9 @@ loneOk ws p i b =
     (both (ltb (getD ws (slotAt (32 * i + b) + 1) 0) 268435456)
     (both (eqb (getD ws (slotAt (32 * i + b) + 2 + i) 0) (b + 1)) (eqb (bit (getD ws (slotAt (32 * i + b) + 10 + i) 0) b) 0)))
 
-abbrev pub clockAt : List ℕ → ℕ → ℕ → ℕ → Bool
-clockAt ws n i b = clockOk n (entryAt ws (32 * i + b) .clock)
+-- a test of its clock
+abbrev pub clockAt : List ℕ → (List ℕ → Bool) → ℕ → ℕ → Bool
+clockAt ws may i b = may (entryAt ws (32 * i + b) .clock)
 
 -- a test of each bit that a word has, and of each id that the first n words of a set have
 unfoldable pub ofWord : ℕ → (ℕ → Bool) → Bool
@@ -40,18 +41,18 @@ gatheredIn ws i w zero before = before
 gatheredIn ws i w (suc b) before = cond (eqb (bit w b) 1) (unite (gatheredIn ws i w b before) (entryAt ws (32 * i + b) .deps)) (gatheredIn ws i w b before)
 
 -- what the slots of word i of a set say, and those before: of each whether it keeps the rules of single words; if so, no bit of `bad` is set
--- where all clocks may be so, and `deps` has the deps of all
-pub record Looks (ws : List ℕ) (n p i w : ℕ) (bad deps : List ℕ) (r : Looked) : Type 0 where
+-- where all clocks may be so (`may`), and `deps` has the deps of all
+pub record Looks (ws : List ℕ) (may : List ℕ → Bool) (p i w : ℕ) (bad deps : List ℕ) (r : Looked) : Type 0 where
   pub lone : r .ok ≡ ofWord w (loneOk ws p i)
-  pub clocks : r .ok ≡ true → isEmpty (r .bad) ≡ both (isEmpty bad) (ofWord w (clockAt ws n i))
+  pub clocks : r .ok ≡ true → isEmpty (r .bad) ≡ both (isEmpty bad) (ofWord w (clockAt ws may i))
   pub gathered : r .ok ≡ true → r .deps ≡ gatheredIn ws i w 32 deps
 
 -- the same of all words of a set that are of the ring
-pub record LooksAll (ws : List ℕ) (n p : ℕ) (ids : List ℕ) (r : Looked) : Type 0 where
+pub record LooksAll (ws : List ℕ) (may : List ℕ → Bool) (n p : ℕ) (ids : List ℕ) (r : Looked) : Type 0 where
   pub lone : r .ok ≡ ofWords n ids (loneOk ws p)
-  pub clocks : r .ok ≡ true → isEmpty (r .bad) ≡ ofWords n ids (clockAt ws n)
+  pub clocks : r .ok ≡ true → isEmpty (r .bad) ≡ ofWords n ids (clockAt ws may)
   pub gathered : r .ok ≡ true → r .deps ≡ gatheredTo ws ids (32 * n)
 
 -- the slots of a set of ids keep the rules, and their deps are in another set
 unfoldable pub idsFine : List ℕ → ℕ → ℕ → List ℕ → List ℕ → Bool
-idsFine ws n p ids all = both (ofWords n ids (loneOk ws p)) (both (ofWords n ids (clockAt ws n)) (subsetOf (gatheredTo ws ids (32 * n)) all))
+idsFine ws n p ids all = both (ofWords n ids (loneOk ws p)) (both (ofWords n ids (clockAt ws (clockOk n))) (subsetOf (gatheredTo ws ids (32 * n)) all))

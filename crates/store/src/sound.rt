@@ -6,6 +6,7 @@ ghost use Prim.Native.Nat.{_+_, _*_, _<_, _≤_};
 ghost use lib.ListN.{length};
 ghost use Rattle.causal.specs.Tests.{allBelow};
 ghost use Rattle.causal.specs.Sets.{subsetOf};
+ghost use Rattle.frame.specs.Entries.{clockOk, underOk};
 ghost use Rattle.store.specs.Offices.{need, slotAt, officeOf, soundOffice, soundStore};
 ghost use Rattle.store.specs.Slots.{Laid, noGap, slotOk};
 ghost use Rattle.store.specs.Deps.{Looks, LooksAll, idsFine, loneOk};
@@ -43,10 +44,10 @@ struct Looked {
     deps: [u32; 8],
 }
 
-// Of the ids that word i of a set has, w, and those before.
-fn look(store: &[u32], n: usize, p: u32, i: usize, w: u32, before: Looked) -> Looked
+// Of the ids that word i of a set has, w, and those before; no clock may be over `most`.
+fn look(store: &[u32], most: [u32; 8], p: u32, i: usize, w: u32, before: Looked) -> Looked
     requires { ⌜ (need i + 576 ≤ length (now store)) × (i < 8) ⌝ }
-    ensures { λ r. ⌜ Looks (now (store .entry)) n p i w (before .bad) (before .deps) r ⌝ }
+    ensures { λ r. ⌜ Looks (now (store .entry)) (underOk most) p i w (before .bad) (before .deps) r ⌝ }
 {
     let mut bad = before.bad;
     let mut deps = before.deps;
@@ -61,7 +62,7 @@ fn look(store: &[u32], n: usize, p: u32, i: usize, w: u32, before: Looked) -> Lo
             };
         }
         let k = 32 * i + b as usize;
-        let over = frame::entry::overs(n, layout::clock_at(store, k));
+        let over = frame::entry::overs(most, layout::clock_at(store, k));
         let worse = causal::set::union(bad, over);
         let more = causal::set::union(deps, layout::deps_at(store, k));
         bad = worse;
@@ -78,8 +79,9 @@ fn look(store: &[u32], n: usize, p: u32, i: usize, w: u32, before: Looked) -> Lo
 // Of all ids of a set that are of the ring.
 fn look_all(store: &[u32], n: usize, p: u32, ids: [u32; 8]) -> Looked
     requires { ⌜ (need n ≤ length (now store)) × (n ≤ 8) ⌝ }
-    ensures { λ r. ⌜ LooksAll (now (store .entry)) n p ids r ⌝ }
+    ensures { λ r. ⌜ LooksAll (now (store .entry)) (clockOk n) n p ids r ⌝ }
 {
+    let most = frame::entry::mosts(n);
     let none = [0u32; 8];
     let mut looked = Looked {
         ok: true,
@@ -87,7 +89,7 @@ fn look_all(store: &[u32], n: usize, p: u32, ids: [u32; 8]) -> Looked
         deps: none,
     };
     for i in 0..n {
-        let next = look(store, n, p, i, ids[i], looked);
+        let next = look(store, most, p, i, ids[i], looked);
         looked = next;
         if !looked.ok {
             return looked;

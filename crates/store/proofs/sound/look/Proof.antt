@@ -1,6 +1,7 @@
 use native.Mathlib.Omega.{arith}
 use Prim.Native.Nat.{ℕ, _+_}
 use lib.Count.{trailingZeros, trailing-le}
+use Rattle.frame.specs.Entries.{underOk}
 use Rattle.causal.proofs.Walk.{Passed, passed-none, next}
 use Rattle.store.proofs.Deps.{Below, look-none, look-more, look-fails, look-done}
 use borrow.Author.Needs.{needs}
@@ -8,10 +9,10 @@ use Rattle.store.proofs.sound.look.Statement.{statement}
 use Rattle.store.proofs.sound.look.Tie as tie
 
 abbrev Inv-loop : tie.InvT-loop
-Inv-loop store n p i w bad₀ deps₀ rest₀ bad deps rest = (b : ℕ) × Passed w b rest × Below store n p i w bad₀ deps₀ b bad deps
+Inv-loop store most p i w bad₀ deps₀ rest₀ bad deps rest = (b : ℕ) × Passed w b rest × Below store (underOk most) p i w bad₀ deps₀ b bad deps
 
 abbrev μ-loop : tie.MeasureT-loop
-μ-loop store n p i w bad₀ deps₀ rest₀ bad deps rest = rest
+μ-loop store most p i w bad₀ deps₀ rest₀ bad deps rest = rest
 
 loop-holds : tie.Need-loop-holds Inv-loop μ-loop
 loop-holds c = let z = c .before .before .before in (0, passed-none (z .args .w) (omega arith), look-none _ _ _ _ _ _ _)
@@ -29,7 +30,7 @@ returns c =
     let l = u .before .before .before in
     let z = l .before .before .before .before in
     let x = next (z .args .w) (l .loop .inv .0) (l .loop .rest) (l .loop .inv .1) (u .before .before .loop-test .taken) in
-    look-fails (z .args .store .now) (z .args .n) (z .args .p) (z .args .i) (z .args .w) _ _ (l .loop .inv .0) (l .loop .rest) _ _ _ x _ (u .before .slot-ok .ensures) (u .if1 .taken)
+    look-fails (z .args .store .now) (underOk (z .args .most)) (z .args .p) (z .args .i) (z .args .w) _ _ (l .loop .inv .0) (l .loop .rest) _ _ _ x _ (u .before .slot-ok .ensures) (u .if1 .taken)
 
 mul-k : tie.Need-mul-k Inv-loop μ-loop
 mul-k c = search needs
@@ -84,7 +85,7 @@ loop-again c =
     let x = next (z .args .w) (l .loop .inv .0) (l .loop .rest) (l .loop .inv .1) (u .before .before .loop-test .taken) in (
       trailingZeros 32 (l .loop .rest) + 1,
       x .then,
-      look-more (z .args .store .now) (z .args .n) (z .args .p) (z .args .i) (z .args .w) _ _ (l .loop .inv .0) (l .loop .rest) _ _ _ x (l .loop .inv .2) _ (u .before .slot-ok .ensures) (u .if1 .left)
+      look-more (z .args .store .now) (underOk (z .args .most)) (z .args .p) (z .args .i) (z .args .w) _ _ (l .loop .inv .0) (l .loop .rest) _ _ _ x (l .loop .inv .2) _ (u .before .slot-ok .ensures) (u .if1 .left)
           _ _ _ (c .before .before .before .before .clock-at .ensures) (c .before .before .before .overs .ensures) (c .before .before .union .ensures)
           _ _ (c .before .deps-at .ensures) (c .union2 .ensures),
     )
@@ -93,7 +94,7 @@ returns-2 : tie.Need-returns-2 Inv-loop μ-loop
 returns-2 c =
     let l = c .before in
     let z = l .before .before .before .before in
-    look-done (z .args .store .now) (z .args .n) (z .args .p) (z .args .i) (z .args .w) _ _ (l .loop .inv .0) (l .loop .rest) _ _ (l .loop .inv .1) (c .loop-test .left) (l .loop .inv .2)
+    look-done (z .args .store .now) (underOk (z .args .most)) (z .args .p) (z .args .i) (z .args .w) _ _ (l .loop .inv .0) (l .loop .rest) _ _ (l .loop .inv .1) (c .loop-test .left) (l .loop .inv .2)
 
 pub look-spec : {M : Type 1} → statement M
 look-spec =
