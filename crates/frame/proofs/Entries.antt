@@ -10,7 +10,7 @@ use lib.ListN.{length, getD, List·getD-eq-default}
 use borrow.Author.Tests.{ltb-true, leb-true, eqb-true, lt-ltb, le-ltb, le-leb, eq-eqb, not-true}
 use Rattle.causal.specs.Tests.{both, either}
 use Rattle.causal.specs.Sets.{isIn}
-use Rattle.causal.proofs.Tests.{both-true, all-at, all-intro, lt-or-le}
+use Rattle.causal.proofs.Tests.{both-true, both-one, all-at, all-intro, lt-or-le}
 use Rattle.causal.proofs.Ranks.{above-irrefl, above-trans, above-total}
 use Rattle.frame.specs.declared.entry.Entry.{Entry}
 use Rattle.frame.specs.declared.entry.Frame.{Frame}
@@ -134,6 +134,12 @@ entry-facts n p e h =
       clock = d .0;
       deps = d .1;
     }
+
+-- the rules that are left where the dependencies are in range
+pub rules-left : (n p : ℕ) (e : Entry) → boundsOk n p (e .office) (e .serial) (e .plot) (e .value) ≡ true → idsOk n (e .deps) ≡ true
+    → both (eqb (getD (e .clock) (e .office) 0) (e .serial)) (both (not (isIn (e .deps) (idOf e))) (clockOk n (e .clock))) ≡ entryOk n p e
+unfolding entryOk both
+rules-left n p e b i = rw (b, i, both-one (clockOk n (e .clock))) refl
 
 -- no clock of eight has a number for a ninth office, so no entry of such an office keeps the rules
 pub far-entry : (n p : ℕ) (e : Entry) → length (e .clock) ≡ 8 → 7 < e .office → entryOk n p e ≡ false

@@ -1,6 +1,7 @@
 pub mod Cases
 pub mod Entries
 pub mod Words
+pub mod Ascents
 pub mod Frames
 pub mod Turns
 pub mod Reading

@@ -12,12 +12,13 @@ use Rattle.causal.specs.Codes.{check}
 use Rattle.causal.specs.Lists.{part}
 use Rattle.causal.proofs.Tests.{both-true}
 use Rattle.frame.specs.declared.entry.Frame.{Frame}
-use Rattle.frame.specs.Entries.{entryOk}
+use Rattle.frame.specs.Entries.{idsOk, entryOk}
 use Rattle.frame.specs.Words.{kindIs, idsFrom, clockFrom}
 use Rattle.frame.specs.Frames.{ringOk, officesIn, countIn, frameOf, accepts, blankFrame}
 use Rattle.frame.specs.Reading.{shapeOk, kindsOk, ascends, sumOk, checked, frameAt}
 use Rattle.frame.specs.Calls.{readFrameCode, frameIf, readFrame}
 use Rattle.frame.proofs.Entries.{ring-facts}
+use Rattle.frame.proofs.Ascents.{ids-range}
 use Rattle.frame.proofs.Frames.{checks-accept}
 
 -- what the shape says
@@ -32,6 +33,13 @@ shape-facts n ws e =
     let b = both-true (kindIs 1 (getD ws 0 0)) _ (a .1) in
     let c = both-true (eqb (officesIn ws) n) _ (b .1) in
     record { ring = eqb-true (officesIn ws) n (c .0); exact = eqb-true (length ws) (n + countIn ws + 4) (c .1) }
+
+-- the dependencies that a frame has are in range where their words ascend
+pub in-range : (n : ℕ) (ws : List ℕ) (f : Frame) → Shape n ws → ascends n 0 (part ws (3 + n) (countIn ws)) ≡ true → f ≡ frameOf ws → idsOk n (f .entry .deps) ≡ true
+unfolding frameOf
+in-range n ws f s a e =
+    ap (λ (g : Frame). idsOk n (g .entry .deps)) e ∙ ap (λ (m : ℕ). idsOk n (idsFrom (part ws (3 + m) (countIn ws)))) (s .ring)
+    ∙ ids-range n (part ws (3 + n) (countIn ws)) a
 
 module _ (n p : ℕ) (ws : List ℕ) where
   -- the dependencies stand between the clock and the check

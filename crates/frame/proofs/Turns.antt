@@ -31,36 +31,6 @@ use Rattle.frame.specs.Reading.{idOk, ascends}
 use Rattle.frame.proofs.Words.{id-facts, ids-in, length-clock}
 use Rattle.frame.proofs.Frames.{length-body, length-frame}
 
--- ---- words of ids, read
-
-pub ascends-next : (n last : ℕ) (ws : List ℕ) (i : ℕ) → i < length ws → idOk n last (getD ws i 0) ≡ true
-    → ascends n last (drop i ws) ≡ ascends n (payload (getD ws i 0)) (drop (i + 1) ws)
-unfolding ascends both
-ascends-next n last ws i h e = rw (add-one, drop-cons ws i 0 h, e) refl
-
-pub ascends-stops : (n last : ℕ) (ws : List ℕ) (i : ℕ) → i < length ws → idOk n last (getD ws i 0) ≡ false → ascends n last (drop i ws) ≡ false
-unfolding ascends both
-ascends-stops n last ws i h e = rw (drop-cons ws i 0 h, e) refl
-
-pub ascends-ends : (n last : ℕ) (ws : List ℕ) (i : ℕ) → length ws ≤ i → ascends n last (drop i ws) ≡ true
-unfolding ascends
-ascends-ends n last ws i h = rw (drop-of-length-le ws {i = i} h) refl
-
-pub ids-next : (n last : ℕ) (ws ids : List ℕ) (i : ℕ) → i < length ws → idOk n last (getD ws i 0) ≡ true → ids ≡ idsFrom (take i ws)
-    → set ids (payload (getD ws i 0) / 256) (bitOr (getD ids (payload (getD ws i 0) / 256) 0) (1 * 2 ^ (payload (getD ws i 0) % 256 - 1) % 4294967296)) ≡ idsFrom (take (i + 1) ws)
-unfolding idsFrom inserted
-ids-next n last ws ids i h e q =
-    let w : ℕ = getD ws i 0 in
-    let f = id-facts n last w e in
-    let k1 : idIn w / 32 ≡ payload w / 256 = omega (arith, f .from, f .to) in
-    let k2 : idIn w % 32 ≡ payload w % 256 - 1 = omega (arith, f .from, f .to) in
-    let two : 1 * 2 ^ (payload w % 256 - 1) % 4294967296 ≡ 2 ^ (payload w % 256 - 1) = one-shl (payload w % 256 - 1) (omega (arith, f .to)) in
-    sym
-    (ap idsFrom (ap (λ (m : ℕ). take m ws) (add-one i) ∙ take-suc ws i 0 h)
-    ∙ foldl-append (λ (s : List ℕ) (v : ℕ). inserted s (idIn v)) zeros (take i ws) (w ∷ [])
-    ∙ ap (λ (s : List ℕ). inserted s (idIn w)) (sym q)
-    ∙ rw (k1, k2, two) refl)
-
 -- ---- a clock, read
 
 pub clock-whole : (ws : List ℕ) (at n : ℕ) → n ≤ 8 → sets zeros 0 (tab n (λ j. payAt ws (at + j))) ≡ clockFrom ws at n

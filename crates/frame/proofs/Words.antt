@@ -14,7 +14,7 @@ use borrow.Author.Tests.{ltb-true, leb-true, eqb-true, lt-ltb, le-ltb, le-leb, l
 use Rattle.causal.specs.Tests.{both, either}
 use Rattle.causal.specs.Lists.{zeros, sumBelow}
 use Rattle.causal.specs.Sets.{bit, has, isIn, IdSet, inserted, sizeOf}
-use Rattle.causal.proofs.Tests.{both-true, both-intro, lt-or-le, eq-or-ne, not-so, same-test, false-true}
+use Rattle.causal.proofs.Tests.{both-false, both-true, both-intro, lt-or-le, eq-or-ne, not-so, same-test, false-true}
 use Rattle.causal.proofs.Lists.{tab-length, tab-at}
 use Rattle.causal.proofs.Bits.{same, same-eq, same-ne, bit-zero-word}
 use Rattle.causal.proofs.Sets.{has-lt, has-inserted, ids-inserted, is-in, in-is, out-is, is-out, in-inserted, in-or-out, same-words, ids-zeros, has-zeros}
@@ -35,16 +35,18 @@ pub is-kind : (k w : ℕ) → isKind k ≡ true → kindOf w ≡ k → kindIs k 
 unfolding kindIs
 is-kind k w h e = both-intro _ _ h (eq-eqb (kindOf w) k e)
 
--- a word whose kind is k is of the kind k only
-pub only-kind : (want w k : ℕ) → isKind k ≡ true → kindOf w ≡ k → eqb want k ≡ kindIs want w
+-- a word of another kind, of the kind k, of a kind from 3 to 6
+pub other-kind : (want w : ℕ) → (kindOf w ≡ want → ⊥) → false ≡ kindIs want w
 unfolding kindIs
-only-kind want w k h e = same-test _ _
-    (λ q. let z = eqb-true want k q in both-intro _ _ (ap isKind z ∙ h) (eq-eqb (kindOf w) want (e ∙ sym z)))
-    (λ q. eq-eqb want k (sym (kind-is want w q) ∙ e))
+other-kind want w h = sym (rw (ne-eqb (kindOf w) want h) (both-false (isKind want)))
 
-pub field-kind : (want w : ℕ) → 3 ≤ kindOf w → kindOf w ≤ 6 → eqb want (kindOf w) ≡ kindIs want w
+pub this-kind : (want w k : ℕ) → isKind k ≡ true → kindOf w ≡ k → kindOf w ≡ want → true ≡ kindIs want w
+this-kind want w k h e q = sym (is-kind want w (ap isKind (sym q ∙ e) ∙ h) q)
+
+pub field-kind : (want w : ℕ) → 3 ≤ kindOf w → kindOf w ≤ 6 → kindOf w ≡ want → true ≡ kindIs want w
 unfolding isKind either both
-field-kind want w a b = only-kind want w (kindOf w) (rw (ne-eqb (kindOf w) 1 (λ (e : kindOf w ≡ 1). omega arith), le-leb 3 (kindOf w) a, le-leb (kindOf w) 6 b) refl) refl
+field-kind want w a b q =
+    this-kind want w (kindOf w) (rw (ne-eqb (kindOf w) 1 (λ (e : kindOf w ≡ 1). omega arith), le-leb 3 (kindOf w) a, le-leb (kindOf w) 6 b) refl) refl q
 
 not-kind : (k : ℕ) → (k ≡ 1 → ⊥) → (k ≡ 8 → ⊥) → (k ≡ 15 → ⊥) → (3 ≤ k → k ≤ 6 → ⊥) → isKind k ≡ false
 unfolding isKind either both

@@ -1,8 +1,9 @@
 -- What the reader of a frame checks, word by word. `checks-accept` of proofs/Frames.antt: these checks accept a row just where it is the
 -- writing of what a frame may say (`accepts`). Assumes nothing.
-use Prim.Native.Nat.{ℕ, _+_, _-_, _/_, _%_}
+use Prim.Native.Nat.{ℕ, _+_, _-_, _/_, _%_, _^_}
 use mathlib.Core.Bool.{Bool, true}
 use mathlib.Core.List.{List, [], _∷_}
+use lib.Bits.{bitOr}
 use lib.Dec.{leb, ltb, eqb}
 use lib.ListN.{length, getD, take}
 use Rattle.causal.specs.Tests.{both, allBelow}
@@ -33,6 +34,17 @@ idOk n last w =
 unfoldable pub ascends : ℕ → ℕ → List ℕ → Bool
 ascends n last [] = true
 ascends n last (w ∷ ws) = both (idOk n last w) (ascends n (payload w) ws)
+
+-- w may stand right behind a word of an id: it is above it, and its serial is one of 1 to 32. How a reader asks `ascends`
+unfoldable pub nextOk : ℕ → ℕ → Bool
+nextOk before w = both (ltb before w) (eqb ((w - 1) / 32 % 8) 0)
+
+-- a word of a set with the eight bits from b on
+unfoldable pub eightBits : ℕ → ℕ → ℕ
+eightBits w b =
+    bitOr
+    (bitOr (bitOr (bitOr (bitOr (bitOr (bitOr (bitOr w (2 ^ b)) (2 ^ (b + 1))) (2 ^ (b + 2))) (2 ^ (b + 3))) (2 ^ (b + 4))) (2 ^ (b + 5))) (2 ^ (b + 6)))
+    (2 ^ (b + 7))
 
 -- the last word is of kind 15 and has the sum
 unfoldable pub sumOk : List ℕ → Bool

@@ -6,7 +6,7 @@ ghost use Prim.Native.Nat.{ℕ, _+_, _-_, _*_, _<_, _≤_};
 ghost use lib.Dec.{eqb, leb, ltb};
 ghost use lib.ListN.{getD};
 ghost use Rattle.causal.specs.Tests.{both, either};
-ghost use Rattle.causal.specs.Sets.{isEmpty, isIn};
+ghost use Rattle.causal.specs.Sets.{bit, isEmpty, isIn};
 ghost use Rattle.frame.specs.Entries.{idOf, clockOk, underOk, idsOk, boundsOk, entryOk, outranks as outranksOf, blankEntry};
 ghost use Rattle.frame.specs.Frames.{ringOk, frameOk};
 
@@ -148,6 +148,14 @@ pub fn bounds_ok(n: u32, p: u32, office: u32, serial: u32, plot: u32, value: u32
         return false;
     }
     value < 0x1000_0000
+}
+
+// Is the entry of this serial in its office's word of a set?
+pub fn in_word(w: u32, serial: u32) -> bool
+    requires { ⌜ (1 ≤ serial) × (serial ≤ 32) ⌝ }
+    ensures { λ r. ⌜ r ≡ eqb (bit w (serial - 1)) 1 ⌝ }
+{
+    (w >> (serial - 1)) % 2 == 1
 }
 
 // The rules of clock and dependencies.

@@ -1,12 +1,14 @@
 // Reading a frame: each word is checked where it stands.
 ghost use mathlib.Core.Path.{_≡_};
-ghost use Prim.Native.Nat.{_+_, _-_, _≤_};
-ghost use lib.Dec.{leb};
-ghost use lib.ListN.{length};
+ghost use mathlib.Core.Bool.{true, not};
+ghost use Prim.Native.Nat.{_+_, _-_, _*_, _<_, _≤_};
+ghost use lib.Dec.{leb, eqb};
+ghost use lib.ListN.{length, getD};
+ghost use Rattle.causal.specs.Sets.{isIn};
 ghost use Rattle.frame.specs.Refusals.{numberOf, codeOf};
 ghost use Rattle.frame.specs.Frames.{blankFrame};
 ghost use Rattle.causal.specs.Tests.{both};
-ghost use Rattle.frame.specs.Entries.{entryOk};
+ghost use Rattle.frame.specs.Entries.{clockOk, idsOk, entryOk};
 ghost use Rattle.frame.specs.Reading.{shapeOk, kindsOk, sumOk, frameAt};
 ghost use Rattle.frame.specs.Promises.{ReadFramePromise};
 use crate::entry::Entry;
@@ -88,16 +90,43 @@ fn kinds_ok(ws: &[u32], n: u32) -> bool
     crate::word::clock_kinds(ws, 3, n as usize)
 }
 
+// The rules of clock and dependencies, but for the range of the dependencies, which was seen as they were read.
+fn past_ok(n: usize, office: usize, serial: u32, clock: [u32; 8], deps: [u32; 8]) -> bool
+    requires { ⌜ (office < 8) × (1 ≤ serial) × (serial ≤ 32) ⌝ }
+    ensures { λ r. ⌜ r ≡ both (eqb (getD clock office 0) serial) (both (not (isIn deps (32 * office + (serial - 1)))) (clockOk n clock)) ⌝ }
+{
+    if clock[office] != serial {
+        return false;
+    }
+    if crate::entry::in_word(deps[office], serial) {
+        return false;
+    }
+    crate::entry::clock_ok(n, clock)
+}
+
+// The entry rules, where the dependencies are in range. Not by `entry_ok`, which would copy the entry.
+fn rules_ok(n: u32, p: u32, e: Entry) -> bool
+    requires { ⌜ (n ≤ 8) × (idsOk n (e .deps) ≡ true) ⌝ }
+    ensures { λ r. ⌜ r ≡ entryOk n p e ⌝ }
+{
+    if !crate::entry::bounds_ok(n, p, e.office, e.serial, e.plot, e.value) {
+        return false;
+    }
+    let clock = e.clock;
+    let deps = e.deps;
+    past_ok(n as usize, e.office as usize, e.serial, clock, deps)
+}
+
 // May the frame say what it says, and is the check word right?
 fn content_ok(ws: &[u32], n: u32, p: u32, f: Frame) -> bool
-    requires { ⌜ (2 ≤ n) × (n ≤ 8) × (1 ≤ length (now ws)) ⌝ }
+    requires { ⌜ (2 ≤ n) × (n ≤ 8) × (1 ≤ length (now ws)) × (idsOk n (f .entry .deps) ≡ true) ⌝ }
     ensures { λ r. ⌜ r ≡ both (leb (f .hops) (n - 2)) (both (entryOk n p (f .entry)) (sumOk (now (ws .entry)))) ⌝ }
 {
     if f.hops > n - 2 {
         return false;
     }
     let e = f.entry;
-    if !crate::entry::entry_ok(n, p, e) {
+    if !rules_ok(n, p, e) {
         return false;
     }
     crate::word::sum_ok(ws)
@@ -118,11 +147,10 @@ pub fn read_frame(ws: &[u32], offices: u32, plots: u32) -> FrameRead
     }
     let from = 3 + offices as usize;
     let end = ws.len() - 1;
-    let read = crate::word::ids_from(&ws[from..end], offices);
-    if !read.ok {
+    if !crate::word::ids_ascend(&ws[from..end], offices) {
         return refused(Refusal::Format);
     }
-    let deps = read.ids;
+    let deps = crate::word::ids_from(&ws[from..end]);
     let frame = frame_of(ws, offices, deps);
     if !content_ok(ws, offices, plots, frame) {
         return refused(Refusal::Format);

@@ -5,7 +5,7 @@ ghost use Prim.Native.Nat.{_+_, _-_, _*_, _<_, _≤_};
 ghost use lib.Dec.{eqb};
 ghost use lib.ListN.{getD};
 ghost use Rattle.causal.specs.Tests.{both};
-ghost use Rattle.causal.specs.Sets.{bit, isIn, unite, subsetOf};
+ghost use Rattle.causal.specs.Sets.{isIn, unite, subsetOf};
 ghost use Rattle.causal.specs.Lists.{tab, zeros};
 ghost use Rattle.frame.specs.Entries.{clockOk, idsOk};
 ghost use Rattle.frame.specs.Sessions.{nobody, contentOf, sessionOf, idsOf, ownTurn, ownOk, headOk, sessionOk, freshContent};
@@ -37,14 +37,6 @@ pub fn blank_session() -> Session
     }
 }
 
-// Is the entry of this serial in its office's word of a set?
-fn in_word(w: u32, serial: u32) -> bool
-    requires { ⌜ (1 ≤ serial) × (serial ≤ 32) ⌝ }
-    ensures { λ r. ⌜ r ≡ eqb (bit w (serial - 1)) 1 ⌝ }
-{
-    (w >> (serial - 1)) % 2 == 1
-}
-
 // The rules of an own write's clock and dependencies, an id that is not among the earlier ones, and no dependency but on what was read or
 // written before. Not by the functions of an entry's rules, which would copy the rows once more.
 fn own_past_ok(
@@ -62,7 +54,7 @@ fn own_past_ok(
     if clock[office] != serial {
         return false;
     }
-    if in_word(deps[office], serial) {
+    if crate::entry::in_word(deps[office], serial) {
         return false;
     }
     if !crate::entry::clock_ok(n, clock) {
@@ -71,7 +63,7 @@ fn own_past_ok(
     if !crate::entry::ids_ok(n, deps) {
         return false;
     }
-    if in_word(seen[office], serial) {
+    if crate::entry::in_word(seen[office], serial) {
         return false;
     }
     let known = causal::set::union(read, seen);

@@ -289,14 +289,13 @@ fn session_from(ws: &[u32], n: u32, p: u32) -> SessionRead
     let head = ws[0] % crate::word::LOW;
     let from = 1 + n as usize;
     let to = from + (head % 512) as usize;
-    let reads = crate::word::ids_from(&ws[from..to], n);
-    if !reads.ok {
+    if !crate::word::ids_ascend(&ws[from..to], n) {
         return no_session();
     }
+    let read = crate::word::ids_from(&ws[from..to]);
     let count = (head / 0x1_0000 % 256) as usize;
     let owns = owns_from(&ws[to..], n, p, count);
     let clock = crate::word::clock_from(ws, 1, n as usize);
-    let read = reads.ids;
     let own = owns.own;
     let session = Session {
         offices: n,

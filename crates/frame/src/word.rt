@@ -2,10 +2,11 @@
 ghost use mathlib.Core.Path.{_≡_};
 ghost use Prim.Native.Nat.{ℕ, _+_, _%_, _<_, _≤_};
 ghost use mathlib.Core.Bool.{true};
+ghost use lib.Dec.{eqb};
 ghost use lib.ListN.{length, getD, set, take};
 ghost use lib.Seq.{sets};
 ghost use Rattle.frame.specs.Words.{kindIs, total, clockWords, clockFrom, clockWord, idWord, idWordsIn, idWords, idsFrom, sumWord};
-ghost use Rattle.frame.specs.Reading.{clockKinds, idOk, ascends, sumOk};
+ghost use Rattle.frame.specs.Reading.{clockKinds, nextOk, ascends, eightBits, sumOk};
 
 pub const LOW: u32 = 0x1000_0000;
 
@@ -14,11 +15,14 @@ pub fn kind_is(want: u32, w: u32) -> bool
     ensures { λ r. ⌜ r ≡ kindIs want w ⌝ }
 {
     let kind = w / LOW;
+    if kind != want {
+        return false;
+    }
     match kind {
-        1 => want == 1,
-        3..=6 => want == kind,
-        8 => want == 8,
-        15 => want == 15,
+        1 => true,
+        3..=6 => true,
+        8 => true,
+        15 => true,
         0 | 2 | 7 | 9..=14 => false,
         _ => false,
     }
@@ -113,48 +117,90 @@ pub fn clock_from(ws: &[u32], at: usize, n: usize) -> [u32; 8]
     clock
 }
 
-pub struct IdsRead {
-    pub ok: bool,
-    pub ids: [u32; 8],
-}
-
-// Is w a word of an id, of an office below n, above the payload before it?
-fn id_ok(n: u32, last: u32, w: u32) -> bool
-    ensures { λ r. ⌜ r ≡ idOk n last w ⌝ }
+// 0 where w may stand right behind a word of an id: it is above it, and its serial is one of 1 to 32.
+fn not_next(before: u32, w: u32) -> u32
+    ensures { λ r. ⌜ eqb r 0 ≡ nextOk before w ⌝ }
 {
-    let name = w % LOW;
-    if !kind_is(6, w) {
-        return false;
+    if w <= before {
+        return 1;
     }
-    if name <= last {
-        return false;
-    }
-    if name / 256 >= n {
-        return false;
-    }
-    if name % 256 < 1 {
-        return false;
-    }
-    name % 256 <= 32
+    (w - 1) / 32 % 8
 }
 
-// The set that words name, and whether they are words of ids of n offices, strictly ascending.
-pub fn ids_from(ws: &[u32], n: u32) -> IdsRead
-    requires { ⌜ n ≤ 8 ⌝ }
-    ensures { λ r. ⌜ (r .ok ≡ ascends n 0 (now (ws .entry))) × (r .ok ≡ true → r .ids ≡ idsFrom (now (ws .entry))) ⌝ }
+// Are the words ones of ids of n offices, strictly ascending? The kinds of the first and the last and the office of the last are those of all
+// between. No way out of the loop: several words are asked at once.
+pub fn ids_ascend(ws: &[u32], n: u32) -> bool
+    ensures { λ r. ⌜ r ≡ ascends n 0 (now (ws .entry)) ⌝ }
+{
+    if ws.len() < 1 {
+        return true;
+    }
+    let end = ws.len() - 1;
+    let first = ws[0];
+    let last = ws[end];
+    if !kind_is(6, first) {
+        return false;
+    }
+    if !kind_is(6, last) {
+        return false;
+    }
+    if last % LOW / 256 >= n {
+        return false;
+    }
+    let mut wrong = not_next(0x6000_0000, first);
+    for i in 0..end {
+        wrong = wrong | not_next(ws[i], ws[i + 1]);
+    }
+    wrong == 0
+}
+
+// Do eight ids of a row, one next to the other, begin at i?
+fn is_run(ws: &[u32], i: usize) -> bool
+    requires { ⌜ (i < length (now ws)) × (ascends 8 0 (now ws) ≡ true) ⌝ }
+    ensures { λ r. ⌜ (r ≡ true → (i + 7 < length (now (ws .entry))) × (getD (now (ws .entry)) (i + 7) 0 ≡ getD (now (ws .entry)) i 0 + 7)) ⌝ }
+{
+    if ws.len() - i < 8 {
+        return false;
+    }
+    ws[i + 7] - ws[i] == 7
+}
+
+// A word of a set with the eight bits from b on.
+fn with_eight(w: u32, b: u32) -> u32
+    requires { ⌜ b ≤ 24 ⌝ }
+    ensures { λ r. ⌜ r ≡ eightBits w b ⌝ }
+{
+    w
+        | (1u32 << b)
+        | (2u32 << b)
+        | (4u32 << b)
+        | (8u32 << b)
+        | (16u32 << b)
+        | (32u32 << b)
+        | (64u32 << b)
+        | (128u32 << b)
+}
+
+// The set that ascending words of ids name: eight that stand one next to the other are put in at once.
+pub fn ids_from(ws: &[u32]) -> [u32; 8]
+    requires { ⌜ ascends 8 0 (now ws) ≡ true ⌝ }
+    ensures { λ r. ⌜ r ≡ idsFrom (now (ws .entry)) ⌝ }
 {
     let mut ids = [0u32; 8];
-    let mut last: u32 = 0;
-    for i in 0..ws.len() {
+    let mut i: usize = 0;
+    while i < ws.len() {
         let w = ws[i];
-        if !id_ok(n, last, w) {
-            return IdsRead { ok: false, ids };
+        let j = (w / 256 % 8) as usize;
+        let b = (w - 1) % 32;
+        if is_run(ws, i) {
+            ids[j] = with_eight(ids[j], b);
+            i += 8;
+        } else {
+            ids[j] = ids[j] | (1u32 << b);
+            i += 1;
         }
-        last = w % LOW;
-        let j = (last / 256) as usize;
-        ids[j] = ids[j] | (1u32 << (last % 256 - 1));
     }
-    IdsRead { ok: true, ids }
+    ids
 }
 
 // Is the last word the check of those before it?

@@ -1,7 +1,7 @@
 use Rattle.causal.specs.Sets.{bit}
 use borrow.Author.Needs.{needs}
-use Rattle.frame.proofs.session.in_word.Statement.{statement}
-use Rattle.frame.proofs.session.in_word.Tie as tie
+use Rattle.frame.proofs.entry.in_word.Statement.{statement}
+use Rattle.frame.proofs.entry.in_word.Tie as tie
 
 sub-result : tie.Need-sub-result
 sub-result c = search needs

@@ -1,0 +1,22 @@
+use mathlib.Core.Path.{_≡_, refl, sym}
+use native.Mathlib.Omega.{arith}
+use borrow.Author.Tests.{lt-ltb, le-ltb}
+use Rattle.causal.specs.Tests.{both}
+use Rattle.frame.specs.Reading.{nextOk}
+use borrow.Author.Needs.{needs}
+use Rattle.frame.proofs.word.not_next.Statement.{statement}
+use Rattle.frame.proofs.word.not_next.Tie as tie
+
+returns : tie.Need-returns
+unfolding nextOk both
+returns c = rw (le-ltb _ _ (c .if1 .taken)) refl
+
+sub-result : tie.Need-sub-result
+sub-result c = search needs
+
+returns-2 : tie.Need-returns-2
+unfolding nextOk both
+returns-2 c = sym (rw (lt-ltb _ _ (c .if1 .left)) refl)
+
+pub not-next-spec : {M : Type 1} → statement M
+not-next-spec = tie.close (tie.spec returns sub-result returns-2)
