@@ -4,11 +4,12 @@ use mathlib.Core.Path.{_≡_, refl, sym, ap, _∙_}
 use mathlib.Core.Bool.{Bool, true, false, cond}
 use mathlib.Core.Logic.{⊎-elim}
 use mathlib.Core.List.{List, [], _∷_, _++_, foldl-append, append-nil}
-use native.Mathlib.Nat.{zero-add}
+use native.Mathlib.Nat.{le-refl, pow-suc, zero-add}
 use native.Mathlib.Numerals.{add-one}
 use native.Mathlib.Omega.{arith}
 use lib.Bits.{bitOr}
 use lib.Count.{trailingZeros}
+use lib.Pow.{high, ones-lt, ones-split, pow-mono, pow-pos, shr-lt}
 use lib.Dec.{eqb}
 use lib.ListN.{length, getD, take, drop, set, length-append, drop-of-length-le}
 use lib.Seq.{sets, take-suc, drop-cons, ext-getD, length-sets}
@@ -20,7 +21,7 @@ use Rattle.causal.proofs.Tests.{lt-or-le}
 use Rattle.causal.proofs.Lists.{sets-append, sets-front, take-front, tab-length, tab-at, getD-sets-in, getD-sets-after}
 use Rattle.causal.proofs.Bits.{one-shl}
 use Rattle.causal.proofs.Sets.{zero-at}
-use Rattle.causal.proofs.Walk.{Passed, next, fold-next, fold-end}
+use Rattle.causal.proofs.Walk.{Passed, next, skip, fold-next, fold-end}
 use Rattle.frame.specs.declared.entry.Frame.{Frame}
 use Rattle.frame.specs.Words.{payload, payAt, clockWords, clockPlace, clockFrom, idWord, idWordIf, idWordsTo, idWords, idWordsIn, idIn, idsFrom, sumWord, summed}
 use Rattle.causal.specs.Codes.{check}
@@ -59,6 +60,12 @@ clock-whole ws at n h =
 
 -- ---- words of ids, written
 
+word-place : (j t : ℕ) → t < 32 → idWord (32 * j + t) ≡ 1610612737 + 256 * j + t
+word-place j t h =
+    let d : (32 * j + t) / 32 ≡ j = omega arith in
+    let m : (32 * j + t) % 32 ≡ t = omega arith in
+    rw (d, m) (omega arith)
+
 module _ (j w : ℕ) where
   abbrev Ids : ℕ → List ℕ
   Ids b = idWordsIn j w b
@@ -86,17 +93,55 @@ module _ (j w : ℕ) where
   ids-step b rest p n =
       let x = next w b rest p n in
       let t : ℕ = trailingZeros 32 rest in
-      let v : idWord (32 * j + t) ≡ 1610612737 + 256 * j + t = place j t (x .below) in
+      let v : idWord (32 * j + t) ≡ 1610612737 + 256 * j + t = word-place j t (x .below) in
       ids-one t (x .member) ∙ ap (λ (l : List ℕ). l ++ (idWord (32 * j + t) ∷ [])) (fold-next Ids w ids-none b rest t x) ∙ ap (λ (y : ℕ). Ids b ++ (y ∷ [])) v
-    where
-      place : (j t : ℕ) → t < 32 → idWord (32 * j + t) ≡ 1610612737 + 256 * j + t
-      place j t h =
-          let d : (32 * j + t) / 32 ≡ j = omega arith in
-          let m : (32 * j + t) % 32 ≡ t = omega arith in
-          rw (d, m) (omega arith)
 
   pub ids-end : (b rest : ℕ) → Passed w b rest → rest ≡ 0 → Ids 32 ≡ Ids b
   ids-end b rest p z = fold-end Ids w ids-none b rest p z
+
+-- ---- a word of a set that has all ids up to some serial
+
+ones-shr : (l : ℕ) → l ≤ 32 → 4294967295 / 2 ^ l ≡ 2 ^ (32 - l) - 1
+ones-shr l h =
+    let e : 32 - l + l ≡ 32 = omega arith in
+    ap (λ (k : ℕ). (2 ^ k - 1) / 2 ^ l) (sym e) ∙ ap (λ (x : ℕ). x / 2 ^ l) (ones-split (32 - l) l) ∙ high (2 ^ (32 - l) - 1) l (ones-lt l)
+
+ones-at : (c i : ℕ) → i < c → bit (2 ^ c - 1) i ≡ 1
+unfolding bit
+ones-at c i h =
+    let e : suc (c - suc i) + i ≡ c = omega arith in
+    let d : (2 ^ c - 1) / 2 ^ i ≡ 2 ^ suc (c - suc i) - 1 =
+    ap (λ (k : ℕ). (2 ^ k - 1) / 2 ^ i) (sym e) ∙ ap (λ (x : ℕ). x / 2 ^ i) (ones-split (suc (c - suc i)) i) ∙ high (2 ^ suc (c - suc i) - 1) i (ones-lt i)
+    in
+    ap (λ (x : ℕ). x % 2) d ∙ odd (c - suc i)
+  where
+    odd : (m : ℕ) → (2 ^ suc m - 1) % 2 ≡ 1
+    odd m = rw pow-suc (omega (arith, pow-pos m))
+
+ones-over : (c i : ℕ) → c ≤ i → bit (2 ^ c - 1) i ≡ 0
+unfolding bit
+ones-over c i h =
+    let e : 0 + i ≡ i = zero-add i in
+    let l : 2 ^ c - 1 < 2 ^ (0 + i) = rw e (omega (arith, ones-lt c, pow-mono {i = c} {j = i} h)) in
+    let z = shr-lt {n = 2 ^ c - 1} 0 i l in
+    omega arith
+
+words-up : (j c m : ℕ) → m ≤ c → c ≤ 32 → idWordsIn j (2 ^ c - 1) m ≡ tab m (λ i. 1610612737 + 256 * j + i)
+unfolding idWordsIn idWordIf tab
+words-up j c zero l h = refl
+words-up j c (suc m) l h = rw (ones-at c m l, word-place j m (omega arith), words-up j c m (omega arith) h) refl
+
+run-words : (j c : ℕ) → c ≤ 32 → idWordsIn j (2 ^ c - 1) 32 ≡ tab c (λ i. 1610612737 + 256 * j + i)
+run-words j c h =
+    skip (Ids j (2 ^ c - 1)) c 32 h (λ k l m. ids-none j (2 ^ c - 1) k m (ones-over c k l)) ∙ words-up j c c (le-refl c) h
+
+-- the same by how many bits are free above
+module _ (j w l : ℕ) (h : l ≤ 32) (e : w ≡ 4294967295 / 2 ^ l) where
+  pub run-is : idWordsIn j w 32 ≡ tab (32 - l) (λ i. 1610612737 + 256 * j + i)
+  run-is = ap (λ (x : ℕ). idWordsIn j x 32) (e ∙ ones-shr l h) ∙ run-words j (32 - l) (omega arith)
+
+  pub run-length : length (idWordsIn j w 32) ≡ 32 - l
+  run-length = ap length run-is ∙ tab-length (32 - l) (λ i. 1610612737 + 256 * j + i)
 
 -- one word of a set more
 pub ids-word : (s : List ℕ) (j : ℕ) → idWordsTo s (32 * (j + 1)) ≡ idWordsTo s (32 * j) ++ idWordsIn j (getD s j 0) 32

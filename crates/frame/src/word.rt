@@ -5,6 +5,7 @@ ghost use mathlib.Core.Bool.{true};
 ghost use lib.Dec.{eqb};
 ghost use lib.ListN.{length, getD, set, take};
 ghost use lib.Seq.{sets};
+ghost use Rattle.causal.specs.Lists.{tab};
 ghost use Rattle.frame.specs.Words.{kindIs, total, clockWords, clockFrom, clockWord, idWord, idWordsIn, idWords, idsFrom, sumWord};
 ghost use Rattle.frame.specs.Reading.{clockKinds, nextOk, ascends, eightBits, sumOk};
 
@@ -52,8 +53,18 @@ pub fn put_clock(clock: [u32; 8], n: usize, out: &mut [u32], at: usize)
     }
 }
 
-// The words of the ids in word j of a set, lowest first, from at on; gives the place behind them.
-fn put_ids_of(j: usize, w: u32, out: &mut [u32], at: usize) -> usize
+// The words of count ids, one next to the other, from at on: first is the word of the lowest.
+fn put_run(first: u32, count: usize, out: &mut [u32], at: usize)
+    requires { ⌜ (first ≤ 1879048192) × (count ≤ 32) × (at + count ≤ length (now out)) ⌝ }
+    ensures { λ r. ⌜ now (out .exit) ≡ sets (now (out .entry)) at (tab count (λ i. first + i)) ⌝ }
+{
+    for i in 0..count {
+        out[at + i] = first + i as u32;
+    }
+}
+
+// The words of the ids in word j of a set, lowest first, from at on; gives the place behind them. One at a time.
+fn put_each(j: usize, w: u32, out: &mut [u32], at: usize) -> usize
     requires { ⌜ (j < 8) × (at + length (idWordsIn j w 32) ≤ length (now out)) ⌝ }
     ensures { λ r. ⌜ (r ≡ at + length (idWordsIn j w 32)) × (now (out .exit) ≡ sets (now (out .entry)) at (idWordsIn j w 32)) ⌝ }
 {
@@ -66,6 +77,23 @@ fn put_ids_of(j: usize, w: u32, out: &mut [u32], at: usize) -> usize
         to += 1;
     }
     to
+}
+
+// The same, where most words of a set have all ids up to some serial.
+fn put_ids_of(j: usize, w: u32, out: &mut [u32], at: usize) -> usize
+    requires { ⌜ (j < 8) × (at + length (idWordsIn j w 32) ≤ length (now out)) ⌝ }
+    ensures { λ r. ⌜ (r ≡ at + length (idWordsIn j w 32)) × (now (out .exit) ≡ sets (now (out .entry)) at (idWordsIn j w 32)) ⌝ }
+{
+    if w < 256 {
+        return put_each(j, w, out, at);
+    }
+    let free = u32::leading_zeros(w);
+    if w != 0xFFFF_FFFF >> free {
+        return put_each(j, w, out, at);
+    }
+    let count = 32 - free as usize;
+    put_run(0x6000_0001 + 256 * j as u32, count, out, at);
+    at + count
 }
 
 // The words of a set of ids, from at on; gives the place behind them.

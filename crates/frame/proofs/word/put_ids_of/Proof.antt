@@ -1,125 +1,77 @@
-use lib.ListN.{length, set, length-set, length-append}
-use lib.Seq.{sets}
-use lib.Count.{trailingZeros}
-use mathlib.Core.List.{List, [], _∷_}
-use native.Mathlib.Nat.{add-zero}
-use Rattle.causal.proofs.Lists.{sets-append}
-use Rattle.frame.proofs.Turns.{ids-step, ids-room, ids-end}
+use mathlib.Core.Path.{sym, ap, _∙_}
 use native.Mathlib.Omega.{arith}
-use Prim.Native.Nat.{ℕ, _+_, _*_}
-use mathlib.Core.Path.{_≡_, refl, sym, ap, _∙_}
-use Rattle.causal.proofs.Walk.{Passed, next, passed-none}
-use Rattle.frame.specs.Words.{idWordsIn}
+use lib.Count.{leadingZeros, leading-le, leading-top}
+use lib.Seq.{sets}
+use Rattle.frame.proofs.Turns.{run-is, run-length}
 use borrow.Author.Needs.{needs}
 use Rattle.frame.proofs.word.put_ids_of.Statement.{statement}
 use Rattle.frame.proofs.word.put_ids_of.Tie as tie
 
-abbrev Inv-loop : tie.InvT-loop
-Inv-loop j w out₀ at first to₀ rest₀ out to rest = (first ≡ 1610612737 + 256 * j) × (length out ≡ length out₀) × ((b : ℕ) × (Passed w b rest) × (to ≡ at + length (idWordsIn j w b)) × (out ≡ sets out₀ at (idWordsIn j w b)))
+put-each-requires : tie.Need-put-each-requires
+put-each-requires c κs = search needs
 
-abbrev μ-loop : tie.MeasureT-loop
-μ-loop j w out₀ at first to₀ rest₀ out to rest = rest
+same-length : tie.Need-same-length
+same-length c = search needs
 
-cast-first : tie.Need-cast-first Inv-loop μ-loop
-cast-first c = search needs
+returns : tie.Need-returns
+returns c = search needs
 
-mul-first : tie.Need-mul-first Inv-loop μ-loop
-mul-first c = search needs
+shr-if2 : tie.Need-shr-if2
+shr-if2 c = let w = c .before .before .args .w in let t = leading-top 32 w (omega (arith, c .if1 .left)) (omega arith) in omega (arith, t .1)
 
-add-first : tie.Need-add-first Inv-loop μ-loop
-add-first c = search needs
+put-each-requires-2 : tie.Need-put-each-requires-2
+put-each-requires-2 c κs = search needs
 
-loop-holds : tie.Need-loop-holds Inv-loop μ-loop
-unfolding idWordsIn
-loop-holds c = (refl, refl, (0, passed-none (c .args .w) (omega arith), sym (add-zero (c .args .at)), refl))
+same-length-2 : tie.Need-same-length-2
+same-length-2 c = search needs
 
-add-out : tie.Need-add-out Inv-loop μ-loop
-add-out c = let z = c .before .before .args in
-    let i = c .before .loop .inv .2 in
-    let x = next (z .w) (i .0) (c .before .loop .rest) (i .1) (c .loop-test .taken) in
-    omega (arith, x .below, c .before .before .pre .0)
+returns-2 : tie.Need-returns-2
+returns-2 c = search needs
 
-mul-out : tie.Need-mul-out Inv-loop μ-loop
-mul-out c = let z = c .before .before .args in
-    let i = c .before .loop .inv .2 in
-    let x = next (z .w) (i .0) (c .before .loop .rest) (i .1) (c .loop-test .taken) in
-    let y = ids-step (z .j) (z .w) (i .0) (c .before .loop .rest) (i .1) (c .loop-test .taken) in
-    let r = ids-room (z .j) (z .w) (trailingZeros 32 (c .before .loop .rest) + 1) (omega (arith, x .below)) in
-    let l : length (idWordsIn (z .j) (z .w) (trailingZeros 32 (c .before .loop .rest) + 1)) ≡ length (idWordsIn (z .j) (z .w) (i .0)) + 1 = ap length y ∙ length-append (idWordsIn (z .j) (z .w) (i .0)) _ in
-    omega (arith, r, l, i .2, c .before .before .pre .1, c .before .loop .inv .1)
+cast-count : tie.Need-cast-count
+cast-count c = omega (arith, leading-le 32 (c .before .before .before .args .w))
 
-slice-write-out : tie.Need-slice-write-out Inv-loop μ-loop
-slice-write-out c = let z = c .before .before .args in
-    let i = c .before .loop .inv .2 in
-    let x = next (z .w) (i .0) (c .before .loop .rest) (i .1) (c .loop-test .taken) in
-    let y = ids-step (z .j) (z .w) (i .0) (c .before .loop .rest) (i .1) (c .loop-test .taken) in
-    let r = ids-room (z .j) (z .w) (trailingZeros 32 (c .before .loop .rest) + 1) (omega (arith, x .below)) in
-    let l : length (idWordsIn (z .j) (z .w) (trailingZeros 32 (c .before .loop .rest) + 1)) ≡ length (idWordsIn (z .j) (z .w) (i .0)) + 1 = ap length y ∙ length-append (idWordsIn (z .j) (z .w) (i .0)) _ in
-    omega (arith, r, l, i .2, c .before .before .pre .1, c .before .loop .inv .1)
+sub-count : tie.Need-sub-count
+sub-count c = omega (arith, leading-le 32 (c .before .before .before .args .w))
 
-sub-rest : tie.Need-sub-rest Inv-loop μ-loop
-sub-rest c = search needs
+cast-put-run : tie.Need-cast-put-run
+cast-put-run c = search needs
 
-add-to : tie.Need-add-to Inv-loop μ-loop
-add-to c = let z = c .before .before .args in
-    let i = c .before .loop .inv .2 in
-    let x = next (z .w) (i .0) (c .before .loop .rest) (i .1) (c .loop-test .taken) in
-    let y = ids-step (z .j) (z .w) (i .0) (c .before .loop .rest) (i .1) (c .loop-test .taken) in
-    let r = ids-room (z .j) (z .w) (trailingZeros 32 (c .before .loop .rest) + 1) (omega (arith, x .below)) in
-    let l : length (idWordsIn (z .j) (z .w) (trailingZeros 32 (c .before .loop .rest) + 1)) ≡ length (idWordsIn (z .j) (z .w) (i .0)) + 1 = ap length y ∙ length-append (idWordsIn (z .j) (z .w) (i .0)) _ in
-    omega (arith, r, l, i .2, c .before .before .pre .1, c .before .loop .inv .1)
+mul-put-run : tie.Need-mul-put-run
+mul-put-run c = search needs
 
-loop-less : tie.Need-loop-less Inv-loop μ-loop
-loop-less c = let z = c .before .before .args in
-    let i = c .before .loop .inv .2 in
-    let x = next (z .w) (i .0) (c .before .loop .rest) (i .1) (c .loop-test .taken) in
-    x .falls
+add-put-run : tie.Need-add-put-run
+add-put-run c = search needs
 
-loop-again : tie.Need-loop-again Inv-loop μ-loop
-loop-again c = let z = c .before .before .args in
-    let i = c .before .loop .inv .2 in
-    let x = next (z .w) (i .0) (c .before .loop .rest) (i .1) (c .loop-test .taken) in
-    let y = ids-step (z .j) (z .w) (i .0) (c .before .loop .rest) (i .1) (c .loop-test .taken) in
-    let r = ids-room (z .j) (z .w) (trailingZeros 32 (c .before .loop .rest) + 1) (omega (arith, x .below)) in
-    let l : length (idWordsIn (z .j) (z .w) (trailingZeros 32 (c .before .loop .rest) + 1)) ≡ length (idWordsIn (z .j) (z .w) (i .0)) + 1 = ap length y ∙ length-append (idWordsIn (z .j) (z .w) (i .0)) _ in (
-      c .before .loop .inv .0,
-      simp length-set (c .before .loop .inv .1),
-      (
-        trailingZeros 32 (c .before .loop .rest) + 1,
-        x .then,
-        omega (arith, l, i .2),
-        ap (λ (o : List ℕ). set o (c .before .loop .to) (1610612737 + 256 * z .j + trailingZeros 32 (c .before .loop .rest))) (i .3)
-            ∙ ap (λ (k : ℕ). set (sets (z .out .now) (z .at) (idWordsIn (z .j) (z .w) (i .0))) k (1610612737 + 256 * z .j + trailingZeros 32 (c .before .loop .rest))) (i .2)
-            ∙ sym (sets-append (z .out .now) (z .at) (idWordsIn (z .j) (z .w) (i .0)) ((1610612737 + 256 * z .j + trailingZeros 32 (c .before .loop .rest)) ∷ []))
-            ∙ ap (sets (z .out .now) (z .at)) (sym y),
-      ),
-    )
+put-run-requires : tie.Need-put-run-requires
+put-run-requires c κs = let z = c .before .before .before .before .args in let l = run-length (z .j) (z .w) (leadingZeros 32 (z .w)) (leading-le 32 (z .w)) (c .before .if2 .left) in (omega arith, omega arith, omega (arith, l, c .before .before .before .before .pre .1))
 
-same-length : tie.Need-same-length Inv-loop μ-loop
-same-length c = c .before .loop .inv .1
+add-result : tie.Need-add-result
+add-result c = search needs
 
-returns : tie.Need-returns Inv-loop μ-loop
-returns c = let z = c .before .before .args in
-    let i = c .before .loop .inv .2 in
-    let e = ids-end (z .j) (z .w) (i .0) (c .before .loop .rest) (i .1) (c .loop-test .left) in
-    (i .2 ∙ ap (λ (l : List ℕ). z .at + length l) (sym e), i .3 ∙ ap (sets (z .out .now) (z .at)) (sym e))
+same-length-3 : tie.Need-same-length-3
+same-length-3 c = search needs
+
+returns-3 : tie.Need-returns-3
+returns-3 c = let z = c .before .before .before .before .before .before .before .args in let f = leadingZeros 32 (z .w) in let l = run-length (z .j) (z .w) f (leading-le 32 (z .w)) (c .before .before .before .before .if2 .left) in (omega (arith, l), c .before .before .put-run .ensures ∙ ap (sets (z .out .now) (z .at)) (sym (run-is (z .j) (z .w) f (leading-le 32 (z .w)) (c .before .before .before .before .if2 .left))))
 
 pub put-ids-of-spec : {M : Type 1} → statement M
 put-ids-of-spec =
     tie.close
     (tie.spec
-    Inv-loop
-    μ-loop
-    cast-first
-    mul-first
-    add-first
-    loop-holds
-    add-out
-    mul-out
-    slice-write-out
-    sub-rest
-    add-to
-    loop-less
-    loop-again
+    put-each-requires
     same-length
-    returns)
+    returns
+    shr-if2
+    put-each-requires-2
+    same-length-2
+    returns-2
+    cast-count
+    sub-count
+    cast-put-run
+    mul-put-run
+    add-put-run
+    put-run-requires
+    add-result
+    same-length-3
+    returns-3)
