@@ -57,6 +57,16 @@ fn fill(f: Frame, out: &mut [u32], n: usize)
     crate::word::put_sum(out, end);
 }
 
+// A frame that is known to be one, where there is known to be room: nothing is asked again. Gives the number of its words.
+pub fn put(f: Frame, out: &mut [u32]) -> usize
+    requires { ⌜ (frameOk (f .offices) 64 f ≡ true) × (length (frameWords f) ≤ length (now out)) ⌝ }
+    ensures { λ r. ⌜ (r ≡ length (frameWords f)) × (now (out .exit) ≡ laid (frameWords f) (now (out .entry))) ⌝ }
+{
+    let n = words_of(f);
+    fill(f, out, n);
+    n
+}
+
 // 01: write a frame.
 pub fn write_frame(f: Frame, out: &mut [u32]) -> Written
     ensures { λ r. ⌜ WriteFramePromise f (now (out .entry)) (replyOf r) (now (out .exit)) ⌝ }

@@ -33,7 +33,6 @@ use Rattle.store.proofs.Changes.{held-words, hold-words, show-words}
 use Rattle.office.specs.Calls.{stored, entryCode, onward, receiveCode, holdNew, receivedBy, receiveSends, receiveOn, receive}
 use Rattle.office.specs.Steps.{holdIf}
 use Rattle.office.proofs.KeepCalls.{Known, known, takes-new, kept, seed-set, seed-held}
-use Rattle.office.proofs.Sends.{reply-is, row-is}
 use Rattle.office.proofs.Writes.{settings, slot-of}
 
 module _ (ws : List ℕ) (f : Frame) (out : List ℕ) where
@@ -142,38 +141,43 @@ module _ (ws : List ℕ) (f : Frame) (out : List ℕ) where
               ∙ ap (λ (b : Bool). storeWords ws (cond b (reveal H (inserted zeros (idOf (f .entry)))) H)) (sym (eq-eqb (f .hops) 0 h))
 
       -- it goes on
-      pub taken-on : (z y : List ℕ) (g : Frame) (r : Reply) → (f .hops ≡ 0 → ⊥) → z ≡ storeWords ws (holdNew (officeOf ws) (f .entry)) → g ≡ onward f
-          → r ≡ writeFrame g (length out) → y ≡ writeFrameRow g out → Takes r z y
-      unfolding receiveSends rowsOf receivedBy either
-      taken-on z y g r h e q a b = let d = done none in (answer ∙ d .0, stays ∙ d .1, row ∙ d .2)
+      F : FrameFacts (getD ws 0 0) (getD ws 2 0) f
+      F = frame-facts (getD ws 0 0) (getD ws 2 0) f ok
+
+      pub on-ok : frameOk (onward f .offices) 64 (onward f) ≡ true
+      on-ok =
+          frame-wider (getD ws 0 0) (getD ws 2 0) 64 (onward f) (settings ws sound .to)
+          (facts-frame (getD ws 0 0) (getD ws 2 0) (onward f) (record { ring = F .ring; low = F .low; high = F .high; hops-ok = omega (arith, F .hops-ok); entry = F .entry }))
+
+      pub on-room : (f .hops ≡ 0 → ⊥) → length (frameWords (onward f)) ≤ length out
+      unfolding either
+      on-room h =
+          let t : either (eqb (f .hops) 0) (leb (length (frameWords (onward f))) (length out)) ≡ true = parts .2 in
+          let u : leb (length (frameWords (onward f))) (length out) ≡ true = rw (ne-eqb (f .hops) 0 h) at t in
+          leb-true (length (frameWords (onward f))) (length out) u
+
+      pub taken-on : (z y : List ℕ) (g : Frame) (m : ℕ) → (f .hops ≡ 0 → ⊥) → z ≡ storeWords ws (holdNew (officeOf ws) (f .entry)) → g ≡ onward f
+          → m ≡ length (frameWords g) → y ≡ laid (frameWords g) out → Takes (record { code = 0; words = m }) z y
+      unfolding receiveSends rowsOf receivedBy
+      taken-on z y g m h e q a b = let d = done none in (answer ∙ d .0, stays ∙ d .1, row ∙ d .2)
         where
-          F : FrameFacts (getD ws 0 0) (getD ws 2 0) f
-          F = frame-facts (getD ws 0 0) (getD ws 2 0) f ok
-
-          on-ok : frameOk (onward f .offices) 64 (onward f) ≡ true
-          on-ok =
-              frame-wider (getD ws 0 0) (getD ws 2 0) 64 (onward f) (settings ws sound .to)
-              (facts-frame (getD ws 0 0) (getD ws 2 0) (onward f) (record { ring = F .ring; low = F .low; high = F .high; hops-ok = omega (arith, F .hops-ok); entry = F .entry }))
-
-          room : length (frameWords (onward f)) ≤ length out
-          room =
-              let t : either (eqb (f .hops) 0) (leb (length (frameWords (onward f))) (length out)) ≡ true = parts .2 in
-              let u : leb (length (frameWords (onward f))) (length out) ≡ true = rw (ne-eqb (f .hops) 0 h) at t in
-              leb-true (length (frameWords (onward f))) (length out) u
-
           sends : rowsOf (receiveSends f) ≡ frameWords (onward f)
           sends = rw (ne-eqb (f .hops) 0 h) (append-nil (frameWords (onward f)))
 
-          answer : r ≡ record { code = 0; words = length (rowsOf (receiveSends f)) }
-          answer =
-              a ∙ ap (λ (x : Frame). writeFrame x (length out)) q ∙ reply-is (onward f) out on-ok room
-              ∙ ap (λ (l : List ℕ). record { code = 0; words = length l }) (sym sends)
+          same-row : frameWords g ≡ rowsOf (receiveSends f)
+          same-row = ap frameWords q ∙ sym sends
+
+          said : ℕ → Reply
+          said k = record { code = 0; words = k }
+
+          answer : said m ≡ said (length (rowsOf (receiveSends f)))
+          answer = ap said (a ∙ ap length same-row)
 
           stays : z ≡ storeWords ws (receivedBy (officeOf ws) f)
           stays = e ∙ ap (λ (b : Bool). storeWords ws (cond b (reveal H (inserted zeros (idOf (f .entry)))) H)) (sym (ne-eqb (f .hops) 0 h))
 
           row : y ≡ laid (rowsOf (receiveSends f)) out
-          row = b ∙ ap (λ (x : Frame). writeFrameRow x out) q ∙ row-is (onward f) out on-ok room ∙ ap (λ (l : List ℕ). laid l out) (sym sends)
+          row = b ∙ ap (λ (l : List ℕ). laid l out) same-row
 
 -- ---- the call
 

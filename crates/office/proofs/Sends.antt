@@ -45,43 +45,23 @@ number-some Different e = omega arith
 number-some Missing e = omega arith
 number-some OwnWrite e = omega arith
 
-module _ (f : Frame) (row : List ℕ) (v : frameOk (f .offices) 64 f ≡ true) (h : length (frameWords f) ≤ length row) where
-  pub reply-is : writeFrame f (length row) ≡ record { code = 0; words = length (frameWords f) }
-  unfolding writeFrame replied
-  reply-is = rw (write-code-0 f row v h) refl
-
-  pub row-is : writeFrameRow f row ≡ laid (frameWords f) row
-  unfolding writeFrameRow laidIf
-  row-is = rw (write-code-0 f row v h) refl
-
 -- ---- a part that was lent from its start on, with words written at its front
 
 lent-sets : (o ws : List ℕ) (at : ℕ) → at + length ws ≤ length o → take at o ++ (ws ++ drop (length ws) (drop at o)) ≡ sets o at ws
 lent-sets o ws at h =
     rw (drop-drop (length ws) at o) (sym (append-assoc (take at o) ws (drop (at + length ws) o)) ∙ sym (sets-eq ws o at h))
 
-module _ (f : Frame) (o : List ℕ) (at : ℕ) (v : frameOk (f .offices) 64 f ≡ true) (h : at + length (frameWords f) ≤ length o) where
+module _ (f : Frame) (o : List ℕ) (at : ℕ) (h : at + length (frameWords f) ≤ length o) where
   rest : take (length o - at) (drop at o) ≡ drop at o
   rest = take-all (length o - at) (drop at o) (simp length-drop (omega arith))
 
-  fits : length (frameWords f) ≤ length (take (length o - at) (drop at o))
+  pub fits : length (frameWords f) ≤ length (take (length o - at) (drop at o))
   fits = rw rest (simp length-drop (omega arith))
 
-  pub told : (m : ℕ) → replyOf (Words m) ≡ writeFrame f (length (take (length o - at) (drop at o))) → m ≡ length (frameWords f)
-  unfolding replyOf
-  told m e = ap (λ (r : Reply). r .words) (e ∙ reply-is f (take (length o - at) (drop at o)) v fits)
-
-  pub not-refused : (x : Refusal) → replyOf (NotWritten x) ≡ writeFrame f (length (take (length o - at) (drop at o))) → ⊥
-  unfolding replyOf
-  not-refused x e = number-some x (ap (λ (r : Reply). r .code) (e ∙ reply-is f (take (length o - at) (drop at o)) v fits))
-
-  pub put-lent : (new : List ℕ) → new ≡ writeFrameRow f (take (length o - at) (drop at o))
+  pub put-lent : (new : List ℕ) → new ≡ laid (frameWords f) (take (length o - at) (drop at o))
       → take at o ++ (new ++ drop (length o - at) (drop at o)) ≡ sets o at (frameWords f)
   unfolding laid
-  put-lent new e =
-      let w : new ≡ frameWords f ++ drop (length (frameWords f)) (take (length o - at) (drop at o)) =
-      e ∙ row-is f (take (length o - at) (drop at o)) v fits
-      in
+  put-lent new w =
       let n : drop (length o - at) (drop at o) ≡ [] = drop-of-length-le (drop at o) {i = length o - at} (simp length-drop (omega arith)) in
       rw (w, n, append-nil, rest) (lent-sets o (frameWords f) at h)
 

@@ -91,7 +91,7 @@ fn taken(store: &mut [u32], f: Frame, out: &mut [u32]) -> Written
         reveal_id(&mut *store, frame::entry::id_of(e));
         return Written::Words(0);
     }
-    frame::writer::write_frame(onward(f), out)
+    Written::Words(frame::writer::put(onward(f), out))
 }
 
 // 01: hear a frame.

@@ -1,7 +1,6 @@
 // The frames of a write: of the own writes that are not held, in order, then of the new entry.
 use frame::entry::Entry;
 use frame::entry::Frame;
-use frame::refusal::Written;
 use frame::session::Session;
 ghost use mathlib.Core.Path.{_≡_};
 ghost use mathlib.Core.Bool.{true};
@@ -80,11 +79,7 @@ fn put_frame(f: Frame, out: &mut [u32], at: usize) -> usize
     requires { ⌜ (frameOk (f .offices) 64 f ≡ true) × (at + length (frameWords f) ≤ length (now out)) ⌝ }
     ensures { λ r. ⌜ (r ≡ at + length (frameWords f)) × (now (out .exit) ≡ sets (now (out .entry)) at (frameWords f)) ⌝ }
 {
-    let written = frame::writer::write_frame(f, &mut out[at..]);
-    match written {
-        Written::Words(n) => at + n,
-        Written::NotWritten(_) => at,
-    }
+    at + frame::writer::put(f, &mut out[at..])
 }
 
 fn put_turn(held: [u32; 8], n: u32, e: Entry, out: &mut [u32], at: usize) -> usize

@@ -1,13 +1,16 @@
 use native.Mathlib.Omega.{arith}
-use Prim.Native.Nat.{ℕ, _^_, _<_}
-use mathlib.Core.Path.{sym, ap, _∙_}
+use Prim.Native.Nat.{ℕ, _^_, _<_, _≤_}
+use mathlib.Core.Bool.{true}
+use mathlib.Core.Path.{_≡_, sym, ap, _∙_, subst}
 use lib.ListN.{length, getD}
+use Rattle.frame.specs.Frames.{frameOk, frameWords}
 use Rattle.frame.specs.Refusals.{replyOf}
+use Rattle.frame.specs.declared.entry.Frame.{Frame}
 use Rattle.frame.proofs.Sessions.{SaneEntry}
 use Rattle.store.specs.Offices.{officeOf}
 use Rattle.store.proofs.Rules.{laid}
 use Rattle.office.proofs.OwnCodes.{receive-le}
-use Rattle.office.proofs.Receives.{slot, held-new, seed-ready, taken-refused, taken-last, taken-on}
+use Rattle.office.proofs.Receives.{slot, held-new, seed-ready, taken-refused, taken-last, on-ok, on-room, taken-on}
 use borrow.Author.Needs.{needs}
 use Rattle.office.proofs.receive.taken.Statement.{statement}
 use Rattle.office.proofs.receive.taken.Tie as tie
@@ -84,8 +87,19 @@ returns-2 c = let s = c .before .before .before .before .before .before .before 
 onward-requires : tie.Need-onward-requires
 onward-requires c κs = search needs
 
-write-frame-requires : tie.Need-write-frame-requires
-write-frame-requires c κs = search needs
+put-requires : tie.Need-put-requires
+put-requires c κs =
+    let s = c .before .before .before .before .before .before .before .before .before .before .before .before .before .before .before .before in
+    let ws = s .args .store .now in
+    let f = s .args .f in
+    let out = s .args .out .now in
+    let fit : (i : ℕ) → getD ws i 0 < 2 ^ 32 = λ i. c .before .before .before .before .before .before .before .before .before .before .before .before .before .before .before .slice-known .given i .fits in
+    let sane : SaneEntry (f .entry) = record { clock8 = s .pre .2; deps-set = s .pre .3 } in
+    let z = sym (c .before .before .before .before .before .before .before .before .before .before .receive-code .ensures) ∙ c .before .before .before .before .before .before .before .before .before .if1 .left in
+    let g = c .before .onward .ensures in (
+      subst (λ (x : Frame). frameOk (x .offices) 64 x ≡ true) (sym g) (on-ok ws f out fit (s .pre .0) (s .pre .1) sane z),
+      subst (λ (x : Frame). length (frameWords x) ≤ length out) (sym g) (on-room ws f out fit (s .pre .0) (s .pre .1) sane z (c .before .before .if2 .left)),
+    )
 
 same-length-3 : tie.Need-same-length-3
 same-length-3 c = search needs
@@ -94,6 +108,7 @@ same-length-4 : tie.Need-same-length-4
 same-length-4 c = search needs
 
 returns-3 : tie.Need-returns-3
+unfolding replyOf
 returns-3 c = let s = c .before .before .before .before .before .before .before .before .before .before .before .before .before .before .before .before .before .before .before in
     let ws = s .args .store .now in
     let f = s .args .f in
@@ -102,7 +117,8 @@ returns-3 c = let s = c .before .before .before .before .before .before .before 
     let sane : SaneEntry (f .entry) = record { clock8 = s .pre .2; deps-set = s .pre .3 } in
     let z = sym (c .before .before .before .before .before .before .before .before .before .before .before .before .before .receive-code .ensures) ∙ c .before .before .before .before .before .before .before .before .before .before .before .before .if1 .left in
     let h = held-new ws f out fit (s .pre .0) (s .pre .1) sane z (c .before .before .before .before .before .before .before .before .before .before .before .before .before .before .before .set-at .result) _ (c .before .before .before .before .before .before .before .before .before .before .before .before .before .before .before .set-at .ensures) (c .before .before .before .before .before .before .before .before .before .hold-new .ensures) in
-    taken-on ws f out fit (s .pre .0) (s .pre .1) sane z _ _ (c .before .before .before .before .onward .result) _ (c .before .before .before .before .before .if2 .left) h (c .before .before .before .before .onward .ensures) (c .before .before .write-frame .ensures .0) (c .before .before .write-frame .ensures .1)
+    let put = c .before .before .put .ensures in
+    taken-on ws f out fit (s .pre .0) (s .pre .1) sane z _ _ (c .before .before .before .before .onward .result) _ (c .before .before .before .before .before .if2 .left) h (c .before .before .before .before .onward .ensures) (put .0) (put .1)
 
 pub taken-spec : {M : Type 1} → statement M
 taken-spec =
@@ -119,7 +135,7 @@ taken-spec =
     same-length-2
     returns-2
     onward-requires
-    write-frame-requires
+    put-requires
     same-length-3
     same-length-4
     returns-3)
