@@ -8,11 +8,11 @@ use native.Mathlib.Nat.{add-zero, le-refl, mod-eq-of-lt}
 use native.Mathlib.Numerals.{add-one}
 use native.Mathlib.Omega.{arith}
 use lib.Bits.{bitOr}
-use lib.Dec.{leb, ltb, eqb}
+use lib.Dec.{ltb}
 use lib.ListN.{length, getD, take, set}
 use lib.Pow.{pow-add, pow-lt}
 use lib.Seq.{take-suc, take-length, getD-set-same, getD-set-other, set-getD, set-set}
-use borrow.Author.Tests.{ltb-true, leb-true, eqb-true, lt-ltb, le-leb, eq-eqb}
+use borrow.Author.Tests.{ltb-true, eqb-true, lt-ltb, le-leb, eq-eqb}
 use Rattle.causal.specs.Tests.{both, either}
 use Rattle.causal.specs.Lists.{zeros}
 use Rattle.causal.specs.Sets.{inserted}

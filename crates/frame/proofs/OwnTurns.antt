@@ -97,17 +97,19 @@ pub none-ok : (n p : ℕ) (read : List ℕ) (f : ℕ → Entry) (m : ℕ) → m 
 unfolding ownOk tab
 none-ok n p read f m e = rw e refl
 
+-- the entries in the row of sixteen that has them
+pub owns-back : (es : List Entry) → tab (length es) (ownsOf (filled es)) ≡ es
+unfolding filled
+owns-back es =
+    ext-getD nobody (tab (length es) (ownsOf (filled es))) es (tab-length (length es) (ownsOf (filled es)))
+    (λ i l.
+    let m : i < length es = rw (tab-length (length es) (ownsOf (filled es))) at l in
+    tab-at (length es) (ownsOf (filled es)) i nobody m ∙ List·getD-append es (replicate (16 - length es) blankEntry) nobody i m)
+
 -- the content of the session that says it
 pub content-back : (c : Content) → length (c .own) ≤ 16 → contentOf (sessionOf c) ≡ c
-unfolding contentOf sessionOf filled
-content-back c h =
-    let own : tab (length (c .own)) (ownsOf (filled (c .own))) ≡ c .own =
-    ext-getD nobody (tab (length (c .own)) (ownsOf (filled (c .own)))) (c .own) (tab-length (length (c .own)) (ownsOf (filled (c .own))))
-    (λ i l.
-    let m : i < length (c .own) = rw (tab-length (length (c .own)) (ownsOf (filled (c .own)))) at l in
-    tab-at (length (c .own)) (ownsOf (filled (c .own))) i nobody m ∙ List·getD-append (c .own) (replicate (16 - length (c .own)) blankEntry) nobody i m)
-    in
-    λ i. record { offices = c .offices; clock = c .clock; read = c .read; own = own i }
+unfolding contentOf sessionOf
+content-back c h = λ i. record { offices = c .offices; clock = c .clock; read = c .read; own = owns-back (c .own) i }
 
 -- ---- the tests of one own write, in the order in which the code asks them
 

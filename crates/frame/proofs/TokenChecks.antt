@@ -90,7 +90,7 @@ shape-facts n ws e =
       room = leb-true (n + tokenReads ws + 2) (length ws) (f .1);
     }
 
-facts-shape : (n : ℕ) (ws : List ℕ) → Shape n ws → tokenShape n ws ≡ true
+pub facts-shape : (n : ℕ) (ws : List ℕ) → Shape n ws → tokenShape n ws ≡ true
 unfolding tokenShape isKind either both
 facts-shape n ws s =
     both-intro _ _ (lt-ltb 0 (length ws) (s .some))
@@ -190,7 +190,7 @@ checked-facts n p ws e =
     let f = both-true (ascends n 0 (part ws (1 + n) (tokenReads ws))) _ (d .1) in
     record { shape = shape-facts n ws (c .0); clock = d .0; reads = f .0; owns = f .1; sound = b .0; sum = b .1 }
 
-facts-checked : (n p : ℕ) (ws : List ℕ) → Checked n p ws → tokenChecked n p ws ≡ true
+pub facts-checked : (n p : ℕ) (ws : List ℕ) → Checked n p ws → tokenChecked n p ws ≡ true
 unfolding tokenChecked fieldsOk
 facts-checked n p ws c =
     both-intro _ _ (both-intro _ _ (facts-shape n ws (c .shape)) (both-intro _ _ (c .clock) (both-intro _ _ (c .reads) (c .owns))))

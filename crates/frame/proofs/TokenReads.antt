@@ -1,26 +1,61 @@
 -- What the reader of a token answers, by its steps. Assumes nothing.
 use Prim.Native.Nat.{ℕ, suc, _+_, _-_}
 use mathlib.Core.Path.{_≡_, refl, sym, ap, _∙_}
-use mathlib.Core.Bool.{true, false}
-use mathlib.Core.List.{List}
+use mathlib.Core.Bool.{Bool, true, false, cond}
+use mathlib.Core.List.{List, []}
 use native.Mathlib.Omega.{arith}
+use lib.Dec.{eqb}
 use lib.ListN.{length, take, drop}
 use Rattle.causal.specs.Tests.{both}
 use Rattle.causal.specs.Codes.{check}
-use Rattle.causal.specs.Lists.{part}
-use Rattle.causal.proofs.Tests.{both-true}
+use Rattle.causal.specs.Lists.{part, tab, zeros}
+use Rattle.causal.proofs.Tests.{both-true, both-intro, both-one, same-test, not-so, false-true}
 use Rattle.frame.specs.declared.entry.Entry.{Entry}
 use Rattle.frame.specs.declared.session.Session.{Session}
 use Rattle.frame.specs.Words.{clockFrom, idsFrom}
 use Rattle.frame.specs.Frames.{ringOk}
 use Rattle.frame.specs.Reading.{clockKinds, ascends, sumOk}
-use Rattle.frame.specs.Sessions.{contentOf, filled, sessionOf, sessionOk, freshContent}
-use Rattle.frame.specs.Tokens.{ownFrom, tokenOffices, tokenOwns, tokenReads, contentFrom, acceptsToken}
-use Rattle.frame.specs.TokenReading.{tokenShape, ownFramesOk, fieldsOk, tokenChecked}
+use Rattle.frame.specs.Sessions.{Content, filled, sessionOf, ownOk, sessionOk, freshContent}
+use Rattle.frame.specs.Tokens.{ownFrom, tokenOwns, tokenReads, contentFrom, acceptsToken}
+use Rattle.frame.specs.TokenReading.{tokenShape, ownFramesOk, tokenChecked, startOk, carriedOk, contentAt}
 use Rattle.frame.specs.TokenCalls.{readTokenCode, contentIf, readToken}
-use Rattle.frame.proofs.OwnTurns.{content-back}
+use Rattle.frame.specs.Entries.{clockOk}
+use Rattle.frame.proofs.Ascents.{ids-range}
+use Rattle.frame.proofs.OwnTurns.{ownsOf, owns-back}
+use Rattle.frame.proofs.Sessions.{session-facts, facts-session}
 use Rattle.frame.proofs.TokenTurns.{own-count, lent-rest}
-use Rattle.frame.proofs.TokenChecks.{Shape, shape-facts, token-checks-accept}
+use Rattle.frame.proofs.TokenChecks.{Shape, shape-facts, facts-shape, Checked, checked-facts, facts-checked, token-checks-accept}
+
+-- ---- the own frames of a row
+
+module _ (k n p : ℕ) (clock read ws : List ℕ) where
+  abbrev Laden : Content
+  Laden = record { offices = n; clock = clock; read = read; own = ownFrom k n ws }
+
+  pub no-frames : ownFramesOk k n p ws ≡ false → carriedOk k n p read ws ≡ false
+  unfolding carriedOk both
+  no-frames e = rw e refl
+
+  pub after-frames : (own : List Entry) (r : Bool) → ownFramesOk k n p ws ≡ true → own ≡ filled (ownFrom k n ws) → r ≡ ownOk n p read zeros (tab k (ownsOf own))
+      → r ≡ carriedOk k n p read ws
+  unfolding carriedOk both
+  after-frames own r f e q =
+      let es : List Entry = ownFrom k n ws in
+      let t : tab k (ownsOf own) ≡ es = ap (λ (l : List Entry). tab k (ownsOf l)) e ∙ ap (λ (m : ℕ). tab m (ownsOf (filled es))) (sym (own-count k n ws)) ∙ owns-back es in
+      rw f (q ∙ ap (ownOk n p read zeros) t)
+
+  pub laden-refused : carriedOk k n p read ws ≡ false → (code : ℕ) (s : Session) → code ≡ 9 → s ≡ sessionOf (freshContent 0)
+      → (code ≡ check (carriedOk k n p read ws) 9 0) × (s ≡ sessionOf (cond {A = Content} (carriedOk k n p read ws) Laden (freshContent 0)))
+  unfolding check
+  laden-refused e code s a b = (rw e a, rw e b)
+
+  pub laden-taken : carriedOk k n p read ws ≡ true → (own : List Entry) → own ≡ filled (ownFrom k n ws)
+      → (0 ≡ check (carriedOk k n p read ws) 9 0)
+      × (_≡_ {A = Session} (record { offices = n; clock = clock; read = read; count = k; own = own }) (sessionOf (cond {A = Content} (carriedOk k n p read ws) Laden (freshContent 0))))
+  unfolding check sessionOf
+  laden-taken e own q =
+      let m = sym (own-count k n ws) in
+      (rw e refl, rw e (λ i. record { offices = n; clock = clock; read = read; count = m i; own = q i }))
 
 module _ (n p : ℕ) (ws : List ℕ) where
   -- ---- the fields
@@ -40,47 +75,85 @@ module _ (n p : ℕ) (ws : List ℕ) where
   pub owns-behind : take (length ws - (1 + n + tokenReads ws)) Rest ≡ Rest
   owns-behind = lent-rest ws n p 0 (1 + n + tokenReads ws)
 
-  pub no-shape : tokenShape n ws ≡ false → fieldsOk n p ws ≡ false
-  unfolding fieldsOk both
-  no-shape e = rw e refl
-
-  pub no-clock : tokenShape n ws ≡ true → clockKinds ws 1 n ≡ false → fieldsOk n p ws ≡ false
-  unfolding fieldsOk both
-  no-clock s e = rw (s, e) refl
-
-  pub no-reads : tokenShape n ws ≡ true → clockKinds ws 1 n ≡ true → ascends n 0 Ids ≡ false → fieldsOk n p ws ≡ false
-  unfolding fieldsOk both
-  no-reads s c e = rw (s, c, e) refl
-
-  pub owns-left : tokenShape n ws ≡ true → clockKinds ws 1 n ≡ true → ascends n 0 Ids ≡ true → fieldsOk n p ws ≡ ownFramesOk (tokenOwns ws) n p Rest
-  unfolding fieldsOk both
-  owns-left s c e = rw (s, c, e) refl
-
-  pub session-at : Shape n ws → (clock read : List ℕ) (own : List Entry) → clock ≡ clockFrom ws 1 n → read ≡ idsFrom Ids → own ≡ filled (ownFrom (tokenOwns ws) n Rest)
-      → _≡_ {A = Session} (record { offices = n; clock = clock; read = read; count = tokenOwns ws; own = own }) (sessionOf (contentFrom ws))
-  unfolding sessionOf contentFrom
-  session-at s clock read own a b c =
+  pub content-at : Shape n ws → contentAt n ws ≡ contentFrom ws
+  unfolding contentAt contentFrom
+  content-at s =
       let o = sym (s .ring) in
-      let Own : ℕ → List Entry = λ m. ownFrom (tokenOwns ws) m (drop (1 + m + tokenReads ws) ws) in
-      let ea : clock ≡ clockFrom ws 1 (tokenOffices ws) = a ∙ ap (clockFrom ws 1) o in
-      let eb : read ≡ idsFrom (part ws (1 + tokenOffices ws) (tokenReads ws)) = b ∙ ap (λ (m : ℕ). idsFrom (part ws (1 + m) (tokenReads ws))) o in
-      let ec : own ≡ filled (Own (tokenOffices ws)) = c ∙ ap (λ (m : ℕ). filled (Own m)) o in
-      let ed : tokenOwns ws ≡ length (Own (tokenOffices ws)) = sym (own-count (tokenOwns ws) (tokenOffices ws) (drop (1 + tokenOffices ws + tokenReads ws) ws)) in
-      λ i. record { offices = o i; clock = ea i; read = eb i; count = ed i; own = ec i }
+      λ i.
+      record {
+        offices = o i;
+        clock = ap (clockFrom ws 1) o i;
+        read = ap (λ (m : ℕ). idsFrom (part ws (1 + m) (tokenReads ws))) o i;
+        own = ap (λ (m : ℕ). ownFrom (tokenOwns ws) m (drop (1 + m + tokenReads ws) ws)) o i;
+      }
 
-  -- ---- what passed fields say
+  -- the same by what was read
+  pub content-of : (clock read vs : List ℕ) → clock ≡ clockFrom ws 1 n → read ≡ idsFrom Ids → vs ≡ Rest
+      → _≡_ {A = Content} (record { offices = n; clock = clock; read = read; own = ownFrom (tokenOwns ws) n vs }) (contentAt n ws)
+  unfolding contentAt
+  content-of clock read vs a b c = λ i. record { offices = n; clock = a i; read = b i; own = ownFrom (tokenOwns ws) n (c i) }
 
-  pub fields-shape : fieldsOk n p ws ≡ true → Shape n ws
-  unfolding fieldsOk
-  fields-shape e = shape-facts n ws (both-true (tokenShape n ws) _ e .0)
+  pub content-bare : (clock read : List ℕ) → clock ≡ clockFrom ws 1 n → read ≡ idsFrom Ids → tokenOwns ws ≡ 0
+      → _≡_ {A = Content} (record { offices = n; clock = clock; read = read; own = [] }) (contentAt n ws)
+  unfolding ownFrom
+  content-bare clock read a b e =
+      ap (λ (k : ℕ). record { offices = n; clock = clock; read = read; own = ownFrom k n Rest }) (sym e) ∙ content-of clock read Rest a b refl
 
-  -- the session that is read has the content of the row
-  pub content-is : fieldsOk n p ws ≡ true → (s : Session) → s ≡ sessionOf (contentFrom ws) → contentOf s ≡ contentFrom ws
-  unfolding contentFrom
-  content-is e s q =
-      let S = fields-shape e in
-      let k = own-count (tokenOwns ws) (tokenOffices ws) (drop (1 + tokenOffices ws + tokenReads ws) ws) in
-      ap contentOf q ∙ content-back (contentFrom ws) (omega (arith, k, S .few))
+  -- ---- the checks, in the order in which they are asked
+
+  record Start : Type 0 where
+    pub shape : Shape n ws
+    pub kinds : clockKinds ws 1 n ≡ true
+    pub reads : ascends n 0 Ids ≡ true
+    pub sum : sumOk ws ≡ true
+
+  start-facts : startOk n ws ≡ true → Start
+  unfolding startOk
+  start-facts e =
+      let a = both-true (tokenShape n ws) _ e in
+      let b = both-true (clockKinds ws 1 n) _ (a .1) in
+      let c = both-true (ascends n 0 Ids) _ (b .1) in
+      record { shape = shape-facts n ws (a .0); kinds = b .0; reads = c .0; sum = c .1 }
+
+  pub start-shape : startOk n ws ≡ true → Shape n ws
+  start-shape e = start-facts e .shape
+
+  pub start-reads : startOk n ws ≡ true → ascends n 0 Ids ≡ true
+  start-reads e = start-facts e .reads
+
+  to-start : Checked n p ws → startOk n ws ≡ true
+  unfolding startOk
+  to-start c = both-intro _ _ (facts-shape n ws (c .shape)) (both-intro _ _ (c .clock) (both-intro _ _ (c .reads) (c .sum)))
+
+  abbrev Owns : Bool
+  Owns = carriedOk (tokenOwns ws) n p (idsFrom Ids) Rest
+
+  pub checks-left : startOk n ws ≡ true → tokenChecked n p ws ≡ both (clockOk n (clockFrom ws 1 n)) Owns
+  unfolding carriedOk contentAt
+  checks-left e = same-test _ _ to from
+    where
+      S : Start
+      S = start-facts e
+
+      to : tokenChecked n p ws ≡ true → both (clockOk n (clockFrom ws 1 n)) Owns ≡ true
+      to t =
+          let c = checked-facts n p ws t in
+          let f = session-facts n p (contentAt n ws) (ap (sessionOk n p) (content-at (S .shape)) ∙ c .sound) in
+          both-intro _ _ (f .clock) (both-intro _ _ (c .owns) (f .own))
+
+      from : both (clockOk n (clockFrom ws 1 n)) Owns ≡ true → tokenChecked n p ws ≡ true
+      from t =
+          let a = both-true (clockOk n (clockFrom ws 1 n)) _ t in
+          let b = both-true (ownFramesOk (tokenOwns ws) n p Rest) _ (a .1) in
+          let few = own-count (tokenOwns ws) n Rest in
+          let f = facts-session n p (contentAt n ws) (record { offices = refl; few = omega (arith, few, S .shape .few); clock = a .0; ids = ids-range n Ids (S .reads); own = b .1 }) in
+          facts-checked n p ws
+          (record { shape = S .shape; clock = S .kinds; reads = S .reads; owns = b .0; sound = ap (sessionOk n p) (sym (content-at (S .shape))) ∙ f; sum = S .sum })
+
+  -- no own frames
+  pub none-carried : (k : ℕ) (read vs : List ℕ) → k ≡ 0 → carriedOk k n p read vs ≡ eqb (length vs) 1
+  unfolding carriedOk ownFramesOk ownFrom ownOk
+  none-carried k read vs e = rw e (both-one (eqb (length vs) 1))
 
   -- ---- refusals
 
@@ -97,24 +170,22 @@ module _ (n p : ℕ) (ws : List ℕ) where
   unfolding readTokenCode check
   not-checked r e = rw (r, ← token-checks-accept n p ws r, e) refl
 
-  pub fields-refused : ringOk n p ≡ true → fieldsOk n p ws ≡ false → readTokenCode n p ws ≡ 9
-  unfolding tokenChecked both
-  fields-refused r e = not-checked r (rw e refl)
+  pub start-refused : ringOk n p ≡ true → startOk n ws ≡ false → readTokenCode n p ws ≡ 9
+  start-refused r e = not-checked r (not-so (tokenChecked n p ws) (λ t. false-true (sym e ∙ to-start (checked-facts n p ws t))))
 
-  pub session-refused : ringOk n p ≡ true → fieldsOk n p ws ≡ true → sessionOk n p (contentFrom ws) ≡ false → readTokenCode n p ws ≡ 9
-  unfolding tokenChecked both
-  session-refused r f e = not-checked r (rw (f, e) refl)
-
-  pub sum-refused : ringOk n p ≡ true → fieldsOk n p ws ≡ true → sessionOk n p (contentFrom ws) ≡ true → sumOk ws ≡ false → readTokenCode n p ws ≡ 9
-  unfolding tokenChecked both
-  sum-refused r f s e = not-checked r (rw (f, s, e) refl)
+  pub clock-refused : ringOk n p ≡ true → startOk n ws ≡ true → clockOk n (clockFrom ws 1 n) ≡ false → readTokenCode n p ws ≡ 9
+  unfolding both
+  clock-refused r s e = not-checked r (checks-left s ∙ rw e refl)
 
   -- ---- and otherwise
 
-  pub accepted : ringOk n p ≡ true → fieldsOk n p ws ≡ true → sessionOk n p (contentFrom ws) ≡ true → sumOk ws ≡ true → (s : Session) → s ≡ sessionOf (contentFrom ws)
-      → (0 ≡ readTokenCode n p ws) × (s ≡ sessionOf (readToken n p ws))
-  unfolding readTokenCode readToken contentIf check tokenChecked both
-  accepted r f s e x q =
-      let c : tokenChecked n p ws ≡ true = rw (f, s) e in
+  pub answered : ringOk n p ≡ true → startOk n ws ≡ true → clockOk n (clockFrom ws 1 n) ≡ true → (b : Bool) → b ≡ Owns
+      → (code : ℕ) (s : Session) → code ≡ check b 9 0 → s ≡ sessionOf (cond {A = Content} b (contentAt n ws) (freshContent 0))
+      → (code ≡ readTokenCode n p ws) × (s ≡ sessionOf (readToken n p ws))
+  unfolding readTokenCode readToken contentIf check both
+  answered r t k false o code s e q = read-refused 8 code s (not-checked r (checks-left t ∙ rw (k, ← o) refl)) e q
+  answered r t k true o code s e q =
+      let c : tokenChecked n p ws ≡ true = checks-left t ∙ rw (k, ← o) refl in
       let d : acceptsToken n p ws ≡ true = sym (token-checks-accept n p ws r) ∙ c in
-      (rw (r, d) refl, rw (r, d) q)
+      let f : readTokenCode n p ws ≡ 0 = rw (r, d) refl in
+      (e ∙ sym f, q ∙ ap sessionOf (content-at (start-shape t) ∙ sym (ap (λ (m : ℕ). contentIf m ws) f)))

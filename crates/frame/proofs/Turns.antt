@@ -3,33 +3,29 @@ use Prim.Native.Nat.{ℕ, zero, suc, _+_, _-_, _*_, _/_, _%_, _^_, _<_, _≤_}
 use mathlib.Core.Path.{_≡_, refl, sym, ap, _∙_}
 use mathlib.Core.Bool.{Bool, true, false, cond}
 use mathlib.Core.Logic.{⊎-elim}
-use mathlib.Core.List.{List, [], _∷_, _++_, foldl-append, append-nil}
+use mathlib.Core.List.{List, [], _∷_, _++_, append-nil}
 use native.Mathlib.Nat.{le-refl, pow-suc, zero-add}
 use native.Mathlib.Numerals.{add-one}
 use native.Mathlib.Omega.{arith}
-use lib.Bits.{bitOr}
 use lib.Count.{trailingZeros}
 use lib.Pow.{high, ones-lt, ones-split, pow-mono, pow-pos, shr-lt}
 use lib.Dec.{eqb}
-use lib.ListN.{length, getD, take, drop, set, length-append, drop-of-length-le}
-use lib.Seq.{sets, take-suc, drop-cons, ext-getD, length-sets}
+use lib.ListN.{length, getD, take, set, length-append}
+use lib.Seq.{sets, ext-getD, length-sets}
 use borrow.Author.Tests.{lt-ltb, le-ltb, le-leb, lt-leb}
-use Rattle.causal.specs.Tests.{both}
 use Rattle.causal.specs.Lists.{tab, zeros}
-use Rattle.causal.specs.Sets.{bit, inserted}
+use Rattle.causal.specs.Sets.{bit}
 use Rattle.causal.proofs.Tests.{lt-or-le}
 use Rattle.causal.proofs.Lists.{sets-append, sets-front, take-front, tab-length, tab-at, getD-sets-in, getD-sets-after}
-use Rattle.causal.proofs.Bits.{one-shl}
 use Rattle.causal.proofs.Sets.{zero-at}
 use Rattle.causal.proofs.Walk.{Passed, next, skip, fold-next, fold-end}
 use Rattle.frame.specs.declared.entry.Frame.{Frame}
-use Rattle.frame.specs.Words.{payload, payAt, clockWords, clockPlace, clockFrom, idWord, idWordIf, idWordsTo, idWords, idWordsIn, idIn, idsFrom, sumWord, summed}
+use Rattle.frame.specs.Words.{payAt, clockWords, clockPlace, clockFrom, idWord, idWordIf, idWordsTo, idWords, idWordsIn, sumWord, summed}
 use Rattle.causal.specs.Codes.{check}
 use Rattle.frame.specs.Refusals.{replied}
 use Rattle.frame.specs.Frames.{headWord, bodyWords, frameWords, frameOk}
 use Rattle.frame.specs.Calls.{laid, laidIf, writeFrameCode, writeFrame, writeFrameRow}
-use Rattle.frame.specs.Reading.{idOk, ascends}
-use Rattle.frame.proofs.Words.{id-facts, ids-in, length-clock}
+use Rattle.frame.proofs.Words.{ids-in, length-clock}
 use Rattle.frame.proofs.Frames.{length-body, length-frame}
 
 -- ---- a clock, read

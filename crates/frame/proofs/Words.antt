@@ -14,7 +14,7 @@ use borrow.Author.Tests.{ltb-true, leb-true, eqb-true, lt-ltb, le-ltb, le-leb, l
 use Rattle.causal.specs.Tests.{both, either}
 use Rattle.causal.specs.Lists.{zeros, sumBelow}
 use Rattle.causal.specs.Sets.{bit, has, isIn, IdSet, inserted, sizeOf}
-use Rattle.causal.proofs.Tests.{both-false, both-true, both-intro, lt-or-le, eq-or-ne, not-so, same-test, false-true}
+use Rattle.causal.proofs.Tests.{both-false, both-true, both-intro, lt-or-le, eq-or-ne, not-so, false-true}
 use Rattle.causal.proofs.Lists.{tab-length, tab-at}
 use Rattle.causal.proofs.Bits.{same, same-eq, same-ne, bit-zero-word}
 use Rattle.causal.proofs.Sets.{has-lt, has-inserted, ids-inserted, is-in, in-is, out-is, is-out, in-inserted, in-or-out, same-words, ids-zeros, has-zeros}

@@ -6,12 +6,12 @@ use mathlib.Core.List.{List}
 use lib.Dec.{leb, ltb, eqb}
 use lib.ListN.{length, getD, take, drop}
 use Rattle.causal.specs.Tests.{both}
-use Rattle.causal.specs.Lists.{part}
-use Rattle.frame.specs.Words.{payAt, kindIs}
+use Rattle.causal.specs.Lists.{part, zeros}
+use Rattle.frame.specs.Words.{payAt, kindIs, clockFrom, idsFrom}
 use Rattle.frame.specs.Frames.{frameOf, accepts}
 use Rattle.frame.specs.Reading.{clockKinds, ascends, sumOk}
-use Rattle.frame.specs.Sessions.{sessionOk}
-use Rattle.frame.specs.Tokens.{frameLength, tokenOffices, tokenOwns, tokenReads, contentFrom}
+use Rattle.frame.specs.Sessions.{Content, ownOk, sessionOk}
+use Rattle.frame.specs.Tokens.{frameLength, tokenOffices, tokenOwns, tokenReads, ownFrom, contentFrom}
 
 -- the head is one, for n offices, with bits "15–9 zero" and at most 16 own entries; clock, read names and check fit into the row
 unfoldable pub tokenShape : ℕ → List ℕ → Bool
@@ -42,3 +42,22 @@ fieldsOk n p ws =
 
 unfoldable pub tokenChecked : ℕ → ℕ → List ℕ → Bool
 tokenChecked n p ws = both (fieldsOk n p ws) (both (sessionOk n p (contentFrom ws)) (sumOk ws))
+
+-- the same in the order in which a reader asks: first all but the numbers of the clock and the own frames, ..
+unfoldable pub startOk : ℕ → List ℕ → Bool
+startOk n ws =
+    both (tokenShape n ws) (both (clockKinds ws 1 n) (both (ascends n 0 (part ws (1 + n) (tokenReads ws))) (sumOk ws)))
+
+-- .. and last k own frames, and what they say behind what was read
+unfoldable pub carriedOk : ℕ → ℕ → ℕ → List ℕ → List ℕ → Bool
+carriedOk k n p read ws = both (ownFramesOk k n p ws) (ownOk n p read zeros (ownFrom k n ws))
+
+-- the content of a row for n offices, where it is a token
+unfoldable pub contentAt : ℕ → List ℕ → Content
+contentAt n ws =
+    record {
+      offices = n;
+      clock = clockFrom ws 1 n;
+      read = idsFrom (part ws (1 + n) (tokenReads ws));
+      own = ownFrom (tokenOwns ws) n (drop (1 + n + tokenReads ws) ws);
+    }

@@ -1,16 +1,18 @@
 // Tokens (01: slips): a session as a row of words.
 ghost use mathlib.Core.Path.{_≡_};
-ghost use mathlib.Core.Bool.{true, false};
+ghost use mathlib.Core.Bool.{true, false, cond};
+ghost use mathlib.Core.List.{[]};
 ghost use Prim.Native.Nat.{ℕ, _+_, _<_, _≤_};
 ghost use lib.ListN.{length, getD, take};
 ghost use lib.Seq.{sets};
+ghost use Rattle.causal.specs.Codes.{check};
 ghost use Rattle.causal.specs.Lists.{tab};
 ghost use Rattle.frame.specs.Refusals.{numberOf, codeOf, replyOf};
 ghost use Rattle.frame.specs.Frames.{ringOk, framed, frameWords, frameOk, frameOf};
 ghost use Rattle.frame.specs.Calls.{laid};
 ghost use Rattle.frame.specs.Sessions.{nobody, contentOf, filled, sessionOf, sessionOk, freshContent};
-ghost use Rattle.frame.specs.Tokens.{ownRows, tokenHead, tokenWords, frameLength, ownFrom, contentFrom};
-ghost use Rattle.frame.specs.TokenReading.{tokenShape, ownFrameOk, ownFramesOk, fieldsOk};
+ghost use Rattle.frame.specs.Tokens.{ownRows, tokenHead, tokenWords, frameLength, ownFrom};
+ghost use Rattle.frame.specs.TokenReading.{tokenShape, ownFrameOk, ownFramesOk, startOk, carriedOk};
 ghost use Rattle.frame.specs.Promises.{ReadTokenPromise, WriteTokenPromise};
 use crate::entry::Entry;
 use crate::entry::Frame;
@@ -158,19 +160,14 @@ pub struct TokenRead {
 }
 
 struct OwnRead {
-    ok: bool,
-    words: usize,
     entry: Entry,
+    words: usize,
+    ok: bool,
 }
 
 struct OwnsRead {
-    ok: bool,
     own: [Entry; 16],
-}
-
-struct SessionRead {
     ok: bool,
-    session: Session,
 }
 
 fn refused(refusal: Refusal) -> TokenRead
@@ -213,9 +210,9 @@ fn no_own() -> OwnRead
 {
     let entry = crate::entry::blank_entry();
     OwnRead {
-        ok: false,
-        words: 0,
         entry,
+        words: 0,
+        ok: false,
     }
 }
 
@@ -239,9 +236,9 @@ fn own_from(ws: &[u32], n: u32, p: u32) -> OwnRead
     let frame = read.frame;
     let entry = frame.entry;
     OwnRead {
-        ok: frame.hops == 0,
-        words,
         entry,
+        words,
+        ok: frame.hops == 0,
     }
 }
 
@@ -256,47 +253,70 @@ fn owns_from(ws: &[u32], n: u32, p: u32, count: usize) -> OwnsRead
     for i in 0..count {
         let read = own_from(&ws[at..], n, p);
         if !read.ok {
-            return OwnsRead { ok: false, own };
+            return OwnsRead { own, ok: false };
         }
         let e = read.entry;
         own[i] = e;
         at = at + read.words;
     }
     OwnsRead {
-        ok: ws.len() - at == 1,
         own,
+        ok: ws.len() - at == 1,
     }
 }
 
-fn no_session() -> SessionRead
-    ensures { λ r. ⌜ r .ok ≡ false ⌝ }
-{
-    let session = crate::session::blank_session();
-    SessionRead { ok: false, session }
-}
-
-// The session whose fields a row has; whether it is sound, and the check word right, is left to ask.
-fn session_from(ws: &[u32], n: u32, p: u32) -> SessionRead
-    requires { ⌜ ringOk n p ≡ true ⌝ }
-    ensures { λ r. ⌜ (r .ok ≡ fieldsOk n p (now (ws .entry))) × (r .ok ≡ true → r .session ≡ sessionOf (contentFrom (now (ws .entry)))) ⌝ }
+// All of a row but the numbers of the clock and the own frames: the head, the kinds of the clock words, the read ids, the check.
+fn start_ok(ws: &[u32], n: u32) -> bool
+    requires { ⌜ n ≤ 8 ⌝ }
+    ensures { λ r. ⌜ r ≡ startOk n (now (ws .entry)) ⌝ }
 {
     if !shape_ok(ws, n) {
-        return no_session();
+        return false;
     }
     if !crate::word::clock_kinds(ws, 1, n as usize) {
-        return no_session();
+        return false;
     }
-    let head = ws[0] % crate::word::LOW;
     let from = 1 + n as usize;
-    let to = from + (head % 512) as usize;
+    let to = from + (ws[0] % crate::word::LOW % 512) as usize;
     if !crate::word::ids_ascend(&ws[from..to], n) {
-        return no_session();
+        return false;
     }
-    let read = crate::word::ids_from(&ws[from..to]);
-    let count = (head / 0x1_0000 % 256) as usize;
-    let owns = owns_from(&ws[to..], n, p, count);
-    let clock = crate::word::clock_from(ws, 1, n as usize);
+    crate::word::sum_ok(ws)
+}
+
+// The session that carries no own writes.
+fn bare(offices: u32, clock: [u32; 8], read: [u32; 8]) -> TokenRead
+    ensures { λ r. ⌜ (codeOf (r .status) ≡ 0) × (r .session ≡ sessionOf (record { offices = offices; clock = clock; read = read; own = [] })) ⌝ }
+{
+    let blank = crate::entry::blank_entry();
+    let own = [blank; 16];
+    let session = Session {
+        offices,
+        clock,
+        read,
+        count: 0,
+        own,
+    };
+    TokenRead {
+        status: Status::Accepted,
+        session,
+    }
+}
+
+// The session whose own frames stand in ws, up to the last word.
+fn laden(ws: &[u32], n: u32, p: u32, clock: [u32; 8], read: [u32; 8], count: usize) -> TokenRead
+    requires { ⌜ (ringOk n p ≡ true) × (count ≤ 16) ⌝ }
+    ensures { λ r. ⌜ (codeOf (r .status) ≡ check (carriedOk count n p read (now (ws .entry))) 9 0)
+        × (r .session ≡ sessionOf (cond (carriedOk count n p read (now (ws .entry))) (record { offices = n; clock = clock; read = read; own = ownFrom count n (now (ws .entry)) }) (freshContent 0))) ⌝ }
+{
+    let owns = owns_from(ws, n, p, count);
+    if !owns.ok {
+        return refused(Refusal::Format);
+    }
     let own = owns.own;
+    if !crate::session::owns_ok(n, p, read, own, count) {
+        return refused(Refusal::Format);
+    }
     let session = Session {
         offices: n,
         clock,
@@ -304,32 +324,36 @@ fn session_from(ws: &[u32], n: u32, p: u32) -> SessionRead
         count,
         own,
     };
-    SessionRead {
-        ok: owns.ok,
+    TokenRead {
+        status: Status::Accepted,
         session,
     }
 }
 
-// 01: read a slip.
+// 01: read a slip. A row with no own frames is told apart: so no row of entries is copied.
 pub fn read_token(ws: &[u32], offices: u32, plots: u32) -> TokenRead
     ensures { λ r. ⌜ ReadTokenPromise (now (ws .entry)) offices plots (codeOf (r .status)) (r .session) ⌝ }
 {
     if !crate::entry::ring_ok(offices, plots) {
         return refused(Refusal::Settings);
     }
-    let read = session_from(ws, offices, plots);
-    if !read.ok {
+    if !start_ok(ws, offices) {
         return refused(Refusal::Format);
     }
-    let session = read.session;
-    if !crate::session::session_ok(session, offices, plots) {
+    let clock = crate::word::clock_from(ws, 1, offices as usize);
+    if !crate::entry::clock_ok(offices as usize, clock) {
         return refused(Refusal::Format);
     }
-    if !crate::word::sum_ok(ws) {
+    let head = ws[0] % crate::word::LOW;
+    let from = 1 + offices as usize;
+    let to = from + (head % 512) as usize;
+    let read = crate::word::ids_from(&ws[from..to]);
+    let count = (head / 0x1_0000 % 256) as usize;
+    if count != 0 {
+        return laden(&ws[to..], offices, plots, clock, read, count);
+    }
+    if ws.len() - to != 1 {
         return refused(Refusal::Format);
     }
-    TokenRead {
-        status: Status::Accepted,
-        session,
-    }
+    bare(offices, clock, read)
 }

@@ -6,7 +6,7 @@ ghost use lib.Dec.{eqb};
 ghost use lib.ListN.{length, getD, set, take};
 ghost use lib.Seq.{sets};
 ghost use Rattle.causal.specs.Lists.{tab};
-ghost use Rattle.frame.specs.Words.{kindIs, total, clockWords, clockFrom, clockWord, idWord, idWordsIn, idWords, idsFrom, sumWord};
+ghost use Rattle.frame.specs.Words.{kindIs, total, clockWords, clockFrom, idWordsIn, idWords, idsFrom, sumWord};
 ghost use Rattle.frame.specs.Reading.{clockKinds, nextOk, ascends, eightBits, sumOk};
 
 pub const LOW: u32 = 0x1000_0000;

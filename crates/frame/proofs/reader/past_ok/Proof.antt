@@ -1,5 +1,4 @@
 use native.Mathlib.Omega.{arith}
-use mathlib.Core.Path.{_≡_, refl, sym, ap, _∙_}
 use Rattle.causal.proofs.Chain.{chain}
 use Rattle.frame.proofs.Words.{in-serial}
 use borrow.Author.Needs.{needs}

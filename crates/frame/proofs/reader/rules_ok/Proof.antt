@@ -2,9 +2,8 @@ use Rattle.frame.specs.Entries.{entryOk}
 use borrow.Author.Tests.{not-false}
 use Rattle.frame.proofs.Entries.{bounds-facts, rules-left}
 use native.Mathlib.Omega.{arith}
-use mathlib.Core.Path.{_≡_, refl, sym, ap, _∙_}
+use mathlib.Core.Path.{sym, _∙_}
 use Rattle.causal.proofs.Chain.{chain}
-use Rattle.frame.proofs.Words.{in-serial}
 use borrow.Author.Needs.{needs}
 use Rattle.frame.proofs.reader.rules_ok.Statement.{statement}
 use Rattle.frame.proofs.reader.rules_ok.Tie as tie

@@ -1,7 +1,7 @@
 use Rattle.causal.specs.Sets.{subsetOf}
 use Rattle.frame.proofs.Words.{in-serial}
 use native.Mathlib.Omega.{arith}
-use mathlib.Core.Path.{_≡_, sym, ap, _∙_}
+use mathlib.Core.Path.{ap, _∙_}
 use Rattle.causal.proofs.Chain.{chain}
 use borrow.Author.Needs.{needs}
 use Rattle.frame.proofs.session.own_past_ok.Statement.{statement}

@@ -62,8 +62,8 @@ loop-less c = search needs
 loop-again : tie.Need-loop-again Inv-loop μ-loop
 loop-again c = let z = c .before .before .before .before .before .before .before .before .before .before .args in let n = z .n in let p = z .p in let ws = z .ws .now in let l = c .before .before .before .before .before .before .before .loop in let k = T.lent-rest ws n p (z .count) (l .at) in let q = not-false _ (c .before .before .if1 .left) in let ok : ownFrameOk n p (drop (l .at) ws) ≡ true = ap (ownFrameOk n p) (sym k) ∙ sym (c .before .before .before .before .own-from .ensures .0) ∙ q in let e = c .before .before .before .before .own-from .ensures .1 q in let words : c .before .before .before .before .own-from .result .words ≡ frameLength n (drop (l .at) ws) = e .0 ∙ ap (frameLength n) k in T.turn-next ws n p (z .count) (l .own) (l .at) (l .i) (l .inv) (omega arith) ok (c .before .before .before .before .before .before .before .before .before .before .pre .1) _ _ words (e .1 ∙ ap (λ (r : List ℕ). frameOf (take (frameLength n r) r) .entry) k)
 
-sub-t21 : tie.Need-sub-t21 Inv-loop μ-loop
-sub-t21 c = c .before .loop .inv .within
+sub-t22 : tie.Need-sub-t22 Inv-loop μ-loop
+sub-t22 c = c .before .loop .inv .within
 
 returns-2 : tie.Need-returns-2 Inv-loop μ-loop
 returns-2 c = let z = c .before .before .before .before .args in let n = z .n in let p = z .p in let ws = z .ws .now in let l = c .before .loop in let e = T.turn-last ws n p (z .count) (l .own) (l .at) (l .i) (l .inv) (omega arith) in (e .0, λ q. e .1)
@@ -88,5 +88,5 @@ owns-from-spec =
     add-i
     loop-less
     loop-again
-    sub-t21
+    sub-t22
     returns-2)

@@ -1,7 +1,6 @@
 use mathlib.Core.Path.{sym, _∙_}
 use Rattle.frame.specs.Refusals.{numberOf, replyOf}
 use Rattle.frame.specs.Sessions.{contentOf}
-use Rattle.frame.proofs.Entries.{ring-facts}
 use native.Mathlib.Omega.{arith}
 use borrow.Author.Tests.{not-true, not-false}
 use Rattle.frame.proofs.TokenTurns as T

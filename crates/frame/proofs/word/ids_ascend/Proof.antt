@@ -6,13 +6,9 @@ use Rattle.causal.specs.Tests.{both}
 use Rattle.causal.proofs.Bits.{or-is-zero}
 use Rattle.frame.proofs.Ascents.{steps, steps-first, steps-more, ascends-none, first-wrong, last-wrong, office-wrong, all-right}
 use native.Mathlib.Omega.{arith}
-use mathlib.Core.Path.{_≡_, refl, sym, ap, _∙_}
-use Rattle.causal.proofs.Chain.{chain}
-use Rattle.frame.proofs.Words.{in-serial}
-use Prim.Native.Nat.{_+_, _-_, _≤_}
+use mathlib.Core.Path.{_≡_, sym, ap, _∙_}
 use lib.Dec.{eqb}
-use lib.ListN.{length, take, getD}
-use Rattle.frame.proofs.Ascents.{steps}
+use lib.ListN.{length, take}
 use borrow.Author.Needs.{needs}
 use Rattle.frame.proofs.word.ids_ascend.Statement.{statement}
 use Rattle.frame.proofs.word.ids_ascend.Tie as tie

@@ -4,7 +4,7 @@ use lib.Seq.{take-all}
 use Rattle.frame.proofs.Words.{ids-from-set}
 use Rattle.frame.proofs.Ascents.{ascends-at, eight-fit, ids-next, ids-run}
 use native.Mathlib.Omega.{arith}
-use mathlib.Core.Path.{_≡_, refl, sym, ap, _∙_}
+use mathlib.Core.Path.{_≡_, refl, ap, _∙_}
 use Rattle.frame.specs.Words.{idsFrom}
 use borrow.Author.Needs.{needs}
 use Rattle.frame.proofs.word.ids_from.Statement.{statement}

@@ -2,7 +2,6 @@ use Prim.Native.Nat.{_+_, _-_}
 use lib.ListN.{getD}
 use borrow.Author.Tests.{eqb-true}
 use native.Mathlib.Omega.{arith}
-use mathlib.Core.Path.{_≡_, refl, sym, ap, _∙_}
 use Rattle.causal.proofs.Tests.{false-true}
 use Rattle.frame.proofs.Ascents.{rises}
 use borrow.Author.Needs.{needs}

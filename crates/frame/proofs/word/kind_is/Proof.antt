@@ -5,7 +5,6 @@ use Rattle.frame.specs.Words.{isKind}
 use Rattle.frame.proofs.Words.{other-kind, this-kind, field-kind, no-kind}
 use native.Mathlib.Omega.{arith}
 use Rattle.causal.specs.Tests.{both, either}
-use borrow.Author.Needs.{needs}
 use Rattle.frame.proofs.word.kind_is.Statement.{statement}
 use Rattle.frame.proofs.word.kind_is.Tie as tie
 

@@ -2,9 +2,7 @@ use Rattle.causal.proofs.Bits.{one-shl}
 use Rattle.frame.specs.Reading.{eightBits}
 use Rattle.frame.proofs.Ascents.{pow-shl}
 use native.Mathlib.Omega.{arith}
-use mathlib.Core.Path.{_≡_, refl, sym, ap, _∙_}
-use Rattle.causal.proofs.Chain.{chain}
-use Rattle.frame.proofs.Words.{in-serial}
+use mathlib.Core.Path.{refl}
 use borrow.Author.Needs.{needs}
 use Rattle.frame.proofs.word.with_eight.Statement.{statement}
 use Rattle.frame.proofs.word.with_eight.Tie as tie
