@@ -1,8 +1,12 @@
 // The readings and the writing of an office for a host that lends the session: it comes as `s` and is left as the call leaves it.
-// A reading changes its clock and its read set alone, and only those are written.
-ghost use Rattle.office.specs.Decide.{withSeen};
+// A reading changes its clock and its read set alone, and only those are written. Where the session carries nothing (its count is 0) its own
+// writes are not looked at, and stay where they are: it is not copied.
+ghost use mathlib.Core.List.{List};
 ghost use Prim.Native.Nat.{_≤_};
+ghost use Rattle.frame.specs.declared.entry.Entry.{Entry};
+ghost use Rattle.office.specs.Decide.{withSeen};
 ghost use Rattle.office.specs.Promises.{JointPromise, ReadPromise, WritePromise};
+ghost use Rattle.host.specs.Alone.{alone};
 ghost use Rattle.host.specs.Flags.{isSet};
 use crate::answer::WordsAnswer;
 use frame::session::Session;
@@ -56,6 +60,28 @@ fn plot_by_value(store: &mut [u32], s: Session, plot: u32) -> PlotDone
     }
 }
 
+// The same for a session that carries nothing: only the fields that are looked at come here.
+fn plot_alone(
+    store: &mut [u32],
+    offices: u32,
+    clock: [u32; 8],
+    read: [u32; 8],
+    plot: u32,
+) -> PlotDone
+    ensures { λ r. ⌜ (r .answer .found ≤ 1) × ((own : List Entry) → ReadPromise (now (store .entry)) (alone offices clock read own) plot (r .answer .refusal) (isSet (r .answer .found)) (r .answer .entry) (withSeen (alone offices clock read own) (record { clock = r .clock; read = r .read })) (now (store .exit))) ⌝ }
+{
+    let entry = frame::entry::blank_entry();
+    let own = [entry; 16];
+    let s = Session {
+        offices,
+        clock,
+        read,
+        count: 0,
+        own,
+    };
+    plot_by_value(store, s, plot)
+}
+
 // burial_read_joint, the same.
 fn joint_by_value(store: &mut [u32], s: Session, plots: &[u32], answer: &mut [u32]) -> JointDone
     ensures { λ r. ⌜ JointPromise (now (store .entry)) s (now (plots .entry)) (now (answer .entry)) (r .refusal) (withSeen s (record { clock = r .clock; read = r .read })) (now (store .exit)) (now (answer .exit)) ⌝ }
@@ -95,7 +121,11 @@ fn write_by_value(
 pub extern "C" fn burial_lent_read_plot(store: &mut [u32], s: &mut Session, plot: u32) -> PlotFound
     ensures { λ r. ⌜ (r .found ≤ 1) × ReadPromise (now (store .entry)) (now (s .entry)) plot (r .refusal) (isSet (r .found)) (r .entry) (now (s .exit)) (now (store .exit)) ⌝ }
 {
-    let done = plot_by_value(store, *s, plot);
+    let done = if s.count == 0 {
+        plot_alone(store, s.offices, s.clock, s.read, plot)
+    } else {
+        plot_by_value(store, *s, plot)
+    };
     s.clock = done.clock;
     s.read = done.read;
     done.answer
