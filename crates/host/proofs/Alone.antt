@@ -51,6 +51,16 @@ module _ (ws : List ℕ) (n : ℕ) (clock read : List ℕ) (own own′ : List En
   unfolding contentOf tab withSeen
   plot-rowed plot code found entry x ws′ e = (e .0, e .1, e .2, ap (rowed own′) (e .3) ∙ plot-session plot, e .4)
 
+  joint-session : (plots row : List ℕ) → rowed own′ (readJointSession ws s plots row) ≡ readJointSession ws s′ plots row
+  unfolding readJointSession contentOf tab
+  joint-session plots row =
+      let O = reveal (officeOf ws) read in
+      if-rowed own′ (readJoint ws (contentOf s) plots row .code) s (notedAllIn O plots s) ∙ ap (sessionIf (readJoint ws (contentOf s) plots row .code) s′) (noted-all-rowed own′ O plots s)
+
+  pub joint-rowed : (plots row : List ℕ) (code : ℕ) (x : Seen) (ws′ row′ : List ℕ) → JointPromise ws s plots row code (withSeen s x) ws′ row′ → JointPromise ws s′ plots row code (withSeen s′ x) ws′ row′
+  unfolding contentOf tab withSeen
+  joint-rowed plots row code x ws′ row′ e = (e .0, ap (rowed own′) (e .1) ∙ joint-session plots row, e .2, e .3)
+
 -- a session whose count is 0 is one that carries nothing
 pub is-alone : (s : Session) → s .count ≡ 0 → alone (s .offices) (s .clock) (s .read) (s .own) ≡ s
 is-alone s e = λ i. record { offices = s .offices; clock = s .clock; read = s .read; count = sym e i; own = s .own }

@@ -99,6 +99,29 @@ fn joint_by_value(store: &mut [u32], s: Session, plots: &[u32], answer: &mut [u3
     }
 }
 
+// The same for a session that carries nothing.
+fn joint_alone(
+    store: &mut [u32],
+    offices: u32,
+    clock: [u32; 8],
+    read: [u32; 8],
+    plots: &[u32],
+    answer: &mut [u32],
+) -> JointDone
+    ensures { λ r. ⌜ ((own : List Entry) → JointPromise (now (store .entry)) (alone offices clock read own) (now (plots .entry)) (now (answer .entry)) (r .refusal) (withSeen (alone offices clock read own) (record { clock = r .clock; read = r .read })) (now (store .exit)) (now (answer .exit))) ⌝ }
+{
+    let entry = frame::entry::blank_entry();
+    let own = [entry; 16];
+    let s = Session {
+        offices,
+        clock,
+        read,
+        count: 0,
+        own,
+    };
+    joint_by_value(store, s, plots, answer)
+}
+
 // burial_write, with the answer apart from the session.
 fn write_by_value(
     store: &mut [u32],
@@ -141,7 +164,11 @@ pub extern "C" fn burial_lent_read_joint(
 ) -> u32
     ensures { λ r. ⌜ JointPromise (now (store .entry)) (now (s .entry)) (now (plots .entry)) (now (answer .entry)) r (now (s .exit)) (now (store .exit)) (now (answer .exit)) ⌝ }
 {
-    let done = joint_by_value(store, *s, plots, answer);
+    let done = if s.count == 0 {
+        joint_alone(store, s.offices, s.clock, s.read, plots, answer)
+    } else {
+        joint_by_value(store, *s, plots, answer)
+    };
     s.clock = done.clock;
     s.read = done.read;
     done.refusal
