@@ -4,9 +4,8 @@
 ghost use mathlib.Core.List.{List};
 ghost use Prim.Native.Nat.{_≤_};
 ghost use Rattle.frame.specs.declared.entry.Entry.{Entry};
-ghost use Rattle.office.specs.Decide.{withSeen};
+ghost use Rattle.office.specs.Decide.{alone, withSeen};
 ghost use Rattle.office.specs.Promises.{JointPromise, ReadPromise, WritePromise};
-ghost use Rattle.host.specs.Alone.{alone};
 ghost use Rattle.host.specs.Flags.{isSet};
 use crate::answer::WordsAnswer;
 use frame::session::Session;
@@ -70,16 +69,24 @@ fn plot_alone(
 ) -> PlotDone
     ensures { λ r. ⌜ (r .answer .found ≤ 1) × ((own : List Entry) → ReadPromise (now (store .entry)) (alone offices clock read own) plot (r .answer .refusal) (isSet (r .answer .found)) (r .answer .entry) (withSeen (alone offices clock read own) (record { clock = r .clock; read = r .read })) (now (store .exit))) ⌝ }
 {
-    let entry = frame::entry::blank_entry();
-    let own = [entry; 16];
-    let s = Session {
-        offices,
+    let done = office::read::see_alone(store, offices, clock, read, plot);
+    let status = done.status;
+    let refusal = frame::refusal::code_of(status);
+    let found = crate::offices::flag(done.found);
+    let entry = done.entry;
+    let answer = PlotFound {
+        refusal,
+        found,
+        entry,
+    };
+    let seen = done.seen;
+    let clock = seen.clock;
+    let read = seen.read;
+    PlotDone {
+        answer,
         clock,
         read,
-        count: 0,
-        own,
-    };
-    plot_by_value(store, s, plot)
+    }
 }
 
 // burial_read_joint, the same.
@@ -110,16 +117,17 @@ fn joint_alone(
 ) -> JointDone
     ensures { λ r. ⌜ ((own : List Entry) → JointPromise (now (store .entry)) (alone offices clock read own) (now (plots .entry)) (now (answer .entry)) (r .refusal) (withSeen (alone offices clock read own) (record { clock = r .clock; read = r .read })) (now (store .exit)) (now (answer .exit))) ⌝ }
 {
-    let entry = frame::entry::blank_entry();
-    let own = [entry; 16];
-    let s = Session {
-        offices,
+    let done = office::joint::see_joint_alone(store, offices, clock, read, plots, answer);
+    let status = done.status;
+    let refusal = frame::refusal::code_of(status);
+    let seen = done.seen;
+    let clock = seen.clock;
+    let read = seen.read;
+    JointDone {
+        refusal,
         clock,
         read,
-        count: 0,
-        own,
-    };
-    joint_by_value(store, s, plots, answer)
+    }
 }
 
 // burial_write, with the answer apart from the session.
