@@ -3,10 +3,12 @@ ghost use mathlib.Core.Path.{_≡_};
 ghost use mathlib.Core.Bool.{true, false, cond};
 ghost use mathlib.Core.List.{[]};
 ghost use Prim.Native.Nat.{ℕ, _+_, _<_, _≤_};
-ghost use lib.ListN.{length, getD, take};
+ghost use lib.ListN.{length, getD, take, set};
 ghost use lib.Seq.{sets};
 ghost use Rattle.causal.specs.Codes.{check};
 ghost use Rattle.causal.specs.Lists.{tab};
+ghost use Rattle.causal.specs.Sets.{sizeOf};
+ghost use Rattle.frame.specs.Words.{clockWords, idWords};
 ghost use Rattle.frame.specs.Refusals.{numberOf, codeOf, replyOf};
 ghost use Rattle.frame.specs.Frames.{ringOk, framed, frameWords, frameOk, frameOf};
 ghost use Rattle.frame.specs.Calls.{laid};
@@ -104,19 +106,20 @@ fn put_owns(n: u32, own: [Entry; 16], count: usize, out: &mut [u32], at: usize) 
     to
 }
 
-// The same of a session's own writes, which are taken out only where there are any.
-fn put_carried(s: Session, out: &mut [u32], at: usize) -> usize
-    requires { ⌜ (s .count ≤ 16) × ((i : ℕ) → i < s .count → frameOk (s .offices) 64 (framed (s .offices) 0 (getD (s .own) i nobody)) ≡ true) × (at + length (ownRows (s .offices) (tab (s .count) (λ i. getD (s .own) i nobody))) ≤ length (now out)) ⌝ }
-    ensures { λ r. ⌜ (r ≡ at + length (ownRows (s .offices) (tab (s .count) (λ i. getD (s .own) i nobody)))) × (now (out .exit) ≡ sets (now (out .entry)) at (ownRows (s .offices) (tab (s .count) (λ i. getD (s .own) i nobody)))) ⌝ }
+// The head, the clock and the read ids; gives the place behind them.
+fn put_start(n: u32, count: usize, clock: [u32; 8], read: [u32; 8], out: &mut [u32]) -> usize
+    requires { ⌜ (n ≤ 8) × (count ≤ 16) × ((j : ℕ) → j < 8 → getD clock j 0 ≤ 32) × (1 + n + length (idWords read) ≤ length (now out)) ⌝ }
+    ensures { λ r. ⌜ (r ≡ 1 + n + length (idWords read))
+        × (now (out .exit) ≡ sets (sets (set (now (out .entry)) 0 (tokenHead n count (sizeOf read))) 1 (clockWords n clock)) (1 + n) (idWords read)) ⌝ }
 {
-    if s.count == 0 {
-        return at;
-    }
-    let own = s.own;
-    put_owns(s.offices, own, s.count, out, at)
+    let reads = causal::set::size(read);
+    let head = head_word(n, count as u32, reads as u32);
+    out[0] = head;
+    crate::word::put_clock(clock, n as usize, out, 1);
+    crate::word::put_ids(read, out, 1 + n as usize)
 }
 
-// The words of a token, where there is room for them.
+// The words of a token, where there is room for them. The own writes are taken out before out is written to, and only where there are any.
 fn fill(s: Session, out: &mut [u32])
     requires { ⌜ (ringOk (s .offices) 64 ≡ true) × (sessionOk (s .offices) 64 (contentOf s) ≡ true) × (length (tokenWords (contentOf s)) ≤ length (now out)) ⌝ }
     ensures { λ r. ⌜ now (out .exit) ≡ laid (tokenWords (contentOf s)) (now (out .entry)) ⌝ }
@@ -124,12 +127,14 @@ fn fill(s: Session, out: &mut [u32])
     let clock = s.clock;
     let read = s.read;
     let n = s.offices;
-    let reads = causal::set::size(read);
-    let head = head_word(n, s.count as u32, reads as u32);
-    out[0] = head;
-    crate::word::put_clock(clock, n as usize, out, 1);
-    let at = crate::word::put_ids(read, out, 1 + n as usize);
-    let end = put_carried(s, out, at);
+    if s.count == 0 {
+        let end = put_start(n, 0, clock, read, out);
+        crate::word::put_sum(out, end);
+        return;
+    }
+    let own = s.own;
+    let at = put_start(n, s.count, clock, read, out);
+    let end = put_owns(n, own, s.count, out, at);
     crate::word::put_sum(out, end);
 }
 
