@@ -174,6 +174,13 @@ module _ (ws : List ℕ) (n : getD ws 0 0 ≡ 3) (p : getD ws 2 0 ≡ 64) where
           few = t .1;
         }
 
+-- an accepted write was of a session with room
+pub few-own : (ws : List ℕ) (s : Content) (plot value : ℕ) (row : List ℕ) → write ws s plot value row .code ≡ 0 → length (s .own) < 16
+unfolding write writeOn
+few-own ws s plot value row h =
+    let z = no-refusal (soundStore ws) (writeCode (officeOf ws) s plot value (length row)) ws (officeOf ws) s row _ h in
+    write-tests (officeOf ws) s plot value (length row) (z .1) .1
+
 -- ---- an accepted reading
 
 pub record Reads (ws : List ℕ) (s : Content) (plot : ℕ) : Type 0 where
@@ -210,6 +217,11 @@ no-refusal-2 false a c ws O row X h = absurd (omega arith)
 no-refusal-2 true false c ws O row X h = absurd (omega arith)
 no-refusal-2 true true zero ws O row X h = (refl, refl, refl)
 no-refusal-2 true true (suc c) ws O row X h = absurd (omega arith)
+
+pub frame-accepted : (ws frame row : List ℕ) → receive ws frame row .code ≡ 0 → accepts (officeOf ws .offices) (officeOf ws .plots) frame ≡ true
+unfolding receive receiveOn
+frame-accepted ws frame row h =
+    no-refusal-2 (soundStore ws) (accepts (officeOf ws .offices) (officeOf ws .plots) frame) (receiveCode (officeOf ws) (frameOf frame) (length row)) ws (officeOf ws) row _ h .1
 
 got-ring : (O : Office) (f : Frame) → (receivedBy O f .offices ≡ O .offices) × (receivedBy O f .plots ≡ O .plots)
 unfolding receivedBy holdNew reveal hold

@@ -1,5 +1,5 @@
 -- The sessions that accepted calls leave, as structs and as contents. Assumes nothing.
-use Prim.Native.Nat.{ℕ, suc, zero, _+_, _-_, _<_, _≤_}
+use Prim.Native.Nat.{ℕ, suc, zero, _+_, _-_, _<_}
 use mathlib.Core.List.{List, [], _++_, _∷_}
 use mathlib.Core.Path.{_∙_, _≡_, ap, refl, sym}
 use native.Mathlib.Omega.{arith}
@@ -12,22 +12,24 @@ use Rattle.frame.specs.Sessions.{Content, contentOf, nobody}
 use Rattle.frame.specs.declared.entry.Entry.{Entry}
 use Rattle.frame.specs.declared.session.Session.{Session}
 use Rattle.store.specs.Offices.{Found, None, Office, Some, current, officeOf, reveal, soundStore}
-use Rattle.office.specs.Answers.{anyFound, entryFound, extendedBy, notedIn, readPlotSession, sessionIf, writeSession}
+use Rattle.office.specs.Answers.{anyFound, entryFound, extendedBy, notedIn, readPlotSession, sessionIf}
 use Rattle.office.specs.Calls.{newEntry, noted, readCode, readOn, readPlot, write, writeCode, writeOn, wroteSession}
-use Rattle.ring.specs.Run.{lastOf}
 use Rattle.ring.proofs.WriteKeeps.{last-snoc}
+use Rattle.script.specs.declared.reply.Reply.{Reply}
 use Rattle.script.specs.declared.reply.Reply.the-variants.{Wrote}
-use Rattle.player.specs.Desks.{newestReply}
 use Rattle.player.specs.Play.{readReply, wroteReply}
 use Rattle.player.specs.Steps.{entryReply}
 use Rattle.player.proofs.Accepted.{no-refusal}
+
+abbrev pub wroteName : Entry → Reply
+wroteName e = Wrote (e .office) (e .serial)
 
 tab-ext : {A : Type 0} (n : ℕ) (f g : ℕ → A) → ((i : ℕ) → i < n → f i ≡ g i) → tab n f ≡ tab n g
 unfolding tab
 tab-ext zero f g h = refl
 tab-ext (suc n) f g h = λ i. tab-ext n f g (λ k l. h k (omega arith)) i ++ (h n (omega arith) i ∷ [])
 
-own-length : (s : Session) → length (contentOf s .own) ≡ s .count
+pub own-length : (s : Session) → length (contentOf s .own) ≡ s .count
 unfolding contentOf
 own-length s = tab-length (s .count) (λ i. getD (s .own) i nobody)
 
@@ -73,26 +75,21 @@ unfolding notedIn
 noted-size s None = refl
 noted-size s (Some e) = refl
 
-last-tab : (n : ℕ) (f : ℕ → Entry) → 1 ≤ n → lastOf (tab n f) ≡ f (n - 1)
-unfolding tab
-last-tab zero f h = absurd (omega arith)
-last-tab (suc n) f h = last-snoc (tab n f) (f n) ∙ ap f (omega arith)
-
 module _ (ws : List ℕ) (s : Session) (size : length (s .own) ≡ 16) where
-  module _ (plot value : ℕ) (row : List ℕ) (z : write ws (contentOf s) plot value row .code ≡ 0) (few : length (contentOf s .own) < 16) where
-    pub write-session : write ws (contentOf s) plot value row .session ≡ contentOf (writeSession ws s plot value row)
-    unfolding writeSession sessionIf
-    write-session = wrote ∙ sym (rw z more)
-      where
-        wrote : write ws (contentOf s) plot value row .session ≡ wroteSession (officeOf ws) (contentOf s) plot value
-        wrote = accepted-session ws (contentOf s) plot value row z
+  module _ (plot value : ℕ) (row : List ℕ) (z : write ws (contentOf s) plot value row .code ≡ 0) where
+    pub write-session : length (contentOf s .own) < 16 → write ws (contentOf s) plot value row .session ≡ contentOf (extendedBy s (newEntry (officeOf ws) (contentOf s) plot value))
+    write-session few = accepted-session ws (contentOf s) plot value row z ∙ sym (extended s (officeOf ws) plot value (omega (arith, own-length s)))
 
-        more : contentOf (extendedBy s (newEntry (officeOf ws) (contentOf s) plot value)) ≡ wroteSession (officeOf ws) (contentOf s) plot value
-        more = extended s (officeOf ws) plot value (omega (arith, own-length s))
+    -- "`W` and name"
+    pub write-reply : wroteReply (write ws (contentOf s) plot value row .session .own) ≡ wroteName (newEntry (officeOf ws) (contentOf s) plot value)
+    unfolding wroteReply wroteSession
+    write-reply =
+        ap (λ (c : Content). wroteReply (c .own)) (accepted-session ws (contentOf s) plot value row z)
+        ∙ ap wroteName (last-snoc (contentOf s .own) (newEntry (officeOf ws) (contentOf s) plot value))
 
-    pub write-count : (1 ≤ writeSession ws s plot value row .count) × (writeSession ws s plot value row .count ≤ 16) × (length (writeSession ws s plot value row .own) ≡ 16)
-    unfolding writeSession sessionIf extendedBy
-    write-count = rw z (omega arith, omega (arith, own-length s), length-set (s .own) (s .count) (newEntry (officeOf ws) (contentOf s) plot value) ∙ size)
+  pub write-size : (e : Entry) → length (extendedBy s e .own) ≡ 16
+  unfolding extendedBy
+  write-size e = length-set (s .own) (s .count) e ∙ size
 
   module _ (plot : ℕ) (z : readPlot ws (contentOf s) plot .code ≡ 0) where
     pub read-session : readPlot ws (contentOf s) plot .session ≡ contentOf (readPlotSession ws s plot)
@@ -102,12 +99,6 @@ module _ (ws : List ℕ) (s : Session) (size : length (s .own) ≡ 16) where
     pub read-size : length (readPlotSession ws s plot .own) ≡ 16
     unfolding readPlotSession sessionIf
     read-size = rw z (noted-size s (current (reveal (officeOf ws) (s .read)) plot) ∙ size)
-
--- ---- replies
-
-pub newest-is : (s : Session) → 1 ≤ s .count → newestReply s ≡ wroteReply (contentOf s .own)
-unfolding wroteReply contentOf
-newest-is s h = ap (λ (e : Entry). Wrote (e .office) (e .serial)) (sym (last-tab (s .count) (λ i. getD (s .own) i nobody) h))
 
 pub found-is : (fs : List Found) → entryReply (anyFound fs) (entryFound fs) ≡ readReply fs
 unfolding anyFound entryFound readReply

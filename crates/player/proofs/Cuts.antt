@@ -72,11 +72,3 @@ pushed-more lines o q row k = rw (add-one k)
 pub start-none : (ws : List ℕ) → 0 ≡ startOf ws 0
 unfolding startOf
 start-none ws = refl
-
-start-low : (ws : List ℕ) (k : ℕ) → 7 * k ≤ startOf ws k
-unfolding startOf
-start-low ws zero = omega arith
-start-low ws (suc k) = omega (arith, start-low ws k)
-
-pub cut-few : (ws : List ℕ) (words n : ℕ) → Cut ws words n → 7 * n ≤ words
-cut-few ws words n c = omega (arith, start-low ws n, c .whole)

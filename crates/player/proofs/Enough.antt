@@ -26,9 +26,7 @@ use Rattle.script.specs.declared.line.Line.{Line}
 use Rattle.script.specs.declared.line.Line.the-variants.{Move, Other, Read, Receive, Write}
 use Rattle.script.specs.declared.reply.Reply.{Reply}
 use Rattle.script.specs.declared.reply.Reply.the-variants.{Found, Full, Moved, NoEntry, NoFrame, Odd, Received, Refused, Wrote}
-use Rattle.player.specs.declared.desk.Desk.{Desk}
 use Rattle.player.specs.Play.{Scene, called, crowded, placeOf, play, playRead, playReceive, playWrite, readReply, settled, wroteReply}
-use Rattle.player.specs.Shows.{Shows}
 use Rattle.player.proofs.Accepted.{sends-few, sends-fit}
 use Rattle.player.proofs.Room.{Fit3, frame-room, rows-bound}
 

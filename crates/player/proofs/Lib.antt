@@ -16,6 +16,7 @@ pub mod LineReceive
 pub mod Runs
 pub mod Started
 pub mod Enough
+pub mod Foretold
 pub mod Table
 pub mod Full
 pub mod Rows

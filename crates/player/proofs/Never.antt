@@ -2,7 +2,7 @@
 use Prim.Native.Nat.{ℕ, suc, zero, _<_, _≤_}
 use mathlib.Core.Bool.{Bool, cond, false, true}
 use mathlib.Core.List.{List, List·Memᴰ, List·Memᴰ·cases-cons, List·Memᴰ·head, List·Memᴰ·not-nil, List·Memᴰ·tail, [], _++_, _∷_}
-use mathlib.Core.Logic.{⊎-elim, inl, inr, _⊎_}
+use mathlib.Core.Logic.{⊎-elim, _⊎_}
 use mathlib.Core.Path.{_∙_, _≡_, ap, refl, subst, sym}
 use native.Mathlib.Omega.{arith}
 use lib.Dec.{ltb}
@@ -11,7 +11,7 @@ use borrow.Author.Tests.{ltb-true}
 use Rattle.causal.specs.Tests.{both}
 use Rattle.causal.proofs.Tests.{both-true}
 use Rattle.store.specs.Offices.{Office, officeOf}
-use Rattle.ring.specs.Run.{Call, Tracked, at, contentsRun, onWords, run, step, wordsRun}
+use Rattle.ring.specs.Run.{Call, Tracked, at, contentsRun, onWords, run, wordsRun}
 use Rattle.ring.proofs.Steps.{contents-ok, ok-whole}
 use Rattle.ring.proofs.Theorem.{demand3}
 use Rattle.script.specs.declared.line.Line.{Line}

@@ -15,8 +15,7 @@ use Rattle.office.proofs.Refused.{read-words-refused}
 use Rattle.ring.specs.Run.{Call, Tracked, onWords, readIn, reading, refusedBy, step}
 use Rattle.script.specs.declared.line.Line.the-variants.{Read}
 use Rattle.script.specs.declared.reply.Reply.the-variants.{Full, Refused}
-use Rattle.player.specs.declared.desk.Desk.{Desk}
-use Rattle.player.specs.Desks.{placeAt, sessionAt, withSession}
+use Rattle.player.specs.Desks.{Desk, placeAt, sessionAt, withSession}
 use Rattle.player.specs.Play.{Scene, called, crowded, play, playRead, readReply, settled}
 use Rattle.player.specs.Shows.{Shows}
 use Rattle.player.specs.Steps.{Plays}

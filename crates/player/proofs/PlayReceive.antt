@@ -18,8 +18,7 @@ use Rattle.ring.specs.Run.{Call, at, nextOf, onWords, received, receiving, step
 use Rattle.ring.proofs.Fit.{upd-other, upd-same}
 use Rattle.script.specs.declared.line.Line.the-variants.{Receive}
 use Rattle.script.specs.declared.reply.Reply.the-variants.{Full, NoFrame, Received, Refused}
-use Rattle.player.specs.declared.desk.Desk.{Desk}
-use Rattle.player.specs.Desks.{countAt, firstAt, pushed, slotAt, withFrames, withoutOldest}
+use Rattle.player.specs.Desks.{Desk, countAt, firstAt, pushed, slotAt, withFrames, withoutOldest}
 use Rattle.player.specs.Play.{Ring, Scene, called, crowded, play, playReceive, settled}
 use Rattle.player.specs.Shows.{Queue, Shows}
 use Rattle.player.specs.Steps.{Plays}
@@ -30,25 +29,23 @@ use Rattle.player.proofs.PlayWrite.{Sends, length-map, next-queue, othe
 
 -- ---- the oldest frame
 
+-- the words that stand in the slot
+abbrev pub frameIn : List ℕ → ℕ → List ℕ
+frameIn lines slot = part lines (slot + 1) (getD lines slot 0)
+
 pub record Oldest (lines : List ℕ) (slot : ℕ) (rows : List (List ℕ)) : Type 0 where
-  pub frame : List ℕ
   pub rest : List (List ℕ)
-  pub are : rows ≡ frame ∷ rest
-  pub short : length frame ≤ 103
-  pub size : getD lines slot 0 ≡ length frame
-  pub words : part lines (slot + 1) (getD lines slot 0) ≡ frame
+  pub are : rows ≡ frameIn lines slot ∷ rest
+  pub short : getD lines slot 0 ≤ 103
 
 pub oldest : (lines : List ℕ) (o first count : ℕ) (rows : List (List ℕ)) → length lines ≡ 9984 → o < 3 → (count ≡ 0 → ⊥) → Queue lines o first count rows
     → Oldest lines (slotAt o first) rows
 oldest lines o first count [] long ol ne Q = absurd (ne (sym (Q .counted)))
 oldest lines o first count (f ∷ rest) long ol ne Q =
     record {
-      frame = f;
       rest = rest;
-      are = refl;
-      short = Q .short 0 (omega (arith, Q .counted));
-      size = size;
-      words = ap (part lines (slotAt o first + 1)) size ∙ words;
+      are = ap (λ (x : List ℕ). x ∷ rest) (sym (ap (part lines (slotAt o first + 1)) size ∙ words));
+      short = omega (arith, size, Q .short 0 (omega (arith, Q .counted)));
     }
   where
     here : part lines (slotAt o first) (suc (length f)) ≡ length f ∷ f

@@ -23,8 +23,7 @@ use Rattle.script.specs.declared.line.Line.{Line}
 use Rattle.script.specs.declared.line.Line.the-variants.{Write}
 use Rattle.script.specs.declared.reply.Reply.{Reply}
 use Rattle.script.specs.declared.reply.Reply.the-variants.{Full, Refused}
-use Rattle.player.specs.declared.desk.Desk.{Desk}
-use Rattle.player.specs.Desks.{countAt, firstAt, placeAt, pushed, sessionAt, withFrames, withSession}
+use Rattle.player.specs.Desks.{Desk, countAt, firstAt, placeAt, pushed, sessionAt, withFrames, withSession}
 use Rattle.player.specs.Play.{Scene, called, crowded, play, playWrite, settled, wroteReply}
 use Rattle.player.specs.Shows.{Queue, Shows}
 use Rattle.player.specs.Steps.{Plays}

@@ -18,8 +18,7 @@ use Rattle.script.specs.declared.line.Line.{Line}
 use Rattle.script.specs.declared.line.Line.the-variants.{Move, Other, Read, Receive, Write}
 use Rattle.script.specs.declared.reply.Reply.{Reply}
 use Rattle.script.specs.declared.reply.Reply.the-variants.{Full, Odd, Received}
-use Rattle.player.specs.declared.desk.Desk.{Desk}
-use Rattle.player.specs.Desks.{countAt, firstAt, sessionAt}
+use Rattle.player.specs.Desks.{Desk, countAt, firstAt, sessionAt}
 use Rattle.player.specs.Play.{Ring, Scene, called, crowded, placeOf, play, playReceive, playWrite, settled, wroteReply}
 use Rattle.player.specs.Shows.{Queue, Session-is, Shows}
 

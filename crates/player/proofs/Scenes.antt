@@ -18,8 +18,7 @@ use Rattle.frame.specs.declared.session.Session.{Session}
 use Rattle.office.specs.Calls.{Result}
 use Rattle.ring.specs.Run.{Tracked, at, nextOf, onWords, refusedBy, turnedBy, upd}
 use Rattle.ring.proofs.Fit.{next-other, next-step, next-wrap, upd-case}
-use Rattle.player.specs.declared.desk.Desk.{Desk}
-use Rattle.player.specs.Desks.{noSession, sessionAt}
+use Rattle.player.specs.Desks.{Desk, noSession, sessionAt}
 use Rattle.player.specs.Play.{Ring, Scene, crowded}
 use Rattle.player.specs.Shows.{Session-is, Shows}
 

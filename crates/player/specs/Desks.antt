@@ -1,16 +1,22 @@
--- The player's desk and buffers as the code has them: the changes that a line makes to the desk, and the waiting frames, which lie in slots of
--- 104 words, 32 to an office, each a frame's length and then its words. Assumes nothing.
-use Prim.Native.Nat.{ℕ, suc, zero, _%_, _*_, _+_, _-_, _<_, _≤_}
+-- The player's desk, which is the board with the sessions that stand beside it, and the buffers: the changes that a line makes to the desk, and the
+-- waiting frames, which lie in slots of 104 words, 32 to an office, each a frame's length and then its words. Assumes nothing.
+use Prim.Native.Nat.{ℕ, suc, zero, _%_, _*_, _+_, _-_, _/_, _<_, _≤_}
 use mathlib.Core.Path.{_≡_}
 use mathlib.Core.List.{List, [], _∷_}
 use lib.ListN.{getD, set}
 use lib.Seq.{sets}
 use Rattle.causal.specs.Lists.{part}
-use Rattle.frame.specs.Sessions.{nobody}
 use Rattle.frame.specs.declared.session.Session.{Session}
-use Rattle.script.specs.declared.reply.Reply.{Reply}
-use Rattle.script.specs.declared.reply.Reply.the-variants.{Wrote}
-use Rattle.player.specs.declared.desk.Desk.{Desk}
+use Rattle.player.specs.declared.board.Board.{Board}
+
+pub record Desk : Type 0 where
+  pub sessions : List Session
+  pub place : List ℕ
+  pub first : List ℕ
+  pub count : List ℕ
+
+abbrev pub desk : List Session → Board → Desk
+desk ss b = record { sessions = ss; place = b .place; first = b .first; count = b .count }
 
 -- what `getD` gives past the end of a row of sessions
 abbrev pub noSession : Session
@@ -43,10 +49,6 @@ abbrev pub withoutOldest : Desk → ℕ → Desk
 withoutOldest d o =
     record { sessions = d .sessions; place = d .place; first = set (d .first) o ((firstAt d o + 1) % 32); count = set (d .count) o (countAt d o - 1) }
 
--- the name of the newest own entry of a session
-abbrev pub newestReply : Session → Reply
-newestReply s = Wrote (getD (s .own) (s .count - 1) nobody .office) (getD (s .own) (s .count - 1) nobody .serial)
-
 -- ---- the waiting frames
 
 -- the word at which slot q of the office o begins
@@ -56,6 +58,10 @@ slotAt o q = 104 * (32 * o + q)
 -- the words of the frame that begins at word i of a row, in a ring of three, by its head
 abbrev pub lengthAt : List ℕ → ℕ → ℕ
 lengthAt ws i = 7 + getD ws i 0 % 256
+
+-- its hops left
+abbrev pub hopsAt : List ℕ → ℕ → ℕ
+hopsAt ws i = getD ws i 0 / 4096 % 16
 
 -- the word at which frame k of a row begins
 unfoldable pub startOf : List ℕ → ℕ → ℕ

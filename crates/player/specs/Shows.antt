@@ -7,8 +7,7 @@ use Rattle.causal.specs.Lists.{part}
 use Rattle.frame.specs.Sessions.{contentOf}
 use Rattle.frame.specs.declared.session.Session.{Session}
 use Rattle.ring.specs.Run.{Tracked, at}
-use Rattle.player.specs.declared.desk.Desk.{Desk}
-use Rattle.player.specs.Desks.{countAt, firstAt, placeAt, sessionAt, slotAt}
+use Rattle.player.specs.Desks.{Desk, countAt, firstAt, placeAt, sessionAt, slotAt}
 use Rattle.player.specs.Play.{Scene}
 
 abbrev pub rowAt : List (List ℕ) → ℕ → List ℕ

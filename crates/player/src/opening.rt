@@ -6,9 +6,11 @@ ghost use lib.ListN.{length};
 ghost use lib.Seq.{sets};
 ghost use Rattle.causal.specs.Lists.{part};
 ghost use Rattle.office.specs.Calls.{openOffice};
+ghost use Rattle.player.specs.Desks.{desk};
 ghost use Rattle.player.specs.Play.{opening};
 ghost use Rattle.player.specs.Shows.{Shows, storesIn};
-use crate::desk::Desk;
+use crate::board::Board;
+use frame::session::Session;
 
 // An office opened on its part of the stores.
 fn open_at(stores: &mut [u32], office: u32)
@@ -20,10 +22,15 @@ fn open_at(stores: &mut [u32], office: u32)
     office::open::open_office(3, office, 64, &mut stores[from..end]);
 }
 
+pub struct Opened {
+    pub sessions: [Session; 4],
+    pub board: Board,
+}
+
 // The whole ring. Nothing waits, so the slots of the lines may hold anything.
-pub fn open_ring(stores: &mut [u32]) -> Desk
+pub fn open_ring(stores: &mut [u32]) -> Opened
     requires { ⌜ length (now stores) ≡ 5241 ⌝ }
-    ensures { λ r. ⌜ ((lines : List ℕ) → length lines ≡ 9984 → Shows (opening (storesIn (now (stores .entry)))) r (now (stores .exit)) lines) ⌝ }
+    ensures { λ r. ⌜ ((lines : List ℕ) → length lines ≡ 9984 → Shows (opening (storesIn (now (stores .entry)))) (desk (r .sessions) (r .board)) (now (stores .exit)) lines) ⌝ }
 {
     open_at(&mut *stores, 0);
     open_at(&mut *stores, 1);
@@ -34,10 +41,12 @@ pub fn open_ring(stores: &mut [u32]) -> Desk
     let place = [0u32; 4];
     let first = [0usize; 3];
     let count = [0usize; 3];
-    Desk {
+    Opened {
         sessions,
-        place,
-        first,
-        count,
+        board: Board {
+            place,
+            first,
+            count,
+        },
     }
 }

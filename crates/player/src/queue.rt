@@ -6,9 +6,7 @@ ghost use lib.ListN.{length};
 ghost use lib.Seq.{sets};
 ghost use Rattle.causal.specs.Lists.{part};
 ghost use Rattle.ring.specs.Run.{nextOf};
-ghost use Rattle.player.specs.Desks.{Cut, lengthAt, pushed, startOf};
-
-pub const STORE: usize = 1747;
+ghost use Rattle.player.specs.Desks.{Cut, hopsAt, lengthAt, pushed, startOf};
 
 // n words of a row, from word a on, to those of another from word b on.
 pub fn copy_words(from: &[u32], a: usize, to: &mut [u32], b: usize, n: usize)
@@ -37,6 +35,14 @@ pub fn length_at(row: &[u32], at: usize) -> usize
     ensures { λ r. ⌜ r ≡ lengthAt (now (row .entry)) at ⌝ }
 {
     7 + (row[at] % 256) as usize
+}
+
+// The hops left to the frame that begins at a word of a row, by its head.
+pub fn hops_at(row: &[u32], at: usize) -> u32
+    requires { ⌜ at < length (now row) ⌝ }
+    ensures { λ r. ⌜ r ≡ hopsAt (now (row .entry)) at ⌝ }
+{
+    row[at] / 0x1000 % 16
 }
 
 // How many frames begin in the first words of a row.

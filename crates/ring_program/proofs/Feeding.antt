@@ -1,33 +1,37 @@
 -- Bytes fed one after another. Assumes nothing.
 use Prim.Native.Nat.{ℕ, suc, _+_, _-_, _<_, _≤_}
+use mathlib.Core.Bool.{Bool, cond, false, true}
 use mathlib.Core.List.{List, [], _++_, _∷_, append-assoc, append-nil}
 use mathlib.Core.Logic.{⊎-elim}
 use mathlib.Core.Path.{_∙_, _≡_, ap, refl, subst, sym}
-use mathlib.Core.Bool.{Bool, cond, false, true}
-use borrow.Author.Tests.{eq-eqb, eqb-false, eqb-true, ne-eqb}
-use lib.Dec.{eqb}
 use native.Mathlib.Nat.{add-zero, zero-add}
 use native.Mathlib.Omega.{arith}
-use lib.ListN.{drop, getD, length, length-append, take}
-use lib.Seq.{sets}
+use lib.Dec.{eqb}
+use lib.ListN.{drop, getD, length, length-append, length-drop, set, take}
+use lib.Seq.{set-getD, sets}
+use borrow.Author.Tests.{eqb-false, eqb-true}
 use Rattle.causal.specs.Lists.{part}
+use Rattle.causal.proofs.Lists.{part-add, sets-append}
 use Rattle.causal.proofs.Tests.{lt-or-le}
-use Rattle.causal.proofs.Lists.{part-add, part-cons, sets-append}
+use Rattle.frame.specs.declared.entry.Entry.{Entry}
+use Rattle.frame.specs.declared.session.Session.{Session}
+use Rattle.office.specs.Answers.{extendedBy}
 use Rattle.script.specs.Lines.{lineOf}
-use Rattle.script.specs.Pendings.{isEmpty, pendingOf, pushed}
+use Rattle.script.specs.Pendings.{Takes, firstLine, hasEnd, isEmpty, lineSize, parsed, pendingOf}
 use Rattle.script.specs.Replies.{replyBytes}
 use Rattle.script.specs.declared.line.Line.{Line}
 use Rattle.script.specs.declared.pending.Pending.{Pending}
+use Rattle.script.specs.declared.pending.Taken.{Taken}
 use Rattle.script.specs.declared.reply.Reply.{Reply}
-use Rattle.script.proofs.Pendings.{empty-is, push-more}
-use Rattle.player.specs.declared.desk.Desk.{Desk}
-use Rattle.player.specs.declared.desk.Played.{Played}
+use Rattle.script.proofs.Pendings.{empty-is, line-part, parse-whole}
+use Rattle.player.specs.declared.board.Board.{Board}
+use Rattle.player.specs.Desks.{Desk, desk, noSession}
 use Rattle.player.specs.Play.{Scene, play}
 use Rattle.player.specs.Shows.{Shows}
 use Rattle.player.specs.Steps.{Plays}
 use Rattle.player.proofs.Rows.{Plays-alike, play-alike, shows-alike}
 use Rattle.ring_program.specs.declared.feed.Stage.{Stage}
-use Rattle.ring_program.specs.Fed.{Ended, Fed, Finishes, Follows, Leads, after, fed, lastFed, outRow}
+use Rattle.ring_program.specs.Fed.{Fed, Finishes, Follows, Leads, after, deskOf, fed, lastFed, outRow}
 
 -- bytes fed one after another
 pub fed-append : (g : Scene) (l bs cs : List ℕ) → fed g l (bs ++ cs) ≡ after (fed g l bs .text) (fed (fed g l bs .scene) (fed g l bs .rest) cs)
@@ -69,66 +73,79 @@ follows-then g l bs at text r stores lines text′ cs q stores′ lines′ text�
           ∙ sym (sets-append text at (fed g l bs .text) (fed (fed g l bs .scene) (fed g l bs .rest) cs .text));
     })
 
--- one byte
-fed-line : (g : Scene) (l : List ℕ) (b : ℕ) → b ≡ 10 → fed g l (b ∷ []) ≡ record { scene = play outRow g (lineOf l) .0; rest = []; text = replyBytes (play outRow g (lineOf l) .1) ++ [] }
-unfolding fed
-fed-line g l b e = rw (eq-eqb b 10 e) refl
-
-fed-byte : (g : Scene) (l : List ℕ) (b : ℕ) → (b ≡ 10 → ⊥) → fed g l (b ∷ []) ≡ record { scene = g; rest = l ++ (b ∷ []); text = [] }
-unfolding fed
-fed-byte g l b n = rw (ne-eqb b 10 n) refl
-
-ended-follows : (g : Scene) (l : List ℕ) (at : ℕ) (text : List ℕ) (r : Stage) (stores lines text′ : List ℕ) (b : ℕ) → b ≡ 10
-    → Ended g l at text r stores lines text′ → Follows (fed g l (b ∷ [])) at text r stores lines text′
-ended-follows g l at text r stores lines text′ b is E =
-    subst (λ (f : Fed). Follows f at text r stores lines text′) (sym (fed-line g l b is))
-    (record {
-      shows = E .shows;
-      pending = E .pending;
-      at-is = E .at-is ∙ ap (λ (x : List ℕ). at + length x) (sym (append-nil said));
-      text-is = E .text-is ∙ ap (sets text at) (sym (append-nil said));
-    })
+-- a line taken from the bytes
+fed-first : (g : Scene) (l bs cs : List ℕ) → fed g l (firstLine bs ++ cs) ≡ fed g (l ++ firstLine bs) cs
+unfolding fed firstLine
+fed-first g l [] cs = ap (λ (x : List ℕ). fed g x cs) (sym (append-nil l))
+fed-first g l (b ∷ bs) cs = go (eqb b 10) refl (fed-first g (l ++ (b ∷ [])) bs cs)
   where
-    said : List ℕ
-    said = replyBytes (play outRow g (lineOf l) .1)
+    go : (t : Bool) → eqb b 10 ≡ t → fed g (l ++ (b ∷ [])) (firstLine bs ++ cs) ≡ fed g ((l ++ (b ∷ [])) ++ firstLine bs) cs → fed g l (cond t [] (b ∷ firstLine bs) ++ cs) ≡ fed g (l ++ cond t [] (b ∷ firstLine bs)) cs
+    go true e h = ap (λ (x : List ℕ). fed g x cs) (sym (append-nil l))
+    go false e h = rw e (h ∙ ap (λ (x : List ℕ). fed g x cs) (append-assoc l (b ∷ []) (firstLine bs)))
 
-byte-follows : (g : Scene) (l : List ℕ) (at : ℕ) (text : List ℕ) (d : Desk) (p q : Pending) (w : Bool) (stores lines : List ℕ) (b : ℕ) → (b ≡ 10 → ⊥) → Shows g d stores lines → p ≡ pendingOf l → q ≡ pushed p b
-    → Follows (fed g l (b ∷ [])) at text (record { desk = d; pending = q; at = at; wrote = w }) stores lines text
-byte-follows g l at text d p q w stores lines b ne S e h =
-    subst (λ (f : Fed). Follows f at text (record { desk = d; pending = q; at = at; wrote = w }) stores lines text) (sym (fed-byte g l b ne))
-    (record { shows = S; pending = h ∙ ap (λ (x : Pending). pushed x b) e ∙ push-more l b; at-is = sym (add-zero at); text-is = refl })
-
--- a line played and its reply put; which words the out row had makes no difference
-pub ended : (row : List ℕ) (g : Scene) (l : List ℕ) (at n : ℕ) (text text′ : List ℕ) (asked : Line) (r : Played) (blank : Pending) (stores lines : List ℕ) → length row ≡ 1751 → asked ≡ lineOf l
-    → Plays row g asked r stores lines → n ≡ at + length (replyBytes (r .reply)) → text′ ≡ sets text at (replyBytes (r .reply)) → blank ≡ pendingOf []
-    → Ended g l at text (record { desk = r .desk; pending = blank; at = n; wrote = true }) stores lines text′
-ended row g l at n text text′ asked r blank stores lines long e P a t z =
-    record {
-      shows = shows-alike _ _ (r .desk) stores lines (A .ring) (A .place) (subst (λ (x : Line). Shows (play row g x .0) (r .desk) stores lines) e (P .shows));
-      pending = z;
-      at-is = a ∙ ap (λ (x : Reply). at + length (replyBytes x)) said;
-      text-is = t ∙ ap (λ (x : Reply). sets text at (replyBytes x)) said;
-    }
-  where
-    A : Plays-alike (play row g (lineOf l)) (play outRow g (lineOf l))
-    A = play-alike row outRow long g (lineOf l)
-
-    said : r .reply ≡ play outRow g (lineOf l) .1
-    said = P .reply ∙ ap (λ (x : Line). play row g x .1) e ∙ A .reply
-
-part-one : (xs : List ℕ) (a : ℕ) → a < length xs → part xs a 1 ≡ getD xs a 0 ∷ []
+fed-taken : (g : Scene) (l : List ℕ) (p : Pending) (bytes : List ℕ) (from : ℕ) (r : Taken) → Takes p bytes from r
+    → fed g l (part bytes from (r .next - from)) ≡ fed g (l ++ firstLine (drop from bytes)) (cond (r .ended) (10 ∷ []) [])
 unfolding part
-part-one xs a k = part-cons xs a 0 k
+fed-taken g l p bytes from r T =
+    let n : r .next - from ≡ lineSize (drop from bytes) = omega (arith, T .next) in
+    ap (λ (k : ℕ). fed g l (take k (drop from bytes))) n
+    ∙ ap (fed g l) (line-part (drop from bytes))
+    ∙ fed-first g l (drop from bytes) (cond (hasEnd (drop from bytes)) (10 ∷ []) [])
+    ∙ ap (λ (t : Bool). fed g (l ++ firstLine (drop from bytes)) (cond t (10 ∷ []) [])) (sym (T .ended))
 
--- the next byte of a part
-part-next : (ws : List ℕ) (from i : ℕ) → from ≤ i → i < length ws → part ws from (i - from) ++ (getD ws i 0 ∷ []) ≡ part ws from (i + 1 - from)
-part-next ws from i h l =
-    let e : i + 1 - from ≡ (i - from) + 1 = omega arith in
-    let f : from + (i - from) ≡ i = omega arith in
-    ap (λ (x : ℕ). part ws from (i - from) ++ (getD ws x 0 ∷ [])) (sym f)
-    ∙ ap (λ (x : List ℕ). part ws from (i - from) ++ x) (sym (part-one ws (from + (i - from)) (omega arith)))
-    ∙ sym (part-add ws from (i - from) 1)
-    ∙ ap (part ws from) (sym e)
+-- it has at least one byte
+some-size : (bs : List ℕ) → 0 < length bs → 0 < lineSize bs
+unfolding firstLine hasEnd
+some-size [] h = absurd (omega arith)
+some-size (b ∷ bs) h = go (eqb b 10)
+  where
+    go : (t : Bool) → 0 < length (cond t [] (b ∷ firstLine bs)) + cond (cond t true (hasEnd bs)) 1 0
+    go true = omega arith
+    go false = omega arith
+
+pub taken-some : (p : Pending) (bytes : List ℕ) (from : ℕ) (r : Taken) → Takes p bytes from r → from < length bytes → from < r .next
+taken-some p bytes from r T h = omega (arith, T .next, some-size (drop from bytes) (omega (arith, length-drop from bytes)))
+
+-- what the rows and the board are after a line, and the text behind which its reply stands; which words the out row had makes no difference
+pub record Turn (line : Line) (ss : List Session) (b : Board) (at : ℕ) (stores lines out text : List ℕ) (ss′ : List Session) (b′ : Board) (at′ : ℕ) (stores′ lines′ out′ text′ : List ℕ) : Type 0 where
+  pub stores-same : length stores′ ≡ length stores
+  pub lines-same : length lines′ ≡ length lines
+  pub out-same : length out′ ≡ length out
+  pub text-same : length text′ ≡ length text
+  pub reply : Reply
+  pub plays : (g : Scene) → Shows g (desk ss b) stores lines → Plays out g line (record { desk = desk ss′ b′; reply = reply }) stores′ lines′
+  pub near : at′ ≤ at + 40
+  pub at-is : at′ ≡ at + length (replyBytes reply)
+  pub text-is : text′ ≡ sets text at (replyBytes reply)
+
+pub turn-of : (line : Line) (ss : List Session) (b : Board) (at : ℕ) (stores lines out text : List ℕ) (reply : Reply) (ss₁ : List Session) (b₁ : Board) (n : ℕ) (s₁ l₁ o₁ t₁ : List ℕ)
+    → length s₁ ≡ length stores → length l₁ ≡ length lines → length o₁ ≡ length out → length t₁ ≡ length text
+    → ((g : Scene) → Shows g (desk ss b) stores lines → Plays out g line (record { desk = desk ss₁ b₁; reply = reply }) s₁ l₁)
+    → (n ≡ at + length (replyBytes reply)) × (t₁ ≡ sets text at (replyBytes reply)) × (n ≤ at + 40)
+    → (ss′ : List Session) (b′ : Board) (at′ : ℕ) (stores′ lines′ out′ text′ : List ℕ) → ss′ ≡ ss₁ → b′ ≡ b₁ → at′ ≡ n → stores′ ≡ s₁ → lines′ ≡ l₁ → out′ ≡ o₁ → text′ ≡ t₁
+    → Turn line ss b at stores lines out text ss′ b′ at′ stores′ lines′ out′ text′
+turn-of line ss b at stores lines out text reply ss₁ b₁ n s₁ l₁ o₁ t₁ hs hl ho ht P R ss′ b′ at′ stores′ lines′ out′ text′ ess eb en es el eo et =
+    record {
+      stores-same = ap length es ∙ hs;
+      lines-same = ap length el ∙ hl;
+      out-same = ap length eo ∙ ho;
+      text-same = ap length et ∙ ht;
+      reply = reply;
+      plays =
+          λ g S.
+          subst (λ (x : Desk × (List ℕ × List ℕ)). Plays out g line (record { desk = x .0; reply = reply }) (x .1 .0) (x .1 .1)) (λ i. (desk (sym ess i) (sym eb i), (sym es i, sym el i))) (P g S);
+      near = omega (arith, en, R .2);
+      at-is = en ∙ R .0;
+      text-is = et ∙ R .1;
+    }
+
+-- the sessions after a write: the one that wrote is put in its place only if the write was done
+module _ (ss ss′ : List Session) (i : ℕ) (e : Entry) (done : Bool) where
+  pub put-done : (t : Session) → done ≡ true → t ≡ extendedBy (getD ss i noSession) e → ss′ ≡ set ss i t → ss′ ≡ set ss i (cond done (extendedBy (getD ss i noSession) e) (getD ss i noSession))
+  put-done t d h q = q ∙ ap (set ss i) h ∙ (λ j. set ss i (cond (sym d j) (extendedBy (getD ss i noSession) e) (getD ss i noSession)))
+
+  pub not-put : done ≡ false → ss′ ≡ ss → ss′ ≡ set ss i (cond done (extendedBy (getD ss i noSession) e) (getD ss i noSession))
+  not-put d q = q ∙ sym (set-getD ss i noSession) ∙ (λ j. set ss i (cond (sym d j) (extendedBy (getD ss i noSession) e) (getD ss i noSession)))
 
 -- ---- the loop over bytes
 
@@ -136,82 +153,83 @@ part-zero : (bytes : List ℕ) (i : ℕ) → part bytes i (i - i) ≡ []
 unfolding part
 part-zero bytes i = let e : i - i ≡ 0 = omega arith in ap (λ (x : ℕ). take x (drop i bytes)) e
 
-pub nothing-fed : (bytes : List ℕ) (i : ℕ) (r : Stage) (stores lines text : List ℕ) (g : Scene) (l : List ℕ) → Shows g (r .desk) stores lines → r .pending ≡ pendingOf l
+pub nothing-fed : (bytes : List ℕ) (i : ℕ) (r : Stage) (stores lines text : List ℕ) (g : Scene) (l : List ℕ) → Shows g (deskOf r) stores lines → r .pending ≡ pendingOf l
     → Follows (fed g l (part bytes i (i - i))) (r .at) text r stores lines text
 unfolding fed
 nothing-fed bytes i r stores lines text g l S e =
     subst (λ (x : List ℕ). Follows (fed g l x) (r .at) text r stores lines text) (sym (part-zero bytes i))
     (record { shows = S; pending = e; at-is = sym (add-zero (r .at)); text-is = refl })
 
-pub one-more : (bytes : List ℕ) (from i : ℕ) → from ≤ i → i < length bytes → (g : Scene) (l : List ℕ) (at : ℕ) (text : List ℕ) (r : Stage) (stores lines text′ : List ℕ)
-    → Follows (fed g l (part bytes from (i - from))) at text r stores lines text′ → (q : Stage) (stores′ lines′ text″ : List ℕ)
-    → Follows (fed (fed g l (part bytes from (i - from)) .scene) (fed g l (part bytes from (i - from)) .rest) (getD bytes i 0 ∷ [])) (r .at) text′ q stores′ lines′ text″
-    → Follows (fed g l (part bytes from (i + 1 - from))) at text q stores′ lines′ text″
-one-more bytes from i h k g l at text r stores lines text′ A q stores′ lines′ text″ B =
-    subst (λ (x : List ℕ). Follows (fed g l x) at text q stores′ lines′ text″) (part-next bytes from i h k)
-    (follows-then g l (part bytes from (i - from)) at text r stores lines text′ (getD bytes i 0 ∷ []) q stores′ lines′ text″ A B)
+part-next : (ws : List ℕ) (from i next : ℕ) → from ≤ i → i ≤ next → part ws from (i - from) ++ part ws i (next - i) ≡ part ws from (next - from)
+part-next ws from i next h l =
+    let f : from + (i - from) ≡ i = omega arith in
+    let e : (i - from) + (next - i) ≡ next - from = omega arith in
+    ap (λ (x : ℕ). part ws from (i - from) ++ part ws x (next - i)) (sym f) ∙ sym (part-add ws from (i - from) (next - i)) ∙ ap (part ws from) e
 
 -- a turn that ends at once, short of room, is none at the first byte
 pub moved : (from i at room : ℕ) → from ≤ i → room - at < 40 → at ≤ room → (i ≡ from → at + 40 ≤ room) → from < i
 moved from i at room h short near first = ⊎-elim (λ (l : from < i). l) (λ (l : i ≤ from). absurd (omega (arith, first (omega arith), short, near))) (lt-or-le from i)
 
--- what one byte does to the stage and the lent rows
-pub record Turn (b : ℕ) (cur : Stage) (stores lines scratch out text : List ℕ) (cur′ : Stage) (stores′ lines′ scratch′ out′ text′ : List ℕ) : Type 0 where
-  pub stores-same : length stores′ ≡ length stores
-  pub lines-same : length lines′ ≡ length lines
-  pub scratch-same : length scratch′ ≡ length scratch
-  pub out-same : length out′ ≡ length out
-  pub text-same : length text′ ≡ length text
-  pub near : cur′ .at ≤ cur .at + 40
-  pub wrote : cur .wrote ≡ true → cur′ .wrote ≡ true
-  pub fed : (g : Scene) (l : List ℕ) → Shows g (cur .desk) stores lines → cur .pending ≡ pendingOf l → Follows (fed g l (b ∷ [])) (cur .at) text cur′ stores′ lines′ text′
+-- bytes were fed up to i, and a line was taken from there
+module _ (bytes : List ℕ) (from i : ℕ) (h : from ≤ i) (g : Scene) (l : List ℕ) (at : ℕ) (text : List ℕ) (cur : Stage) (stores lines text′ : List ℕ)
+    (X : Follows (fed g l (part bytes from (i - from))) at text cur stores lines text′) (r : Taken) (T : Takes (cur .pending) bytes i r) where
+  abbrev f : Fed
+  f = fed g l (part bytes from (i - from))
 
-module _ (b : ℕ) (cur : Stage) (stores lines scratch out text : List ℕ) where
-  -- a newline: the line is played
-  pub turn-ended : (r : Stage) (s₁ l₁ c₁ o₁ t₁ : List ℕ) → b ≡ 10 → length s₁ ≡ length stores → length l₁ ≡ length lines → length c₁ ≡ length scratch → length o₁ ≡ length out → length t₁ ≡ length text
-      → r .at ≤ cur .at + 40 → r .wrote ≡ true → ((g : Scene) (l : List ℕ) → Shows g (cur .desk) stores lines → cur .pending ≡ pendingOf l → Ended g l (cur .at) text r s₁ l₁ t₁)
-      → (cur′ : Stage) (stores′ lines′ scratch′ out′ text′ : List ℕ) → stores′ ≡ s₁ → lines′ ≡ l₁ → scratch′ ≡ c₁ → out′ ≡ o₁ → text′ ≡ t₁ → cur′ ≡ r
-      → Turn b cur stores lines scratch out text cur′ stores′ lines′ scratch′ out′ text′
-  turn-ended r s₁ l₁ c₁ o₁ t₁ is hs hl hc ho ht near went E cur′ stores′ lines′ scratch′ out′ text′ es el ec eo et er =
-      record {
-        stores-same = ap length es ∙ hs;
-        lines-same = ap length el ∙ hl;
-        scratch-same = ap length ec ∙ hc;
-        out-same = ap length eo ∙ ho;
-        text-same = ap length et ∙ ht;
-        near = omega (arith, near, ap (λ (x : Stage). x .at) er);
-        wrote = λ (_ : cur .wrote ≡ true). ap (λ (x : Stage). x .wrote) er ∙ went;
-        fed = λ g l S e.
-            subst (λ (p : Stage × List ℕ × List ℕ × List ℕ). Follows (fed g l (b ∷ [])) (cur .at) text (p .0) (p .1) (p .2) (p .3)) (λ i. (sym er i, sym es i, sym el i, sym et i))
-            (ended-follows g l (cur .at) text r s₁ l₁ t₁ b is (E g l S e));
-      }
+  abbrev rest : List ℕ
+  rest = f .rest ++ firstLine (drop i bytes)
 
-  -- any other byte waits for the line's end
-  pub turn-pushed : (q : Pending) → (b ≡ 10 → ⊥) → q ≡ pushed (cur .pending) b
-      → (cur′ : Stage) (stores′ lines′ scratch′ out′ text′ : List ℕ) → stores′ ≡ stores → lines′ ≡ lines → scratch′ ≡ scratch → out′ ≡ out → text′ ≡ text → cur′ ≡ record { desk = cur .desk; pending = q; at = cur .at; wrote = cur .wrote }
-      → Turn b cur stores lines scratch out text cur′ stores′ lines′ scratch′ out′ text′
-  turn-pushed q ne h cur′ stores′ lines′ scratch′ out′ text′ es el ec eo et er =
-      record {
-        stores-same = ap length es;
-        lines-same = ap length el;
-        scratch-same = ap length ec;
-        out-same = ap length eo;
-        text-same = ap length et;
-        near = omega (arith, ap (λ (x : Stage). x .at) er);
-        wrote = λ (w : cur .wrote ≡ true). ap (λ (x : Stage). x .wrote) er ∙ w;
-        fed = λ g l S e.
-            subst (λ (p : Stage × List ℕ × List ℕ × List ℕ). Follows (fed g l (b ∷ [])) (cur .at) text (p .0) (p .1) (p .2) (p .3)) (λ i. (sym er i, sym es i, sym el i, sym et i))
-            (byte-follows g l (cur .at) text (cur .desk) (cur .pending) q (cur .wrote) stores lines b ne S e h);
-      }
+  on : (q : Stage) (stores′ lines′ text″ : List ℕ) → Follows (fed (f .scene) rest (cond (r .ended) (10 ∷ []) [])) (cur .at) text′ q stores′ lines′ text″
+      → Follows (fed g l (part bytes from (r .next - from))) at text q stores′ lines′ text″
+  on q stores′ lines′ text″ B =
+      subst (λ (x : List ℕ). Follows (fed g l x) at text q stores′ lines′ text″) (part-next bytes from i (r .next) h (omega (arith, T .next)))
+      (follows-then g l (part bytes from (i - from)) at text cur stores lines text′ (part bytes i (r .next - i)) q stores′ lines′ text″ X
+      (subst (λ (x : Fed). Follows x (cur .at) text′ q stores′ lines′ text″) (sym (fed-taken (f .scene) (f .rest) (cur .pending) bytes i r T)) B))
+
+  -- it has not ended
+  pub line-waits : r .ended ≡ false → Follows (fed g l (part bytes from (r .next - from))) at text (record { sessions = cur .sessions; board = cur .board; pending = r .pending; at = cur .at; wrote = cur .wrote }) stores lines text′
+  unfolding fed
+  line-waits e =
+      on _ stores lines text′
+      (subst (λ (t : Bool). Follows (fed (f .scene) rest (cond t (10 ∷ []) [])) (cur .at) text′ (record { sessions = cur .sessions; board = cur .board; pending = r .pending; at = cur .at; wrote = cur .wrote }) stores lines text′) (sym e)
+      (record { shows = X .shows; pending = T .pending (f .rest) (X .pending); at-is = sym (add-zero (cur .at)); text-is = refl }))
+
+  -- it was played
+  module _ (e : r .ended ≡ true) (line : Line) (is : line ≡ parsed (r .pending)) (out : List ℕ) (long : length out ≡ 1751)
+      (ss′ : List Session) (b′ : Board) (blank : Pending) (at′ : ℕ) (stores′ lines′ out′ text″ : List ℕ) (none : blank ≡ pendingOf [])
+      (P : Turn line (cur .sessions) (cur .board) (cur .at) stores lines out text′ ss′ b′ at′ stores′ lines′ out′ text″) where
+    asked : line ≡ lineOf rest
+    asked = is ∙ ap parsed (T .pending (f .rest) (X .pending)) ∙ parse-whole rest
+
+    A : Plays-alike (play out (f .scene) (lineOf rest)) (play outRow (f .scene) (lineOf rest))
+    A = play-alike out outRow long (f .scene) (lineOf rest)
+
+    said : P .reply ≡ play outRow (f .scene) (lineOf rest) .1
+    said = P .plays (f .scene) (X .shows) .reply ∙ ap (λ (x : Line). play out (f .scene) x .1) asked ∙ A .reply
+
+    text-of : List ℕ
+    text-of = replyBytes (play outRow (f .scene) (lineOf rest) .1)
+
+    pub line-played : Follows (fed g l (part bytes from (r .next - from))) at text (record { sessions = ss′; board = b′; pending = blank; at = at′; wrote = true }) stores′ lines′ text″
+    unfolding fed text-of
+    line-played =
+        on _ stores′ lines′ text″
+        (subst (λ (t : Bool). Follows (fed (f .scene) rest (cond t (10 ∷ []) [])) (cur .at) text′ (record { sessions = ss′; board = b′; pending = blank; at = at′; wrote = true }) stores′ lines′ text″) (sym e)
+        (record {
+          shows = shows-alike _ _ (desk ss′ b′) stores′ lines′ (A .ring) (A .place) (subst (λ (x : Line). Shows (play out (f .scene) x .0) (desk ss′ b′) stores′ lines′) asked (P .plays (f .scene) (X .shows) .shows));
+          pending = none;
+          at-is = P .at-is ∙ ap (λ (x : Reply). cur .at + length (replyBytes x)) said ∙ ap (λ (x : List ℕ). cur .at + length x) (sym (append-nil text-of));
+          text-is = P .text-is ∙ ap (λ (x : Reply). sets text′ (cur .at) (replyBytes x)) said ∙ ap (sets text′ (cur .at)) (sym (append-nil text-of));
+        }))
 
 -- ---- the loop over a chunk
 
-pub leads-none : (bytes : List ℕ) (r : Stage) (stores lines : List ℕ) (g : Scene) (l : List ℕ) → Shows g (r .desk) stores lines → r .pending ≡ pendingOf l → Leads (fed g l (part bytes 0 0)) r stores lines
+pub leads-none : (bytes : List ℕ) (r : Stage) (stores lines : List ℕ) (g : Scene) (l : List ℕ) → Shows g (deskOf r) stores lines → r .pending ≡ pendingOf l → Leads (fed g l (part bytes 0 0)) r stores lines
 unfolding part fed
 leads-none bytes r stores lines g l S e = record { shows = S; pending = e }
 
 pub leads-then : (bytes : List ℕ) (from next : ℕ) → from ≤ next → (g : Scene) (l : List ℕ) (at : ℕ) (text : List ℕ) (q w : Stage) (stores′ lines′ text′ : List ℕ)
-    → Follows (fed (fed g l (part bytes 0 from) .scene) (fed g l (part bytes 0 from) .rest) (part bytes from (next - from))) at text q stores′ lines′ text′ → w .desk ≡ q .desk → w .pending ≡ q .pending
+    → Follows (fed (fed g l (part bytes 0 from) .scene) (fed g l (part bytes 0 from) .rest) (part bytes from (next - from))) at text q stores′ lines′ text′ → deskOf w ≡ deskOf q → w .pending ≡ q .pending
     → Leads (fed g l (part bytes 0 next)) w stores′ lines′
 leads-then bytes from next h g l at text q w stores′ lines′ text′ B d p =
     subst (λ (f : Fed). Leads f w stores′ lines′) (sym (fed-append g l (part bytes 0 from) (part bytes from (next - from))) ∙ ap (fed g l) whole)
@@ -240,7 +258,7 @@ unfolding lastFed
 last-some g [] some = absurd (some refl)
 last-some g (b ∷ l) some = refl
 
-pub nothing-finishes : (g : Scene) (l text : List ℕ) (r : Stage) (stores lines : List ℕ) → Shows g (r .desk) stores lines → r .pending ≡ pendingOf l
+pub nothing-finishes : (g : Scene) (l text : List ℕ) (r : Stage) (stores lines : List ℕ) → Shows g (deskOf r) stores lines → r .pending ≡ pendingOf l
     → isEmpty (r .pending) ≡ true → Finishes g l text r stores lines text
 unfolding lastFed
 nothing-finishes g l text r stores lines S e h =
@@ -248,11 +266,15 @@ nothing-finishes g l text r stores lines S e h =
     subst (λ (x : List ℕ). Finishes g x text r stores lines text) (sym none)
     (record { leads = record { shows = S; pending = e ∙ ap pendingOf none }; text-is = refl })
 
-pub last-finishes : (g : Scene) (l : List ℕ) (at : ℕ) (text : List ℕ) (q r : Stage) (stores lines text′ : List ℕ) (p : Pending) → p ≡ pendingOf l → isEmpty p ≡ false → at ≡ 0
-    → Ended g l at text q stores lines text′ → r .desk ≡ q .desk → r .pending ≡ q .pending → Finishes g l text r stores lines text′
-last-finishes g l at text q r stores lines text′ p e h z E d w =
+-- the last line, by a newline that did not come
+pub last-finishes : (g : Scene) (l : List ℕ) (at : ℕ) (text : List ℕ) (q r : Stage) (stores lines text′ : List ℕ) (p : Pending) (next : ℕ) → p ≡ pendingOf l → isEmpty p ≡ false → at ≡ 0 → 0 < next → next ≤ 1
+    → Follows (fed g l (part (10 ∷ []) 0 (next - 0))) at text q stores lines text′ → deskOf r ≡ deskOf q → r .pending ≡ q .pending → Finishes g l text r stores lines text′
+unfolding fed part
+last-finishes g l at text q r stores lines text′ p next e h z some one F d w =
+    let n : next - 0 ≡ 1 = omega arith in
+    let E : Follows (fed g l (10 ∷ [])) at text q stores lines text′ = subst (λ (k : ℕ). Follows (fed g l (take k (10 ∷ []))) at text q stores lines text′) n F in
     let is = last-some g l (some-list l (ap isEmpty (sym e) ∙ h)) in
     record {
       leads = subst (λ (f : Fed). Leads f r stores lines) (sym is) (record { shows = subst (λ (x : Desk). Shows (play outRow g (lineOf l) .0) x stores lines) (sym d) (E .shows); pending = w ∙ E .pending });
-      text-is = E .text-is ∙ (λ i. sets text (z i) (sym is i .text));
+      text-is = E .text-is ∙ (λ i. sets text (z i) (append-nil (replyBytes (play outRow g (lineOf l) .1)) i)) ∙ (λ i. sets text 0 (sym is i .text));
     }

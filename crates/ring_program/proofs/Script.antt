@@ -8,9 +8,8 @@ use native.Mathlib.Omega.{arith}
 use lib.ListN.{length, take}
 use Rattle.causal.proofs.Lists.{part-length}
 use Rattle.script.specs.declared.line.Line.{Line}
-use Rattle.script.specs.declared.reply.Reply.{Reply}
 use Rattle.script.specs.declared.reply.Reply.the-variants.{Refused}
-use Rattle.player.specs.declared.desk.Desk.{Desk}
+use Rattle.player.specs.Desks.{Desk}
 use Rattle.player.specs.Play.{Scene, opening, playAll}
 use Rattle.player.specs.Shows.{Shows, storesIn}
 use Rattle.player.proofs.Never.{script-never-8}
@@ -18,8 +17,7 @@ use Rattle.player.proofs.Runs.{Ran, script-holds}
 use Rattle.ring_program.specs.declared.Outcome.{Outcome}
 use Rattle.ring_program.specs.declared.ending.Ending.{Ending}
 use Rattle.ring_program.specs.declared.ending.Ending.the-variants.{Done, ReadFailed, TooLong, WriteFailed}
-use Rattle.ring_program.specs.declared.feed.Stage.{Stage}
-use Rattle.ring_program.specs.Fed.{fed, linesIn, linesOf, outRow, rowed, textOf, wholeFed}
+use Rattle.ring_program.specs.Fed.{deskOf, fed, linesIn, linesOf, outRow, rowed, textOf, wholeFed}
 use Rattle.ring_program.specs.Promises.{Ends, Finished, RunPromise}
 use Rattle.ring_program.proofs.Whole.{fed-plays, whole-plays}
 
@@ -42,8 +40,8 @@ module _ (stores : List ℕ) (long : length stores ≡ 5241) (r : Outcome) (stor
   enough : (o : ℕ) → o < 3 → 1747 ≤ length (rows o)
   enough o h = let e = part-length stores (1747 * o) 1747 (omega arith) in omega (arith, e)
 
-  whole-shows : (bs : List ℕ) → Finished g bs (r .stage) stores′ lines′ text′ → Shows (playAll g (rowed (linesOf [] bs)) .0) (r .stage .desk) stores′ lines′
-  whole-shows bs F = subst (λ (x : Scene). Shows x (r .stage .desk) stores′ lines′) (whole-plays g [] bs .scene) (F .1 .leads .shows)
+  whole-shows : (bs : List ℕ) → Finished g bs (r .stage) stores′ lines′ text′ → Shows (playAll g (rowed (linesOf [] bs)) .0) (deskOf (r .stage)) stores′ lines′
+  whole-shows bs F = subst (λ (x : Scene). Shows x (deskOf (r .stage)) stores′ lines′) (whole-plays g [] bs .scene) (F .1 .leads .shows)
 
   -- "it never prints refusal 8": to no list of lines
   never-8 : (ls : List Line) → List·Memᴰ (Refused 8) (playAll g (rowed ls) .1) → ⊥
@@ -52,7 +50,7 @@ module _ (stores : List ℕ) (long : length stores ≡ 5241) (r : Outcome) (stor
       let t = Memᴰ·of-map (λ (y : Line). (outRow, y)) ls m in
       ap (λ (z : List ℕ × Line). length (z .0)) (sym (t .2)))
 
-  pub ran-answers : (P : RunPromise stores r stores′ lines′ text′) → r .ending ≡ Done → Answered rows (P .bytes) (r .stage .desk) stores′ lines′
+  pub ran-answers : (P : RunPromise stores r stores′ lines′ text′) → r .ending ≡ Done → Answered rows (P .bytes) (deskOf (r .stage)) stores′ lines′
   ran-answers P e =
       record {
         shows = whole-shows bs (subst (λ (x : Ending). Ends x g bs (r .left) (r .brought) (r .failed) (r .stage) stores′ lines′ text′) e (P .ends) .3);
@@ -67,15 +65,15 @@ module _ (stores : List ℕ) (long : length stores ≡ 5241) (r : Outcome) (stor
   -- however the program ends: what is shown is the scene of some lines, its ring is a run, and no reply to them is refusal 8
   abbrev pub Kept : Type 0
   Kept =
-      (ls : List Line) × Shows (playAll g (rowed ls) .0) (r .stage .desk) stores′ lines′
+      (ls : List Line) × Shows (playAll g (rowed ls) .0) (deskOf (r .stage)) stores′ lines′
       × Ran rows (playAll g (rowed ls) .0 .ring)
       × (List·Memᴰ (Refused 8) (playAll g (rowed ls) .1) → ⊥)
 
-  played : (ls : List Line) → Shows (playAll g (rowed ls) .0) (r .stage .desk) stores′ lines′ → Kept
+  played : (ls : List Line) → Shows (playAll g (rowed ls) .0) (deskOf (r .stage)) stores′ lines′ → Kept
   played ls S = (ls, S, script-holds rows enough (rowed ls), never-8 ls)
 
-  fed-kept : (bs : List ℕ) → Shows (fed g [] bs .scene) (r .stage .desk) stores′ lines′ → Kept
-  fed-kept bs S = played (linesIn [] bs) (subst (λ (x : Scene). Shows x (r .stage .desk) stores′ lines′) (fed-plays g [] bs .scene) S)
+  fed-kept : (bs : List ℕ) → Shows (fed g [] bs .scene) (deskOf (r .stage)) stores′ lines′ → Kept
+  fed-kept bs S = played (linesIn [] bs) (subst (λ (x : Scene). Shows x (deskOf (r .stage)) stores′ lines′) (fed-plays g [] bs .scene) S)
 
   whole-kept : (bs : List ℕ) → Finished g bs (r .stage) stores′ lines′ text′ → Kept
   whole-kept bs F = played (linesOf [] bs) (whole-shows bs F)

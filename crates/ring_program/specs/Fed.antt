@@ -11,6 +11,7 @@ use Rattle.script.specs.Pendings.{pendingOf}
 use Rattle.script.specs.Replies.{replyBytes}
 use Rattle.script.specs.declared.line.Line.{Line}
 use Rattle.script.specs.declared.reply.Reply.{Reply}
+use Rattle.player.specs.Desks.{Desk, desk}
 use Rattle.player.specs.Play.{Scene, play}
 use Rattle.player.specs.Shows.{Shows}
 use Rattle.ring_program.specs.declared.feed.Stage.{Stage}
@@ -65,28 +66,25 @@ unfoldable pub textOf : List Reply → List ℕ
 textOf [] = []
 textOf (r ∷ rs) = replyBytes r ++ textOf rs
 
--- a line ended: the scene that it leaves is shown, nothing is pending, and the reply stands behind the text
-pub record Ended (g : Scene) (l : List ℕ) (at : ℕ) (text : List ℕ) (r : Stage) (stores lines text′ : List ℕ) : Type 0 where
-  pub shows : Shows (play outRow g (lineOf l) .0) (r .desk) stores lines
-  pub pending : r .pending ≡ pendingOf []
-  pub at-is : r .at ≡ at + length (replyBytes (play outRow g (lineOf l) .1))
-  pub text-is : text′ ≡ sets text at (replyBytes (play outRow g (lineOf l) .1))
+-- the sessions and the board
+abbrev pub deskOf : Stage → Desk
+deskOf r = desk (r .sessions) (r .board)
 
 -- bytes fed: what they lead to is shown and pending, and the replies stand behind the text
 pub record Follows (f : Fed) (at : ℕ) (text : List ℕ) (r : Stage) (stores lines text′ : List ℕ) : Type 0 where
-  pub shows : Shows (f .scene) (r .desk) stores lines
+  pub shows : Shows (f .scene) (deskOf r) stores lines
   pub pending : r .pending ≡ pendingOf (f .rest)
   pub at-is : r .at ≡ at + length (f .text)
   pub text-is : text′ ≡ sets text at (f .text)
 
 -- the same of the desk and what is pending alone, where the text is written out on the way
 pub record Leads (f : Fed) (r : Stage) (stores lines : List ℕ) : Type 0 where
-  pub shows : Shows (f .scene) (r .desk) stores lines
+  pub shows : Shows (f .scene) (deskOf r) stores lines
   pub pending : r .pending ≡ pendingOf (f .rest)
 
 -- some scene is shown, and some bytes are pending
 abbrev pub Staged : Stage → List ℕ → List ℕ → Type 0
-Staged r stores lines = (g : Scene) × (l : List ℕ) × Shows g (r .desk) stores lines × (r .pending ≡ pendingOf l)
+Staged r stores lines = (g : Scene) × (l : List ℕ) × Shows g (deskOf r) stores lines × (r .pending ≡ pendingOf l)
 
 -- the input has ended: what is pending is played as the last line, and its reply stands at the text's beginning
 pub record Finishes (g : Scene) (l text : List ℕ) (r : Stage) (stores lines text′ : List ℕ) : Type 0 where

@@ -12,7 +12,7 @@ use Rattle.ring_program.specs.declared.Outcome.{Outcome}
 use Rattle.ring_program.specs.declared.ending.Ending.{Ending}
 use Rattle.ring_program.specs.declared.ending.Ending.the-variants.{Done, ReadFailed, TooLong, WriteFailed}
 use Rattle.ring_program.specs.declared.feed.Stage.{Stage}
-use Rattle.ring_program.specs.Fed.{Fed, Finishes, Leads, fed}
+use Rattle.ring_program.specs.Fed.{Finishes, Leads, fed}
 
 -- no more bytes come, with the bytes l of a line pending: at the input's end it is the last line; where the read failed it is not played, since it
 -- may be half a line

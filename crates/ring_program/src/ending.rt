@@ -7,7 +7,7 @@ ghost use lib.ListN.{length};
 ghost use Rattle.script.specs.Pendings.{pendingOf};
 ghost use Rattle.player.specs.Play.{Scene};
 ghost use Rattle.player.specs.Shows.{Shows};
-ghost use Rattle.ring_program.specs.Fed.{Staged};
+ghost use Rattle.ring_program.specs.Fed.{Staged, deskOf};
 ghost use Rattle.ring_program.specs.Promises.{Closes};
 use crate::feed::Stage;
 use crate::feed::finish;
@@ -32,12 +32,11 @@ pub fn close(
     chunk: Chunk,
     stores: &mut [u32],
     lines: &mut [u32],
-    scratch: &mut [u32],
     out: &mut [u32],
     text: &mut [u8],
 ) -> Closed
-    requires { ⌜ (length (now scratch) ≡ 1747) × (length (now out) ≡ 1751) × (length (now text) ≡ 8192) × (stage .at ≡ 0) × Staged stage (now stores) (now lines) × (stage .wrote ≡ true) ⌝ }
-    ensures { λ r. ⌜ ((g : Scene) (l : List ℕ) → Shows g (stage .desk) (now (stores .entry)) (now (lines .entry)) → stage .pending ≡ pendingOf l → Closes (r .ending) (chunk .failed) g l (now (text .entry)) (r .stage) (now (stores .exit)) (now (lines .exit)) (now (text .exit))) ⌝ }
+    requires { ⌜ (length (now out) ≡ 1751) × (length (now text) ≡ 8192) × (stage .at ≡ 0) × Staged stage (now stores) (now lines) × (stage .wrote ≡ true) ⌝ }
+    ensures { λ r. ⌜ ((g : Scene) (l : List ℕ) → Shows g (deskOf stage) (now (stores .entry)) (now (lines .entry)) → stage .pending ≡ pendingOf l → Closes (r .ending) (chunk .failed) g l (now (text .entry)) (r .stage) (now (stores .exit)) (now (lines .exit)) (now (text .exit))) ⌝ }
 {
     if chunk.failed {
         return Closed {
@@ -45,7 +44,7 @@ pub fn close(
             stage,
         };
     }
-    let last = finish(stage, stores, lines, scratch, out, text);
+    let last = finish(stage, stores, lines, out, text);
     if last.wrote {
         return Closed {
             ending: Ending::Done,

@@ -6,53 +6,32 @@ ghost use lib.ListN.{length};
 ghost use Rattle.causal.specs.Lists.{part};
 ghost use Rattle.script.specs.Pendings.{pendingOf};
 ghost use Rattle.player.specs.Play.{Scene};
-ghost use Rattle.player.specs.Shows.{Shown, Shows};
+ghost use Rattle.player.specs.Shows.{Shows};
 ghost use mathlib.Core.Bool.{true};
-ghost use Rattle.ring_program.specs.Fed.{Ended, Finishes, Follows, Leads, Staged, fed};
-use player::desk::Desk;
-use player::play::play_line;
+ghost use Rattle.ring_program.specs.Fed.{Finishes, Follows, Leads, Staged, deskOf, fed};
+use frame::session::Session;
+use office::note::with_seen;
+use office::write::extended;
+use player::board::Board;
+use player::play::play_other;
+use player::play::read_line;
+use player::play::write_line;
+use script::line::Line;
 use script::pending::Pending;
 use script::pending::is_empty;
 use script::pending::nothing;
 use script::pending::parse;
-use script::pending::push;
+use script::pending::take;
 use script::reply::put_reply;
 
-// Between two bytes: the desk, the line whose end has not come, how many bytes of text there are, and whether every write so far took its text:
-// no line is played after a write that did not.
+// Between two bytes: the sessions and the board, the line whose end has not come, how many bytes of text there are, and whether every write so far
+// took its text: no line is played after a write that did not.
 pub struct Stage {
-    pub desk: Desk,
+    pub sessions: [Session; 4],
+    pub board: Board,
     pub pending: Pending,
     pub at: usize,
     pub wrote: bool,
-}
-
-// The pending line is played, and its reply put behind the text.
-pub fn end_line(
-    stage: Stage,
-    stores: &mut [u32],
-    lines: &mut [u32],
-    scratch: &mut [u32],
-    out: &mut [u32],
-    text: &mut [u8],
-) -> Stage
-    requires { ⌜ (length (now scratch) ≡ 1747) × (length (now out) ≡ 1751) × (stage .at + 40 ≤ length (now text)) × Shown (stage .desk) (now stores) (now lines) × (stage .wrote ≡ true) ⌝ }
-    ensures { λ r. ⌜ (r .at ≤ stage .at + 40) × (r .wrote ≡ true) × ((g : Scene) (l : List ℕ) → Shows g (stage .desk) (now (stores .entry)) (now (lines .entry)) → stage .pending ≡ pendingOf l → Ended g l (stage .at) (now (text .entry)) r (now (stores .exit)) (now (lines .exit)) (now (text .exit))) ⌝ }
-{
-    let pending = stage.pending;
-    let line = parse(pending);
-    let desk = stage.desk;
-    let played = play_line(desk, line, stores, lines, scratch, out);
-    let reply = played.reply;
-    let at = put_reply(reply, text, stage.at);
-    let after = played.desk;
-    let none = nothing();
-    Stage {
-        desk: after,
-        pending: none,
-        at,
-        wrote: true,
-    }
 }
 
 pub struct Reached {
@@ -60,69 +39,111 @@ pub struct Reached {
     pub next: usize,
 }
 
-// The bytes from `from` on, up to the end or to where the text has less than 40 bytes of room. The desk is large: a byte within a line leaves it
-// in its place.
+// Every write so far took its text.
+fn reach(sessions: [Session; 4], board: Board, pending: Pending, at: usize, next: usize) -> Reached
+    ensures { λ r. ⌜ r ≡ record { stage = record { sessions = sessions; board = board; pending = pending; at = at; wrote = true }; next = next } ⌝ }
+{
+    Reached {
+        stage: Stage {
+            sessions,
+            board,
+            pending,
+            at,
+            wrote: true,
+        },
+        next,
+    }
+}
+
+// The bytes from `from` on, up to the end or to where the text has less than 40 bytes of room. The sessions are large: they are locals of this one
+// loop, so that a line copies no more than the session that it names. This is why all kinds of lines are played here.
 pub fn feed_some(
     stage: Stage,
     bytes: &[u8],
     from: usize,
     stores: &mut [u32],
     lines: &mut [u32],
-    scratch: &mut [u32],
     out: &mut [u32],
     text: &mut [u8],
 ) -> Reached
-    requires { ⌜ (length (now scratch) ≡ 1747) × (length (now out) ≡ 1751) × (stage .at + 40 ≤ length (now text)) × (from < length (now bytes)) × Staged stage (now stores) (now lines) × (stage .wrote ≡ true) ⌝ }
-    ensures { λ r. ⌜ (from < r .next) × (r .next ≤ length (now (bytes .entry))) × (r .stage .at ≤ length (now (text .entry))) × (r .stage .wrote ≡ true) × ((g : Scene) (l : List ℕ) → Shows g (stage .desk) (now (stores .entry)) (now (lines .entry)) → stage .pending ≡ pendingOf l → Follows (fed g l (part (now (bytes .entry)) from (r .next - from))) (stage .at) (now (text .entry)) (r .stage) (now (stores .exit)) (now (lines .exit)) (now (text .exit))) ⌝ }
+    requires { ⌜ (length (now out) ≡ 1751) × (stage .at + 40 ≤ length (now text)) × (from < length (now bytes)) × Staged stage (now stores) (now lines) × (stage .wrote ≡ true) ⌝ }
+    ensures { λ r. ⌜ (from < r .next) × (r .next ≤ length (now (bytes .entry))) × (r .stage .at ≤ length (now (text .entry))) × (r .stage .wrote ≡ true) × ((g : Scene) (l : List ℕ) → Shows g (deskOf stage) (now (stores .entry)) (now (lines .entry)) → stage .pending ≡ pendingOf l → Follows (fed g l (part (now (bytes .entry)) from (r .next - from))) (stage .at) (now (text .entry)) (r .stage) (now (stores .exit)) (now (lines .exit)) (now (text .exit))) ⌝ }
 {
-    let mut cur = stage;
+    let mut sessions = stage.sessions;
+    let mut board = stage.board;
+    let mut pending = stage.pending;
+    let mut at = stage.at;
     let mut i = from;
     while i < bytes.len() {
-        let at = cur.at;
         if text.len() - at < 40 {
-            return Reached {
-                stage: cur,
-                next: i,
-            };
+            return reach(sessions, board, pending, at, i);
         }
-        if bytes[i] == 10 {
-            let next = end_line(
-                cur,
-                &mut *stores,
-                &mut *lines,
-                &mut *scratch,
-                &mut *out,
-                &mut *text,
-            );
-            cur = next;
-        } else {
-            let pending = cur.pending;
-            let more = push(pending, bytes[i]);
-            cur.pending = more;
+        let taken = take(pending, bytes, i);
+        let so_far = taken.pending;
+        i = taken.next;
+        if !taken.ended {
+            return reach(sessions, board, so_far, at, i);
         }
-        i += 1;
+        let line = parse(so_far);
+        match line {
+            Line::Write(who, plot, value) => {
+                let who = who as usize;
+                let s = sessions[who];
+                let turn = write_line(
+                    board,
+                    who,
+                    s,
+                    plot,
+                    value,
+                    &mut *stores,
+                    &mut *lines,
+                    &mut *out,
+                );
+                if turn.done {
+                    let e = turn.entry;
+                    let grown = extended(s, e);
+                    sessions[who] = grown;
+                }
+                let after = turn.board;
+                board = after;
+                let reply = turn.reply;
+                at = put_reply(reply, &mut *text, at);
+            }
+            Line::Read(who, plot) => {
+                let who = who as usize;
+                let s = sessions[who];
+                let turn = read_line(board, who, s, plot, &mut *stores);
+                let seen = turn.seen;
+                let noted = with_seen(s, seen);
+                sessions[who] = noted;
+                let reply = turn.reply;
+                at = put_reply(reply, &mut *text, at);
+            }
+            _ => {
+                let turn = play_other(board, line, &mut *stores, &mut *lines, &mut *out);
+                let b = turn.board;
+                board = b;
+                let reply = turn.reply;
+                at = put_reply(reply, &mut *text, at);
+            }
+        }
+        let none = nothing();
+        pending = none;
     }
-    Reached {
-        stage: cur,
-        next: i,
-    }
+    reach(sessions, board, pending, at, i)
 }
 
 // The text goes out: the one place that writes replies.
 pub fn write_out(stage: Stage, text: &[u8]) -> Stage
     requires { ⌜ stage .at ≤ length (now text) ⌝ }
-    ensures { λ r. ⌜ (r .desk ≡ stage .desk) × (r .pending ≡ stage .pending) × (r .at ≡ 0) ⌝ }
+    ensures { λ r. ⌜ (deskOf r ≡ deskOf stage) × (r .pending ≡ stage .pending) × (r .at ≡ 0) ⌝ }
 {
     let at = stage.at;
     let wrote = io::write_all(1, &text[..at]);
-    let desk = stage.desk;
-    let pending = stage.pending;
-    Stage {
-        desk,
-        pending,
-        at: 0,
-        wrote,
-    }
+    let mut s = stage;
+    s.at = 0;
+    s.wrote = wrote;
+    s
 }
 
 // All bytes of a chunk, or those up to a failed write. The text is written out when it has less than 40 bytes of room, and at the end.
@@ -131,12 +152,11 @@ pub fn feed_all(
     bytes: &[u8],
     stores: &mut [u32],
     lines: &mut [u32],
-    scratch: &mut [u32],
     out: &mut [u32],
     text: &mut [u8],
 ) -> Reached
-    requires { ⌜ (length (now scratch) ≡ 1747) × (length (now out) ≡ 1751) × (length (now text) ≡ 8192) × (stage .at ≡ 0) × Staged stage (now stores) (now lines) × (stage .wrote ≡ true) ⌝ }
-    ensures { λ r. ⌜ (r .stage .at ≡ 0) × (r .next ≤ length (now (bytes .entry))) × (r .stage .wrote ≡ true → r .next ≡ length (now (bytes .entry))) × ((g : Scene) (l : List ℕ) → Shows g (stage .desk) (now (stores .entry)) (now (lines .entry)) → stage .pending ≡ pendingOf l → Leads (fed g l (part (now (bytes .entry)) 0 (r .next))) (r .stage) (now (stores .exit)) (now (lines .exit))) ⌝ }
+    requires { ⌜ (length (now out) ≡ 1751) × (length (now text) ≡ 8192) × (stage .at ≡ 0) × Staged stage (now stores) (now lines) × (stage .wrote ≡ true) ⌝ }
+    ensures { λ r. ⌜ (r .stage .at ≡ 0) × (r .next ≤ length (now (bytes .entry))) × (r .stage .wrote ≡ true → r .next ≡ length (now (bytes .entry))) × ((g : Scene) (l : List ℕ) → Shows g (deskOf stage) (now (stores .entry)) (now (lines .entry)) → stage .pending ≡ pendingOf l → Leads (fed g l (part (now (bytes .entry)) 0 (r .next))) (r .stage) (now (stores .exit)) (now (lines .exit))) ⌝ }
 {
     let mut cur = stage;
     let mut from = 0;
@@ -147,7 +167,6 @@ pub fn feed_all(
             from,
             &mut *stores,
             &mut *lines,
-            &mut *scratch,
             &mut *out,
             &mut *text,
         );
@@ -173,17 +192,18 @@ pub fn finish(
     stage: Stage,
     stores: &mut [u32],
     lines: &mut [u32],
-    scratch: &mut [u32],
     out: &mut [u32],
     text: &mut [u8],
 ) -> Stage
-    requires { ⌜ (length (now scratch) ≡ 1747) × (length (now out) ≡ 1751) × (length (now text) ≡ 8192) × (stage .at ≡ 0) × Staged stage (now stores) (now lines) × (stage .wrote ≡ true) ⌝ }
-    ensures { λ r. ⌜ ((g : Scene) (l : List ℕ) → Shows g (stage .desk) (now (stores .entry)) (now (lines .entry)) → stage .pending ≡ pendingOf l → Finishes g l (now (text .entry)) r (now (stores .exit)) (now (lines .exit)) (now (text .exit))) ⌝ }
+    requires { ⌜ (length (now out) ≡ 1751) × (length (now text) ≡ 8192) × (stage .at ≡ 0) × Staged stage (now stores) (now lines) × (stage .wrote ≡ true) ⌝ }
+    ensures { λ r. ⌜ ((g : Scene) (l : List ℕ) → Shows g (deskOf stage) (now (stores .entry)) (now (lines .entry)) → stage .pending ≡ pendingOf l → Finishes g l (now (text .entry)) r (now (stores .exit)) (now (lines .exit)) (now (text .exit))) ⌝ }
 {
     let pending = stage.pending;
     if is_empty(pending) {
         return stage;
     }
-    let last = end_line(stage, stores, lines, scratch, out, &mut *text);
-    write_out(last, text)
+    let newline = [10u8; 1];
+    let last = feed_some(stage, &newline, 0, stores, lines, out, &mut *text);
+    let reached = last.stage;
+    write_out(reached, text)
 }

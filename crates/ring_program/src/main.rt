@@ -29,18 +29,20 @@ pub struct Outcome {
 fn run(
     stores: &mut [u32],
     lines: &mut [u32],
-    scratch: &mut [u32],
     out: &mut [u32],
     input: &mut [u8],
     text: &mut [u8],
 ) -> Outcome
-    requires { ⌜ (length (now stores) ≡ 5241) × (length (now lines) ≡ 9984) × (length (now scratch) ≡ 1747) × (length (now out) ≡ 1751) × (length (now input) ≡ 4096) × (length (now text) ≡ 8192) ⌝ }
+    requires { ⌜ (length (now stores) ≡ 5241) × (length (now lines) ≡ 9984) × (length (now out) ≡ 1751) × (length (now input) ≡ 4096) × (length (now text) ≡ 8192) ⌝ }
     ensures { λ r. ⌜ RunPromise (now (stores .entry)) r (now (stores .exit)) (now (lines .exit)) (now (text .exit)) ⌝ }
 {
-    let desk = open_ring(&mut *stores);
+    let opened = open_ring(&mut *stores);
+    let sessions = opened.sessions;
+    let board = opened.board;
     let none = nothing();
     let mut stage = Stage {
-        desk,
+        sessions,
+        board,
         pending: none,
         at: 0,
         wrote: true,
@@ -51,7 +53,7 @@ fn run(
         left = chunk.left;
         let n = chunk.n;
         if n == 0 {
-            let closed = close(stage, chunk, stores, lines, scratch, out, text);
+            let closed = close(stage, chunk, stores, lines, out, text);
             let ending = closed.ending;
             let last = closed.stage;
             return Outcome {
@@ -67,7 +69,6 @@ fn run(
             &input[..n],
             &mut *stores,
             &mut *lines,
-            &mut *scratch,
             &mut *out,
             &mut *text,
         );
@@ -95,18 +96,10 @@ fn run(
 fn main() {
     let mut stores = [0u32; 5241];
     let mut lines = [0u32; 9984];
-    let mut scratch = [0u32; 1747];
     let mut out = [0u32; 1751];
     let mut input = [0u8; 4096];
     let mut text = [0u8; 8192];
-    let outcome = run(
-        &mut stores,
-        &mut lines,
-        &mut scratch,
-        &mut out,
-        &mut input,
-        &mut text,
-    );
+    let outcome = run(&mut stores, &mut lines, &mut out, &mut input, &mut text);
     let ending = outcome.ending;
     say(ending);
 }

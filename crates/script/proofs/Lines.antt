@@ -4,14 +4,14 @@ use mathlib.Core.Path.{_≡_, refl, sym, ap, _∙_}
 use mathlib.Core.Bool.{Bool, true, false, cond}
 use mathlib.Core.List.{List, [], _∷_}
 use native.Mathlib.Omega.{arith}
-use lib.Dec.{eqb}
+use lib.Dec.{eqb, ltb}
 use lib.ListN.{length, getD, drop}
 use Rattle.causal.specs.Tests.{both}
 use Rattle.causal.specs.Lists.{eqWords}
-use borrow.Author.Tests.{ne-eqb, eqb-true}
+use borrow.Author.Tests.{ne-eqb, eqb-true, ltb-true}
 use Rattle.causal.proofs.Tests.{both-true, both-false, false-true}
-use Rattle.script.specs.Fields.{fields, valueOf, isBelow}
-use Rattle.script.specs.Lines.{is, lineIn, lineOf}
+use Rattle.script.specs.Fields.{fields, isBelow, proper, valueOf}
+use Rattle.script.specs.Lines.{Named, is, lineIn, lineOf}
 use Rattle.script.specs.Steps.{fieldOf, firstField, FieldAt, receiveOf, readOf, moveOf, writeOf, oneOf, twoOf, threeOf}
 use Rattle.script.specs.declared.line.Line.{Line}
 use Rattle.script.specs.declared.line.Line.the-variants.{Write, Read, Move, Receive, Other}
@@ -173,3 +173,31 @@ module _ (l : List ℕ) (h : length (firstField l) ≡ 1) (m : 1 < length l) whe
           fields-some (drop (e″ + 1) l) .1,
         )
         refl
+
+-- ---- what a line names is there
+
+below : (n : ℕ) (f : List ℕ) → isBelow n f ≡ true → valueOf f < n
+unfolding isBelow
+below n f e = ltb-true (valueOf f) n (both-true (proper f) (ltb (valueOf f) n) e .1)
+
+named-if : (t : Bool) (a b : Line) → (t ≡ true → Named a) → Named b → Named (cond t a b)
+named-if true a b h k = h refl
+named-if false a b h k = k
+
+named-in : (fs : List (List ℕ)) → Named (lineIn fs)
+unfolding lineIn
+named-in [] = tt
+named-in (k ∷ []) = tt
+named-in (k ∷ o ∷ []) = named-if (both (is 72 k) (isBelow 3 o)) (Receive (valueOf o)) Other (λ e. below 3 o (both-true (is 72 k) (isBelow 3 o) e .1)) tt
+named-in (k ∷ s ∷ x ∷ []) =
+    named-if (both (is 82 k) (both (isBelow 4 s) (isBelow 4294967296 x))) (Read (valueOf s) (valueOf x)) _ (λ e. below 4 s (both-true (isBelow 4 s) _ (both-true (is 82 k) _ e .1) .0))
+    (named-if (both (is 77 k) (both (isBelow 4 s) (isBelow 3 x))) (Move (valueOf s) (valueOf x)) Other
+    (λ e. let w = both-true (isBelow 4 s) (isBelow 3 x) (both-true (is 77 k) _ e .1) in (below 4 s (w .0), below 3 x (w .1))) tt)
+named-in (k ∷ s ∷ p ∷ v ∷ []) =
+    named-if (both (is 87 k) (both (isBelow 4 s) (both (isBelow 4294967296 p) (isBelow 4294967296 v)))) (Write (valueOf s) (valueOf p) (valueOf v)) Other
+    (λ e. below 4 s (both-true (isBelow 4 s) _ (both-true (is 87 k) _ e .1) .0)) tt
+named-in (k ∷ s ∷ p ∷ v ∷ x ∷ fs) = tt
+
+pub line-named : (l : List ℕ) → Named (lineOf l)
+unfolding lineOf
+line-named l = named-in (fields l)

@@ -1,5 +1,5 @@
 -- The lines of a script (01, "The ring program"): what a line asks for. Assumes nothing.
-use Prim.Native.Nat.{ℕ}
+use Prim.Native.Nat.{ℕ, _<_}
 use mathlib.Core.Bool.{Bool, cond}
 use mathlib.Core.List.{List, [], _∷_}
 use Rattle.causal.specs.Tests.{both}
@@ -40,3 +40,11 @@ lineIn (k ∷ s ∷ p ∷ v ∷ x ∷ fs) = Other
 -- the line of these bytes, its newline not among them
 unfoldable pub lineOf : List ℕ → Line
 lineOf l = lineIn (fields l)
+
+-- the sessions and offices that a line names are there
+abbrev pub Named : Line → Type 0
+Named (Write s plot value) = s < 4
+Named (Read s plot) = s < 4
+Named (Move s o) = (s < 4) × (o < 3)
+Named (Receive o) = o < 3
+Named Other = Unit {0}

@@ -1,5 +1,8 @@
 use Prim.Native.Nat.{_*_}
 use native.Mathlib.Omega.{arith}
+use Rattle.frame.specs.Refusals.{codeOf}
+use Rattle.office.specs.Decide.{withSeen}
+use Rattle.office.specs.Promises.{ReadPromise}
 use Rattle.player.proofs.Delivery as dl
 use borrow.Author.Needs.{needs}
 use Rattle.player.proofs.play.read_at.Statement.{statement}
@@ -11,28 +14,32 @@ mul-from c = search needs
 add-end : tie.Need-add-end
 add-end c = search needs
 
-mul-read-plot : tie.Need-mul-read-plot
-mul-read-plot c = search needs
+mul-see-plot : tie.Need-mul-see-plot
+mul-see-plot c = search needs
 
-sub-read-plot : tie.Need-sub-read-plot
-sub-read-plot c = search needs
+sub-see-plot : tie.Need-sub-see-plot
+sub-see-plot c = search needs
 
-part-read-plot-start : tie.Need-part-read-plot-start
-part-read-plot-start c = search needs
+part-see-plot-start : tie.Need-part-see-plot-start
+part-see-plot-start c = search needs
 
-part-read-plot-end : tie.Need-part-read-plot-end
-part-read-plot-end c = search needs
+part-see-plot-end : tie.Need-part-see-plot-end
+part-see-plot-end c = search needs
 
-read-plot-requires : tie.Need-read-plot-requires
-read-plot-requires c κs = search needs
+see-plot-requires : tie.Need-see-plot-requires
+see-plot-requires c κs = search needs
 
 same-length : tie.Need-same-length
 same-length c = search needs
 
 returns : tie.Need-returns
-returns c = let z = c .before .before .before .before .before in
+returns c =
+    let z = c .before .before .before .before .before in
     let a = 1747 * z .args .office in
-    dl.reads-at (z .args .stores .now) _ (c .before .before .read-plot .last .0) a (dl.lent-part (z .args .stores .now) a 1747) (z .args .s) (z .args .plot) (c .before .before .read-plot .result) (c .before .before .read-plot .ensures) (omega (arith, z .pre .0, z .pre .1)) (c .before .before .read-plot .kept .0)
+    let q = c .before .before .see-plot in
+    dl.lent-at (z .args .stores .now) _ (q .last .0) a (dl.lent-part (z .args .stores .now) a 1747)
+    (λ W X. ReadPromise W (z .args .s) (z .args .plot) (codeOf (q .result .status)) (q .result .found) (q .result .entry) (withSeen (z .args .s) (q .result .seen)) X)
+    (q .ensures) (omega (arith, z .pre .0, z .pre .1)) (q .kept .0)
 
 pub read-at-spec : {M : Type 1} → statement M
 read-at-spec =
@@ -40,10 +47,10 @@ read-at-spec =
     (tie.spec
     mul-from
     add-end
-    mul-read-plot
-    sub-read-plot
-    part-read-plot-start
-    part-read-plot-end
-    read-plot-requires
+    mul-see-plot
+    sub-see-plot
+    part-see-plot-start
+    part-see-plot-end
+    see-plot-requires
     same-length
     returns)

@@ -23,11 +23,12 @@ same-length-3 c = search needs
 same-length-4 : tie.Need-same-length-4
 same-length-4 c = search needs
 
+returns-2 : tie.Need-returns-2
+returns-2 c =
+    λ (g : Scene) (l : List ℕ) (S : _) (e : _). (c .before .before .before .before .before .before .before .before .before .before .before .before .before .before .if1 .left, c .if2 .taken, c .before .before .before .before .before .before .before .before .before .finish .ensures g l S e)
+
 same-length-5 : tie.Need-same-length-5
 same-length-5 c = search needs
-
-returns-2 : tie.Need-returns-2
-returns-2 c = λ (g : Scene) (l : List ℕ) (S : _) (e : _). (c .before .before .before .before .before .before .before .before .before .before .before .before .before .before .before .before .before .if1 .left, c .if2 .taken, c .before .before .before .before .before .before .before .before .before .before .before .finish .ensures g l S e)
 
 same-length-6 : tie.Need-same-length-6
 same-length-6 c = search needs
@@ -38,14 +39,9 @@ same-length-7 c = search needs
 same-length-8 : tie.Need-same-length-8
 same-length-8 c = search needs
 
-same-length-9 : tie.Need-same-length-9
-same-length-9 c = search needs
-
-same-length-10 : tie.Need-same-length-10
-same-length-10 c = search needs
-
 returns-3 : tie.Need-returns-3
-returns-3 c = λ (g : Scene) (l : List ℕ) (S : _) (e : _). (c .before .before .before .before .before .before .before .before .before .before .before .before .before .before .before .before .before .if1 .left, c .if2 .left, c .before .before .before .before .before .before .before .before .before .before .before .finish .ensures g l S e)
+returns-3 c =
+    λ (g : Scene) (l : List ℕ) (S : _) (e : _). (c .before .before .before .before .before .before .before .before .before .before .before .before .before .before .if1 .left, c .if2 .left, c .before .before .before .before .before .before .before .before .before .finish .ensures g l S e)
 
 pub close-spec : {M : Type 1} → statement M
 close-spec =
@@ -57,11 +53,9 @@ close-spec =
     same-length-2
     same-length-3
     same-length-4
-    same-length-5
     returns-2
+    same-length-5
     same-length-6
     same-length-7
     same-length-8
-    same-length-9
-    same-length-10
     returns-3)
