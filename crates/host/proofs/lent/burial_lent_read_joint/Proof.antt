@@ -43,12 +43,11 @@ use denote.Triple.Table.{entered, cited}
 use denote.Triple.Walked.{says, Stays, stay-ref, stay-none-slice, gave-slice, walkOf, AllGo, goes-ref, goes-none-slice, goes-gave-slice, Walks, ends-at, walked, walk-meets}
 use denote.Exit.{yes}
 use denote.Signature.{plain}
-use Rattle.office.specs.Decide.{withSeen}
+use Rattle.office.specs.Decide.{alone, withSeen}
 use Rattle.office.specs.Promises.{JointPromise}
 use Rattle.frame.specs.declared.entry.Entry.{Entry}
-use Rattle.office.specs.Decide.{alone}
 use Rattle.host.proofs.Alone.{is-alone}
-use Rattle.host.proofs.Fields.{clock-is, clock-val, read-is, read-val}
+use Rattle.host.proofs.Fields.{Held, clock-is, clock-val, read-is, read-val}
 use Rattle.frame.specs.declared.session.Session.{Session}
 use Rattle.frame.proofs.session.Session as T-Session
 use Rattle.frame.proofs.session.Session.Laws as T-Session′
@@ -93,7 +92,7 @@ said-alone x-store x-s x-plots x-answer r z-store z-answer none e = subst (λ (s
 abbrev next-s : Session → JointDone → Session
 next-s x r = record { offices = x .offices; clock = r .clock; read = r .read; count = x .count; own = x .own }
 
-next-s-is : (x : Session) (r : JointDone) (w : Val) → Is T-Session.the-row x (LL.val T-Session.the-type T-Session′.the-laws x ∷ []) → Is T-JointDone.the-row r (w ∷ []) → Is T-Session.the-row (next-s x r) (LL.val T-Session.the-type T-Session′.the-laws (next-s x r) ∷ [])
+next-s-is : (x : Session) (r : JointDone) (w : Val) → Held x → Is T-JointDone.the-row r (w ∷ []) → Held (next-s x r)
 next-s-is x r w g is =
     let old = LL.owed T-Session.the-type T-Session′.the-laws x _ g in
     let new = LL.owed T-JointDone.the-type T-JointDone′.the-laws r (w ∷ []) is in
@@ -137,15 +136,15 @@ module _ {M : Type 1} (𝓤 : URA M) (H : Heap 𝓤) (A : Atoms 𝓤) (W : Given
   abbrev to-carrying : Carrying 𝓤 H A at-mem run .Ghost
   to-carrying = (((κ-store, (κ-plots, (κ-answer, tt))), (q-store, (q-plots, (q-answer, tt))), tt, (ref-store, (x-s, (ref-plots, (ref-answer, tt)))), (sliceVal (b-store, o-store) (length x-store) ∷ [], (LL.val T-Session.the-type T-Session′.the-laws x-s ∷ [], (sliceVal (b-plots, o-plots) (length x-plots) ∷ [], (sliceVal (b-answer, o-answer) (length x-answer) ∷ [], tt))))), tt)
 
-  goes-alone : Is T-Session.the-row x-s (LL.val T-Session.the-type T-Session′.the-laws x-s ∷ []) → ent 𝓤 (⋆ 𝓤 H A (‵ (flft κ-store q-store) ∷ ‵ (flft κ-plots q-plots) ∷ ‵ (flft κ-answer q-answer) ∷ ‵ (MutSlice (named 0) κ-store u32 .own ref-store (sliceVal (b-store, o-store) (length x-store) ∷ [])) ∷ ‵ (ShrSlice (named 2) κ-plots u32 .own ref-plots (sliceVal (b-plots, o-plots) (length x-plots) ∷ [])) ∷ ‵ (MutSlice (named 3) κ-answer u32 .own ref-answer (sliceVal (b-answer, o-answer) (length x-answer) ∷ [])) ∷ [])) (Alone 𝓤 H A at-mem run .pre to-alone)
+  goes-alone : Held x-s → ent 𝓤 (⋆ 𝓤 H A (‵ (flft κ-store q-store) ∷ ‵ (flft κ-plots q-plots) ∷ ‵ (flft κ-answer q-answer) ∷ ‵ (MutSlice (named 0) κ-store u32 .own ref-store (sliceVal (b-store, o-store) (length x-store) ∷ [])) ∷ ‵ (ShrSlice (named 2) κ-plots u32 .own ref-plots (sliceVal (b-plots, o-plots) (length x-plots) ∷ [])) ∷ ‵ (MutSlice (named 3) κ-answer u32 .own ref-answer (sliceVal (b-answer, o-answer) (length x-answer) ∷ [])) ∷ [])) (Alone 𝓤 H A at-mem run .pre to-alone)
   goes-alone g-s =
       qed W (‵ (flft κ-store q-store) ∷ ‵ (flft κ-plots q-plots) ∷ ‵ (flft κ-answer q-answer) ∷ ‵ (MutSlice (named 0) κ-store u32 .own ref-store (sliceVal (b-store, o-store) (length x-store) ∷ [])) ∷ ‵ (ShrSlice (named 2) κ-plots u32 .own ref-plots (sliceVal (b-plots, o-plots) (length x-plots) ∷ [])) ∷ ‵ (MutSlice (named 3) κ-answer u32 .own ref-answer (sliceVal (b-answer, o-answer) (length x-answer) ∷ [])) ∷ []) ∵ nothing ! $ move ! (6 ∷ 0 ∷ []) $ fjoin ! $ move ! (5 ∷ 0 ∷ []) $ fjoin ! $ owned ! (Array u32 8) (Is (Array u32 8)) (array-makes 𝓤 H A W u32 (uint-makes 𝓤 H A W w32) 8) (x-s .read) _ (read-is x-s g-s) $ fjoin ! $ owned ! (Array u32 8) (Is (Array u32 8)) (array-makes 𝓤 H A W u32 (uint-makes 𝓤 H A W w32) 8) (x-s .clock) _ (clock-is x-s g-s) $ fjoin ! $ owned ! u32 (Is u32) (uint-makes 𝓤 H A W w32) (x-s .offices) _ (LL.owed T-Session.the-type T-Session′.the-laws x-s _ g-s .0) $ fjoin ! $ move ! (4 ∷ 0 ∷ []) $ fjoin ! $ nothing ! $ move ! (4 ∷ 0 ∷ []) $ join ! $ move ! (3 ∷ 0 ∷ []) $ join ! $ move ! (2 ∷ 0 ∷ []) $ join ! $ join ! $ frame ! $ done !
 
-  goes-carrying : Is T-Session.the-row x-s (LL.val T-Session.the-type T-Session′.the-laws x-s ∷ []) → ent 𝓤 (⋆ 𝓤 H A (‵ (flft κ-store q-store) ∷ ‵ (flft κ-plots q-plots) ∷ ‵ (flft κ-answer q-answer) ∷ ‵ (MutSlice (named 0) κ-store u32 .own ref-store (sliceVal (b-store, o-store) (length x-store) ∷ [])) ∷ ‵ (ShrSlice (named 2) κ-plots u32 .own ref-plots (sliceVal (b-plots, o-plots) (length x-plots) ∷ [])) ∷ ‵ (MutSlice (named 3) κ-answer u32 .own ref-answer (sliceVal (b-answer, o-answer) (length x-answer) ∷ [])) ∷ [])) (Carrying 𝓤 H A at-mem run .pre to-carrying)
+  goes-carrying : Held x-s → ent 𝓤 (⋆ 𝓤 H A (‵ (flft κ-store q-store) ∷ ‵ (flft κ-plots q-plots) ∷ ‵ (flft κ-answer q-answer) ∷ ‵ (MutSlice (named 0) κ-store u32 .own ref-store (sliceVal (b-store, o-store) (length x-store) ∷ [])) ∷ ‵ (ShrSlice (named 2) κ-plots u32 .own ref-plots (sliceVal (b-plots, o-plots) (length x-plots) ∷ [])) ∷ ‵ (MutSlice (named 3) κ-answer u32 .own ref-answer (sliceVal (b-answer, o-answer) (length x-answer) ∷ [])) ∷ [])) (Carrying 𝓤 H A at-mem run .pre to-carrying)
   goes-carrying g-s =
       qed W (‵ (flft κ-store q-store) ∷ ‵ (flft κ-plots q-plots) ∷ ‵ (flft κ-answer q-answer) ∷ ‵ (MutSlice (named 0) κ-store u32 .own ref-store (sliceVal (b-store, o-store) (length x-store) ∷ [])) ∷ ‵ (ShrSlice (named 2) κ-plots u32 .own ref-plots (sliceVal (b-plots, o-plots) (length x-plots) ∷ [])) ∷ ‵ (MutSlice (named 3) κ-answer u32 .own ref-answer (sliceVal (b-answer, o-answer) (length x-answer) ∷ [])) ∷ []) ∵ nothing ! $ move ! (6 ∷ 0 ∷ []) $ fjoin ! $ move ! (5 ∷ 0 ∷ []) $ fjoin ! $ owned ! T-Session.the-row (Is T-Session.the-row) (LL.makes T-Session.the-type T-Session′.the-plain 𝓤 H A) x-s _ g-s $ fjoin ! $ move ! (4 ∷ 0 ∷ []) $ fjoin ! $ nothing ! $ move ! (4 ∷ 0 ∷ []) $ join ! $ move ! (3 ∷ 0 ∷ []) $ join ! $ move ! (2 ∷ 0 ∷ []) $ join ! $ join ! $ frame ! $ done !
 
-  exits : (r : JointDone) (w : Val) (z-store : List ℕ) (z-answer : List ℕ) → Is T-Session.the-row x-s (LL.val T-Session.the-type T-Session′.the-laws x-s ∷ []) → CarryingSays x-store x-s x-plots x-answer r z-store z-answer → length z-store ≡ length x-store → length z-answer ≡ length x-answer → Is T-JointDone.the-row r (w ∷ []) → ent 𝓤 (⋆ 𝓤 H A (‵ (finally u32 γ-store z-store) ∷ ‵ (fobs γ-s (T-Session.the-row .coded .code (next-s x-s r))) ∷ ‵ (fbor κ-s (Body (mem T-Session.the-row) b-s o-s γ-s)) ∷ ‵ (ShrSlice (named 2) κ-plots u32 .own ref-plots (sliceVal (b-plots, o-plots) (length x-plots) ∷ [])) ∷ ‵ (finally u32 γ-answer z-answer) ∷ ‵ (flft κ-store q-store) ∷ ‵ (flft κ-s q-s) ∷ ‵ (flft κ-plots q-plots) ∷ ‵ (flft κ-answer q-answer) ∷ [])) (Post (vint w32 (r .refusal)))
+  exits : (r : JointDone) (w : Val) (z-store : List ℕ) (z-answer : List ℕ) → Held x-s → CarryingSays x-store x-s x-plots x-answer r z-store z-answer → length z-store ≡ length x-store → length z-answer ≡ length x-answer → Is T-JointDone.the-row r (w ∷ []) → ent 𝓤 (⋆ 𝓤 H A (‵ (finally u32 γ-store z-store) ∷ ‵ (fobs γ-s (T-Session.the-row .coded .code (next-s x-s r))) ∷ ‵ (fbor κ-s (Body (mem T-Session.the-row) b-s o-s γ-s)) ∷ ‵ (ShrSlice (named 2) κ-plots u32 .own ref-plots (sliceVal (b-plots, o-plots) (length x-plots) ∷ [])) ∷ ‵ (finally u32 γ-answer z-answer) ∷ ‵ (flft κ-store q-store) ∷ ‵ (flft κ-s q-s) ∷ ‵ (flft κ-plots q-plots) ∷ ‵ (flft κ-answer q-answer) ∷ [])) (Post (vint w32 (r .refusal)))
   exits r w z-store z-answer g-s e l-store l-answer is =
       qed W (‵ (finally u32 γ-store z-store) ∷ ‵ (fobs γ-s (T-Session.the-row .coded .code (next-s x-s r))) ∷ ‵ (fbor κ-s (Body (mem T-Session.the-row) b-s o-s γ-s)) ∷ ‵ (ShrSlice (named 2) κ-plots u32 .own ref-plots (sliceVal (b-plots, o-plots) (length x-plots) ∷ [])) ∷ ‵ (finally u32 γ-answer z-answer) ∷ ‵ (flft κ-store q-store) ∷ ‵ (flft κ-s q-s) ∷ ‵ (flft κ-plots q-plots) ∷ ‵ (flft κ-answer q-answer) ∷ []) ∵ suffices ! _ (ends-at 𝓤 H A f.ended stayed (f.clauses 𝓤 H A at-mem run) W (((κ-store, (κ-s, (κ-plots, (κ-answer, tt)))), (q-store, (q-s, (q-plots, (q-answer, tt)))), tt, a, vals), tt) (vint w32 (r .refusal)) (r .refusal) (z-store, ((next-s x-s r), (tt, (z-answer, tt)))) (l-store, (tt, (tt, (l-answer, tt))))) $ says ! (e .0, next-is x-s r ∙ e .1, e .2, e .3) $
       nothing ! $ move ! (9 ∷ 0 ∷ []) $ join ! $ move ! (8 ∷ 0 ∷ []) $ join ! $ move ! (7 ∷ 0 ∷ []) $ join ! $ move ! (6 ∷ 0 ∷ []) $ join ! $ frame ! $ nothing ! $ move ! (5 ∷ 0 ∷ []) $ fjoin ! $ move ! (4 ∷ 0 ∷ []) $ fjoin ! $ move ! (2 ∷ 3 ∷ []) $ feqI ! (List Val) (vptr b-s o-s ∷ []) (vptr b-s o-s ∷ []) refl $ fjoin3 ! $ fjoin ! $ move ! (1 ∷ 0 ∷ []) $ fjoin ! $ owned ! u32 (Is u32) (uint-makes 𝓤 H A W w32) (r .refusal) _ (result-is r w is) $ move ! (1 ∷ 0 ∷ []) $ done !

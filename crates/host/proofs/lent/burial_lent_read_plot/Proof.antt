@@ -43,13 +43,12 @@ use denote.Triple.Table.{entered, cited}
 use denote.Triple.Walked.{says, Stays, stay-ref, stay-none, gave-slice, walkOf, AllGo, goes-ref, goes-none, goes-gave-slice, Walks, ends-at, walked, walk-meets}
 use denote.Exit.{yes}
 use denote.Signature.{plain}
-use Rattle.office.specs.Decide.{withSeen}
+use Rattle.office.specs.Decide.{alone, withSeen}
 use Rattle.office.specs.Promises.{ReadPromise}
 use Rattle.frame.specs.declared.entry.Entry.{Entry}
-use Rattle.office.specs.Decide.{alone}
 use Rattle.host.specs.Flags.{isSet}
 use Rattle.host.proofs.Alone.{is-alone}
-use Rattle.host.proofs.Fields.{clock-is, clock-val, read-is, read-val}
+use Rattle.host.proofs.Fields.{Held, clock-is, clock-val, read-is, read-val}
 use Rattle.frame.specs.declared.session.Session.{Session}
 use Rattle.frame.proofs.session.Session as T-Session
 use Rattle.frame.proofs.session.Session.Laws as T-Session′
@@ -96,7 +95,7 @@ said-alone x-store x-s x-plot r z-store none e = subst (λ (s : Session). Carryi
 abbrev next-s : Session → PlotDone → Session
 next-s x r = record { offices = x .offices; clock = r .clock; read = r .read; count = x .count; own = x .own }
 
-next-s-is : (x : Session) (r : PlotDone) (w : Val) → Is T-Session.the-row x (LL.val T-Session.the-type T-Session′.the-laws x ∷ []) → Is T-PlotDone.the-row r (w ∷ []) → Is T-Session.the-row (next-s x r) (LL.val T-Session.the-type T-Session′.the-laws (next-s x r) ∷ [])
+next-s-is : (x : Session) (r : PlotDone) (w : Val) → Held x → Is T-PlotDone.the-row r (w ∷ []) → Held (next-s x r)
 next-s-is x r w g is =
     let old = LL.owed T-Session.the-type T-Session′.the-laws x _ g in
     let new = LL.owed T-PlotDone.the-type T-PlotDone′.the-laws r (w ∷ []) is in
@@ -134,15 +133,15 @@ module _ {M : Type 1} (𝓤 : URA M) (H : Heap 𝓤) (A : Atoms 𝓤) (W : Given
   abbrev to-carrying : Carrying 𝓤 H A at-mem run .Ghost
   to-carrying = (((κ-store, tt), (q-store, tt), tt, (ref-store, (x-s, (x-plot, tt))), (sliceVal (b-store, o-store) (length x-store) ∷ [], (LL.val T-Session.the-type T-Session′.the-laws x-s ∷ [], (vint w32 x-plot ∷ [], tt)))), tt)
 
-  goes-alone : x-plot < 2 ^ 32 → Is T-Session.the-row x-s (LL.val T-Session.the-type T-Session′.the-laws x-s ∷ []) → ent 𝓤 (⋆ 𝓤 H A (‵ (flft κ-store q-store) ∷ ‵ (MutSlice (named 0) κ-store u32 .own ref-store (sliceVal (b-store, o-store) (length x-store) ∷ [])) ∷ [])) (Alone 𝓤 H A at-mem run .pre to-alone)
+  goes-alone : x-plot < 2 ^ 32 → Held x-s → ent 𝓤 (⋆ 𝓤 H A (‵ (flft κ-store q-store) ∷ ‵ (MutSlice (named 0) κ-store u32 .own ref-store (sliceVal (b-store, o-store) (length x-store) ∷ [])) ∷ [])) (Alone 𝓤 H A at-mem run .pre to-alone)
   goes-alone fits-plot g-s =
       qed W (‵ (flft κ-store q-store) ∷ ‵ (MutSlice (named 0) κ-store u32 .own ref-store (sliceVal (b-store, o-store) (length x-store) ∷ [])) ∷ []) ∵ nothing ! $ owned ! u32 (Is u32) (uint-makes 𝓤 H A W w32) x-plot _ (refl, fits-plot) $ fjoin ! $ owned ! (Array u32 8) (Is (Array u32 8)) (array-makes 𝓤 H A W u32 (uint-makes 𝓤 H A W w32) 8) (x-s .read) _ (read-is x-s g-s) $ fjoin ! $ owned ! (Array u32 8) (Is (Array u32 8)) (array-makes 𝓤 H A W u32 (uint-makes 𝓤 H A W w32) 8) (x-s .clock) _ (clock-is x-s g-s) $ fjoin ! $ owned ! u32 (Is u32) (uint-makes 𝓤 H A W w32) (x-s .offices) _ (LL.owed T-Session.the-type T-Session′.the-laws x-s _ g-s .0) $ fjoin ! $ move ! (2 ∷ 0 ∷ []) $ fjoin ! $ nothing ! $ move ! (2 ∷ 0 ∷ []) $ join ! $ join ! $ frame ! $ done !
 
-  goes-carrying : x-plot < 2 ^ 32 → Is T-Session.the-row x-s (LL.val T-Session.the-type T-Session′.the-laws x-s ∷ []) → ent 𝓤 (⋆ 𝓤 H A (‵ (flft κ-store q-store) ∷ ‵ (MutSlice (named 0) κ-store u32 .own ref-store (sliceVal (b-store, o-store) (length x-store) ∷ [])) ∷ [])) (Carrying 𝓤 H A at-mem run .pre to-carrying)
+  goes-carrying : x-plot < 2 ^ 32 → Held x-s → ent 𝓤 (⋆ 𝓤 H A (‵ (flft κ-store q-store) ∷ ‵ (MutSlice (named 0) κ-store u32 .own ref-store (sliceVal (b-store, o-store) (length x-store) ∷ [])) ∷ [])) (Carrying 𝓤 H A at-mem run .pre to-carrying)
   goes-carrying fits-plot g-s =
       qed W (‵ (flft κ-store q-store) ∷ ‵ (MutSlice (named 0) κ-store u32 .own ref-store (sliceVal (b-store, o-store) (length x-store) ∷ [])) ∷ []) ∵ nothing ! $ owned ! u32 (Is u32) (uint-makes 𝓤 H A W w32) x-plot _ (refl, fits-plot) $ fjoin ! $ owned ! T-Session.the-row (Is T-Session.the-row) (LL.makes T-Session.the-type T-Session′.the-plain 𝓤 H A) x-s _ g-s $ fjoin ! $ move ! (2 ∷ 0 ∷ []) $ fjoin ! $ nothing ! $ move ! (2 ∷ 0 ∷ []) $ join ! $ join ! $ frame ! $ done !
 
-  exits : (r : PlotDone) (w : Val) (z-store : List ℕ) → x-plot < 2 ^ 32 → Is T-Session.the-row x-s (LL.val T-Session.the-type T-Session′.the-laws x-s ∷ []) → CarryingSays x-store x-s x-plot r z-store → length z-store ≡ length x-store → Is T-PlotDone.the-row r (w ∷ []) → ent 𝓤 (⋆ 𝓤 H A (‵ (finally u32 γ-store z-store) ∷ ‵ (fobs γ-s (T-Session.the-row .coded .code (next-s x-s r))) ∷ ‵ (fbor κ-s (Body (mem T-Session.the-row) b-s o-s γ-s)) ∷ ‵ (flft κ-store q-store) ∷ ‵ (flft κ-s q-s) ∷ [])) (Post (LL.val T-PlotFound.the-type T-PlotFound′.the-laws (r .answer)))
+  exits : (r : PlotDone) (w : Val) (z-store : List ℕ) → x-plot < 2 ^ 32 → Held x-s → CarryingSays x-store x-s x-plot r z-store → length z-store ≡ length x-store → Is T-PlotDone.the-row r (w ∷ []) → ent 𝓤 (⋆ 𝓤 H A (‵ (finally u32 γ-store z-store) ∷ ‵ (fobs γ-s (T-Session.the-row .coded .code (next-s x-s r))) ∷ ‵ (fbor κ-s (Body (mem T-Session.the-row) b-s o-s γ-s)) ∷ ‵ (flft κ-store q-store) ∷ ‵ (flft κ-s q-s) ∷ [])) (Post (LL.val T-PlotFound.the-type T-PlotFound′.the-laws (r .answer)))
   exits r w z-store fits-plot g-s e l-store is =
       qed W (‵ (finally u32 γ-store z-store) ∷ ‵ (fobs γ-s (T-Session.the-row .coded .code (next-s x-s r))) ∷ ‵ (fbor κ-s (Body (mem T-Session.the-row) b-s o-s γ-s)) ∷ ‵ (flft κ-store q-store) ∷ ‵ (flft κ-s q-s) ∷ []) ∵ suffices ! _ (ends-at 𝓤 H A f.ended stayed (f.clauses 𝓤 H A at-mem run) W (((κ-store, (κ-s, tt)), (q-store, (q-s, tt)), tt, a, vals), tt) (LL.val T-PlotFound.the-type T-PlotFound′.the-laws (r .answer)) (r .answer) (z-store, ((next-s x-s r), (tt, tt))) (l-store, (tt, (tt, tt)))) $ says ! (e .0, (e .1 .0, e .1 .1, e .1 .2, next-is x-s r ∙ e .1 .3, e .1 .4)) $
       nothing ! $ move ! (5 ∷ 0 ∷ []) $ join ! $ move ! (4 ∷ 0 ∷ []) $ join ! $ frame ! $ nothing ! $ owned ! u32 (Is u32) (uint-makes 𝓤 H A W w32) x-plot _ (refl, fits-plot) $ fjoin ! $ move ! (2 ∷ 3 ∷ []) $ feqI ! (List Val) (vptr b-s o-s ∷ []) (vptr b-s o-s ∷ []) refl $ fjoin3 ! $ fjoin ! $ move ! (1 ∷ 0 ∷ []) $ fjoin ! $ owned ! T-PlotFound.the-row (Is T-PlotFound.the-row) (LL.makes T-PlotFound.the-type T-PlotFound′.the-plain 𝓤 H A) (r .answer) _ (result-is r w is) $ move ! (1 ∷ 0 ∷ []) $ done !

@@ -1,26 +1,30 @@
-use mathlib.Core.Path.{_∙_}
+use mathlib.Core.Path.{ap, _∙_}
+use Rattle.office.specs.Decide.{withSeen}
 use borrow.Author.Needs.{needs}
-use Rattle.host.proofs.Flags.{flag-low, flag-set}
 use Rattle.host.proofs.lent.plot_by_value.Statement.{statement}
 use Rattle.host.proofs.lent.plot_by_value.Tie as tie
+use Rattle.host.proofs.lent.plot_by_value.Reads as reads
+use Rattle.host.proofs.lent.plot_by_value.Lts as lts
+use Rattle.host.proofs.lent.plot_done.Reads as plot-done-reads
+use Rattle.office.proofs.read.see_plot.Reads as see-plot-reads
 
+-- src/lent.rt:80:9
 see-plot-requires : tie.Need-see-plot-requires
 see-plot-requires c κs = search needs
 
-code-of-requires : tie.Need-code-of-requires
-code-of-requires c κs = search needs
+-- src/lent.rt:81:5
+plot-done-requires : tie.Need-plot-done-requires
+plot-done-requires c κs = search needs
 
-flag-requires : tie.Need-flag-requires
-flag-requires c κs = search needs
-
+-- src/lent.rt:77:1
 same-length : tie.Need-same-length
 same-length c = search needs
 
+-- src/lent.rt:77:1
 returns : tie.Need-returns
-returns c = let e = c .before .before .before .before .before .before .before .before .see-plot .ensures in
-    let q = c .before .before .before .before .flag .ensures in
-    (flag-low _ _ q, (c .before .before .before .before .before .code-of .ensures ∙ e .0, flag-set _ _ q ∙ e .1, e .2, e .3, e .4))
+returns c = let d = c .plot-done .ensures in
+    let e = c .before .before .before .see-plot .ensures in
+    (d .0, (d .1 ∙ e .0, d .2 ∙ e .1, d .3 ∙ e .2, ap (withSeen (c .before .before .before .before .before .before .args .s)) (d .4) ∙ e .3, e .4))
 
 pub plot-by-value-spec : {M : Type 1} → statement M
-plot-by-value-spec =
-    tie.close (tie.spec see-plot-requires code-of-requires flag-requires same-length returns)
+plot-by-value-spec = tie.close (tie.spec see-plot-requires plot-done-requires same-length returns)

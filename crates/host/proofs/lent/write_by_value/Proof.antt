@@ -1,24 +1,48 @@
-use mathlib.Core.Path.{_∙_}
+use mathlib.Core.Path.{refl, _∙_}
+use Rattle.office.proofs.Writes.{wrote-few}
 use borrow.Author.Needs.{needs}
 use Rattle.host.proofs.lent.write_by_value.Statement.{statement}
 use Rattle.host.proofs.lent.write_by_value.Tie as tie
+use Rattle.host.proofs.lent.write_by_value.Reads as reads
+use Rattle.host.proofs.lent.write_by_value.Lts as lts
+use Rattle.host.proofs.lent.write_done.Reads as write-done-reads
+use Rattle.office.proofs.write.make.Reads as make-reads
 
-write-requires : tie.Need-write-requires
-write-requires c κs = search needs
+-- src/lent.rt:216:9
+make-requires : tie.Need-make-requires
+make-requires c κs = search needs
 
-words-answer-requires : tie.Need-words-answer-requires
-words-answer-requires c κs = search needs
+-- src/lent.rt:218:17
+element-copy-out-first : tie.Need-element-copy-out-first
+element-copy-out-first c = search needs
 
+-- src/lent.rt:219:5
+write-done-requires : tie.Need-write-done-requires
+write-done-requires c κs = let z = c .before .before .before .before .before .before .before .before .before .before .before .args in
+    λ n h. wrote-few (z .store .now) (z .t2) (z .plot) (z .value) (z .out .now) _ _ _ _ (c .before .before .before .before .before .before .make .ensures) n h
+
+-- src/lent.rt:207:1
 same-length : tie.Need-same-length
 same-length c = search needs
 
+-- src/lent.rt:207:1
 same-length-2 : tie.Need-same-length-2
 same-length-2 c = search needs
 
+-- src/lent.rt:207:1
 returns : tie.Need-returns
-returns c = let e = c .before .before .before .before .before .before .write .ensures in
-    (c .before .words-answer .ensures ∙ e .0, e .1, e .2, e .3)
+returns c = let z = c .before .before .before .before .before .before .before .before .before .before .before .before .args in
+    let d = c .write-done .ensures in
+    let e = c .before .before .before .before .before .before .before .make .ensures .0 in
+    (d .0, (d .1 ∙ e .0, d .2 (z .t2) refl refl refl ∙ e .1, e .2, e .3))
 
 pub write-by-value-spec : {M : Type 1} → statement M
 write-by-value-spec =
-    tie.close (tie.spec write-requires words-answer-requires same-length same-length-2 returns)
+    tie.close
+    (tie.spec
+    make-requires
+    element-copy-out-first
+    write-done-requires
+    same-length
+    same-length-2
+    returns)
