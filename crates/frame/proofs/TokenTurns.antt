@@ -7,8 +7,8 @@ use native.Mathlib.Nat.{zero-add, le-refl, sub-zero}
 use native.Mathlib.Numerals.{add-one}
 use native.Mathlib.Omega.{arith}
 use lib.Dec.{leb, eqb}
-use lib.ListN.{length, getD, take, drop, set, replicate, length-append, length-drop, drop-of-length-le}
-use lib.Seq.{sets, sets-eq, take-all, drop-drop, set-append-seam}
+use lib.ListN.{length, getD, take, drop, set, replicate, length-append, length-drop}
+use lib.Seq.{sets, take-all, drop-drop, set-append-seam}
 use borrow.Author.Tests.{le-leb, lt-leb, leb-true}
 use Rattle.causal.specs.Tests.{both, allBelow}
 use Rattle.causal.specs.Codes.{check}
@@ -20,15 +20,12 @@ use Rattle.causal.proofs.Lists.{tab-length, tab-more, sets-append, sets-front, 
 use Rattle.causal.proofs.Sets.{size-le}
 use Rattle.frame.specs.declared.entry.Entry.{Entry}
 use Rattle.frame.specs.declared.entry.Frame.{Frame}
-use Rattle.frame.specs.declared.refusal.Refusal.{Refusal}
-use Rattle.frame.specs.declared.refusal.Refusal.the-variants.{Settings, Store, Content as NoContent, Plot, Value, OfficeFull, SessionFull, Room, Format, Unmade, Different, Missing, OwnWrite}
-use Rattle.frame.specs.declared.refusal.Written.the-variants.{Words, NotWritten}
 use Rattle.frame.specs.declared.session.Session.{Session}
-use Rattle.frame.specs.Refusals.{Reply, numberOf, replyOf, replied}
+use Rattle.frame.specs.Refusals.{replied}
 use Rattle.frame.specs.Entries.{entryOk, blankEntry}
 use Rattle.frame.specs.Words.{clockWords, idWords, sumWord, summed}
 use Rattle.frame.specs.Frames.{ringOk, framed, frameWords, frameOk, frameOf, accepts}
-use Rattle.frame.specs.Calls.{laid, laidIf, readFrameCode, frameIf, readFrame, writeFrameCode, writeFrame, writeFrameRow}
+use Rattle.frame.specs.Calls.{laid, laidIf, readFrameCode, frameIf, readFrame}
 use Rattle.frame.specs.Sessions.{Content, contentOf, filled, ownTurn, sessionOk}
 use Rattle.frame.specs.Tokens.{rowsOf, ownRows, tokenHead, tokenWords, frameLength, ownFrom}
 use Rattle.frame.specs.TokenReading.{ownFrameOk, ownFramesOk}
@@ -39,7 +36,6 @@ use Rattle.frame.proofs.Tokens.{own-frame}
 use Rattle.frame.proofs.OwnTurns.{ownsOf, OwnAt, owns-below}
 use Rattle.frame.proofs.Words.{ids-size, length-summed, length-clock}
 use Rattle.frame.proofs.Frames.{length-frame}
-use Rattle.frame.proofs.Turns.{write-code-0}
 
 -- ---- own writes as frames, one behind the other
 
@@ -94,56 +90,6 @@ module _ (n : ℕ) (f : ℕ → Entry) where
       ∙ ap (λ (k : ℕ). sets (sets o at (ownRows n (tab i f))) k (frameWords (framed n 0 (f i)))) p
       ∙ sym (sets-append o at (ownRows n (tab i f)) (frameWords (framed n 0 (f i))))
       ∙ ap (sets o at) (sym (rows-more i))
-
--- ---- the rest of the row, lent to the writer of frames
-
-some-number : (x : Refusal) → 1 ≤ numberOf x
-unfolding numberOf
-some-number Settings = omega arith
-some-number Store = omega arith
-some-number NoContent = omega arith
-some-number Plot = omega arith
-some-number Value = omega arith
-some-number OfficeFull = omega arith
-some-number SessionFull = omega arith
-some-number Room = omega arith
-some-number Format = omega arith
-some-number Unmade = omega arith
-some-number Different = omega arith
-some-number Missing = omega arith
-some-number OwnWrite = omega arith
-
-module _ (f : Frame) (o : List ℕ) (at : ℕ) (v : frameOk (f .offices) 64 f ≡ true) (h : at + length (frameWords f) ≤ length o) where
-  abbrev Lent : List ℕ
-  Lent = take (length o - at) (drop at o)
-
-  rest : Lent ≡ drop at o
-  rest = take-all (length o - at) (drop at o) (simp length-drop (omega arith))
-
-  fits : writeFrameCode f (length Lent) ≡ 0
-  fits = write-code-0 f Lent v (rw rest (simp length-drop (omega arith)))
-
-  answer : writeFrame f (length Lent) ≡ record { code = 0; words = length (frameWords f) }
-  unfolding writeFrame replied
-  answer = rw fits refl
-
-  pub told : (m : ℕ) → replyOf (Words m) ≡ writeFrame f (length Lent) → m ≡ length (frameWords f)
-  unfolding replyOf
-  told m e = ap (λ (r : Reply). r .words) (e ∙ answer)
-
-  pub not-refused : (x : Refusal) → replyOf (NotWritten x) ≡ writeFrame f (length Lent) → ⊥
-  unfolding replyOf
-  not-refused x e = let z : numberOf x ≡ 0 = ap (λ (r : Reply). r .code) (e ∙ answer) in omega (arith, some-number x)
-
-  pub put-lent : (new : List ℕ) → new ≡ writeFrameRow f Lent → take at o ++ (new ++ drop (length o - at) (drop at o)) ≡ sets o at (frameWords f)
-  unfolding writeFrameRow laidIf laid
-  put-lent new e =
-      let w : new ≡ frameWords f ++ drop (length (frameWords f)) (drop at o) =
-      e ∙ ap (λ (k : ℕ). laidIf k (frameWords f) Lent) fits ∙ ap (λ (l : List ℕ). frameWords f ++ drop (length (frameWords f)) l) rest
-      in
-      let n : drop (length o - at) (drop at o) ≡ [] = drop-of-length-le (drop at o) {i = length o - at} (simp length-drop (omega arith)) in
-      rw (n, append-nil, w, drop-drop (length (frameWords f)) at o)
-      (sym (append-assoc (take at o) (frameWords f) (drop (at + length (frameWords f)) o)) ∙ sym (sets-eq (frameWords f) o at h))
 
 -- ---- the writer's steps make the writing
 

@@ -3,21 +3,21 @@ use Prim.Native.Nat.{ℕ, zero, suc, _+_, _-_, _*_, _/_, _%_, _^_, _<_, _≤_}
 use mathlib.Core.Path.{_≡_, refl, sym, ap, _∙_}
 use mathlib.Core.Bool.{Bool, true, false, cond}
 use mathlib.Core.Logic.{⊎-elim}
-use mathlib.Core.List.{List, [], _∷_, _++_, append-nil}
+use mathlib.Core.List.{List, [], _∷_, _++_, append-assoc, append-nil}
 use native.Mathlib.Nat.{le-refl, pow-suc, zero-add}
 use native.Mathlib.Numerals.{add-one}
 use native.Mathlib.Omega.{arith}
 use lib.Count.{trailingZeros}
 use lib.Pow.{high, ones-lt, ones-split, pow-mono, pow-pos, shr-lt}
-use lib.Dec.{eqb}
-use lib.ListN.{length, getD, take, set, length-append}
-use lib.Seq.{sets, ext-getD, length-sets}
-use borrow.Author.Tests.{lt-ltb, le-ltb, le-leb, lt-leb}
+use lib.Dec.{leb, eqb}
+use lib.ListN.{length, getD, take, drop, set, length-append, length-drop, drop-of-length-le}
+use lib.Seq.{set-comm, sets, sets-eq, take-all, drop-drop, ext-getD, length-sets}
+use borrow.Author.Tests.{lt-ltb, le-ltb, le-leb}
 use Rattle.causal.specs.Lists.{tab, zeros}
 use Rattle.causal.specs.Sets.{bit}
 use Rattle.causal.proofs.Tests.{lt-or-le}
 use Rattle.causal.proofs.Lists.{sets-append, sets-front, take-front, tab-length, tab-at, getD-sets-in, getD-sets-after}
-use Rattle.causal.proofs.Sets.{zero-at}
+use Rattle.causal.proofs.Sets.{zero-at, size-le}
 use Rattle.causal.proofs.Walk.{Passed, next, skip, fold-next, fold-end}
 use Rattle.frame.specs.declared.entry.Frame.{Frame}
 use Rattle.frame.specs.Words.{payAt, clockWords, clockPlace, clockFrom, idWord, idWordIf, idWordsTo, idWords, idWordsIn, sumWord, summed}
@@ -25,7 +25,7 @@ use Rattle.causal.specs.Codes.{check}
 use Rattle.frame.specs.Refusals.{replied}
 use Rattle.frame.specs.Frames.{headWord, bodyWords, frameWords, frameOk}
 use Rattle.frame.specs.Calls.{laid, laidIf, writeFrameCode, writeFrame, writeFrameRow}
-use Rattle.frame.proofs.Words.{ids-in, length-clock}
+use Rattle.frame.proofs.Words.{ids-in, ids-size, length-clock}
 use Rattle.frame.proofs.Frames.{length-body, length-frame}
 
 -- ---- a clock, read
@@ -159,7 +159,7 @@ words-room s j h =
 
 -- ---- the writer's steps make the writing
 
-pub frame-filled : (f : Frame) (out a0 a1 a2 a3 : List ℕ) (head end : ℕ)
+frame-filled : (f : Frame) (out a0 a1 a2 a3 : List ℕ) (head end : ℕ)
     → head ≡ headWord (f .entry .office) (f .entry .serial) (f .hops) (f .offices) (length (idWords (f .entry .deps)))
     → a0 ≡ sets out 0 (head ∷ (805306368 + f .entry .plot) ∷ (1073741824 + f .entry .value) ∷ [])
     → a1 ≡ sets a0 3 (clockWords (f .offices) (f .entry .clock))
@@ -204,6 +204,62 @@ frame-filled f out a0 a1 a2 a3 head end eh e0 e1 e2 ee e3 room = whole ∙ sets-
         ∙ ap (λ (i : ℕ). set (sets out 0 B) i (sumWord B)) k
         ∙ sym (sets-append out 0 B (sumWord B ∷ []))
 
+-- the same where the head is put last
+
+set-sets : (l : List ℕ) (i : ℕ) (xs : List ℕ) (j a : ℕ) → j < i → set (sets l i xs) j a ≡ sets (set l j a) i xs
+set-sets l i [] j a h = refl
+set-sets l i (x ∷ xs) j a h =
+    set-sets (set l i x) (suc i) xs j a (omega arith)
+    ∙ ap (λ (m : List ℕ). sets m (suc i) xs) (set-comm l i j x a (λ (e : i ≡ j). omega arith))
+
+sets-first : (o xs ys : List ℕ) (k a b c : ℕ) → 3 ≤ k
+    → sets (sets (sets o 3 xs) k ys) 0 (a ∷ b ∷ c ∷ []) ≡ sets (sets (sets o 0 (a ∷ b ∷ c ∷ [])) 3 xs) k ys
+sets-first o xs ys k a b c h =
+    ap (λ (l : List ℕ). set (set l 1 b) 2 c) (one o 0 a (omega arith)) ∙ ap (λ (l : List ℕ). set l 2 c) (one (set o 0 a) 1 b (omega arith))
+    ∙ one (set (set o 0 a) 1 b) 2 c (omega arith)
+  where
+    one : (l : List ℕ) (j x : ℕ) → j < 3 → set (sets (sets l 3 xs) k ys) j x ≡ sets (sets (set l j x) 3 xs) k ys
+    one l j x m = set-sets (sets l 3 xs) k ys j x (omega arith) ∙ ap (λ (r : List ℕ). sets r k ys) (set-sets l 3 xs j x m)
+
+pub head-last : (f : Frame) (out a0 a1 a2 a3 : List ℕ) (head end : ℕ)
+    → head ≡ headWord (f .entry .office) (f .entry .serial) (f .hops) (f .offices) (length (idWords (f .entry .deps)))
+    → a0 ≡ sets out 3 (clockWords (f .offices) (f .entry .clock))
+    → a1 ≡ sets a0 (3 + f .offices) (idWords (f .entry .deps))
+    → a2 ≡ sets a1 0 (head ∷ (805306368 + f .entry .plot) ∷ (1073741824 + f .entry .value) ∷ [])
+    → end ≡ 3 + f .offices + length (idWords (f .entry .deps))
+    → a3 ≡ set a2 end (sumWord (take end a2))
+    → length (frameWords f) ≤ length out
+    → a3 ≡ laid (frameWords f) out
+head-last f out a0 a1 a2 a3 head end eh e0 e1 e2 ee e3 room =
+    let C : List ℕ = clockWords (f .offices) (f .entry .clock) in
+    let D : List ℕ = idWords (f .entry .deps) in
+    let H : List ℕ = head ∷ (805306368 + f .entry .plot) ∷ (1073741824 + f .entry .value) ∷ [] in
+    let q : a2 ≡ sets (sets (sets out 0 H) 3 C) (3 + f .offices) D =
+    e2 ∙ ap (λ (l : List ℕ). sets l 0 H) (e1 ∙ ap (λ (l : List ℕ). sets l (3 + f .offices) D) e0)
+    ∙ sets-first out C D (3 + f .offices) head (805306368 + f .entry .plot) (1073741824 + f .entry .value) (omega arith)
+    in
+    frame-filled f out (sets out 0 H) (sets (sets out 0 H) 3 C) a2 a3 head end eh refl refl q ee e3 room
+
+-- no frame has more than 268 words
+pub frame-most : (f : Frame) → f .offices ≤ 8 → length (frameWords f) ≤ 268
+frame-most f h = omega (arith, length-frame f, ids-size (f .entry .deps), size-le (f .entry .deps))
+
+-- ---- the rest of a row, lent to the writer of frames
+
+pub put-lent : (ws o new : List ℕ) (at : ℕ) → at + length ws ≤ length o → new ≡ laid ws (take (length o - at) (drop at o))
+    → take at o ++ (new ++ drop (length o - at) (drop at o)) ≡ sets o at ws
+unfolding laid
+put-lent ws o new at h e =
+    let rest : take (length o - at) (drop at o) ≡ drop at o = take-all (length o - at) (drop at o) (simp length-drop (omega arith)) in
+    let w : new ≡ ws ++ drop (length ws) (drop at o) = e ∙ ap (λ (l : List ℕ). ws ++ drop (length ws) l) rest in
+    let n : drop (length o - at) (drop at o) ≡ [] = drop-of-length-le (drop at o) {i = length o - at} (simp length-drop (omega arith)) in
+    rw (n, append-nil, w, drop-drop (length ws) at o) (sym (append-assoc (take at o) ws (drop (at + length ws) o)) ∙ sym (sets-eq ws o at h))
+
+pub lent-room : (o : List ℕ) (at m : ℕ) → at + m ≤ length o → m ≤ length (take (length o - at) (drop at o))
+lent-room o at m h =
+    let rest : take (length o - at) (drop at o) ≡ drop at o = take-all (length o - at) (drop at o) (simp length-drop (omega arith)) in
+    rw rest (simp length-drop (omega arith))
+
 -- ---- what the writer answers
 
 module _ (f : Frame) (out : List ℕ) where
@@ -221,9 +277,9 @@ module _ (f : Frame) (out : List ℕ) where
   unfolding writeFrameCode check
   write-code-3 e = rw e refl
 
-  pub write-code-8 : frameOk (f .offices) 64 f ≡ true → length out < length (frameWords f) → writeFrameCode f (length out) ≡ 8
+  pub write-code-8 : frameOk (f .offices) 64 f ≡ true → leb (length (frameWords f)) (length out) ≡ false → writeFrameCode f (length out) ≡ 8
   unfolding writeFrameCode check
-  write-code-8 e h = rw (e, lt-leb (length (frameWords f)) (length out) h) refl
+  write-code-8 e h = rw (e, h) refl
 
   pub write-code-0 : frameOk (f .offices) 64 f ≡ true → length (frameWords f) ≤ length out → writeFrameCode f (length out) ≡ 0
   unfolding writeFrameCode check

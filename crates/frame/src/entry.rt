@@ -166,7 +166,7 @@ fn past_ok(n: usize, office: usize, serial: u32, clock: [u32; 8], deps: [u32; 8]
     if clock[office] != serial {
         return false;
     }
-    if causal::set::contains(deps, 32 * office + (serial as usize - 1)) {
+    if in_word(deps[office], serial) {
         return false;
     }
     if !clock_ok(n, clock) {

@@ -10,7 +10,7 @@ ghost use Rattle.causal.specs.Lists.{tab};
 ghost use Rattle.causal.specs.Sets.{sizeOf};
 ghost use Rattle.frame.specs.Words.{clockWords, idWords};
 ghost use Rattle.frame.specs.Refusals.{numberOf, codeOf, replyOf};
-ghost use Rattle.frame.specs.Frames.{ringOk, framed, frameWords, frameOk, frameOf};
+ghost use Rattle.frame.specs.Frames.{ringOk, framed, frameOk, frameOf};
 ghost use Rattle.frame.specs.Calls.{laid};
 ghost use Rattle.frame.specs.Sessions.{nobody, contentOf, filled, sessionOf, sessionOk, freshContent};
 ghost use Rattle.frame.specs.Tokens.{ownRows, tokenHead, tokenWords, frameLength, ownFrom};
@@ -80,19 +80,6 @@ fn head_word(n: u32, owns: u32, reads: u32) -> u32
     0x8000_0000 + (n * 0x0100_0000 + (owns * 0x1_0000 + reads))
 }
 
-// One own write as a frame, from at on: the rest of out is lent to the writer of frames. Gives the place behind it.
-fn put_own(n: u32, e: Entry, out: &mut [u32], at: usize) -> usize
-    requires { ⌜ (frameOk n 64 (framed n 0 e) ≡ true) × (at + length (frameWords (framed n 0 e)) ≤ length (now out)) ⌝ }
-    ensures { λ r. ⌜ (r ≡ at + length (frameWords (framed n 0 e))) × (now (out .exit) ≡ sets (now (out .entry)) at (frameWords (framed n 0 e))) ⌝ }
-{
-    let frame = own_frame(n, e);
-    let written = crate::writer::write_frame(frame, &mut out[at..]);
-    match written {
-        Written::Words(words) => at + words,
-        Written::NotWritten(_) => at,
-    }
-}
-
 // The own writes, each right behind the one before; gives the place behind them.
 fn put_owns(n: u32, own: [Entry; 16], count: usize, out: &mut [u32], at: usize) -> usize
     requires { ⌜ (count ≤ 16) × ((i : ℕ) → i < count → frameOk n 64 (framed n 0 (getD own i nobody)) ≡ true) × (at + length (ownRows n (tab count (λ i. getD own i nobody))) ≤ length (now out)) ⌝ }
@@ -101,7 +88,8 @@ fn put_owns(n: u32, own: [Entry; 16], count: usize, out: &mut [u32], at: usize) 
     let mut to = at;
     for i in 0..count {
         let e = own[i];
-        to = put_own(n, e, &mut *out, to);
+        let frame = own_frame(n, e);
+        to = crate::writer::put_frame(frame, &mut *out, to);
     }
     to
 }

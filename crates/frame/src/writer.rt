@@ -3,6 +3,7 @@ ghost use mathlib.Core.Path.{_≡_};
 ghost use mathlib.Core.Bool.{true};
 ghost use mathlib.Core.List.{[], _∷_};
 ghost use Prim.Native.Nat.{_+_, _<_, _≤_};
+ghost use lib.Dec.{leb};
 ghost use lib.ListN.{length};
 ghost use lib.Seq.{sets};
 ghost use Rattle.frame.specs.Frames.{headWord, frameOk, frameWords};
@@ -40,21 +41,42 @@ pub fn words_of(f: Frame) -> usize
     f.offices as usize + causal::set::size(deps) + 4
 }
 
-// The words of a frame, where there is room for its n words.
-fn fill(f: Frame, out: &mut [u32], n: usize)
-    requires { ⌜ (frameOk (f .offices) 64 f ≡ true) × (n ≡ length (frameWords f)) × (n ≤ length (now out)) ⌝ }
-    ensures { λ r. ⌜ now (out .exit) ≡ laid (frameWords f) (now (out .entry)) ⌝ }
+// Has a row of so many words room for a frame? No frame has more than 268: what it depends on is counted only for a shorter row.
+fn has_room(f: Frame, room: usize) -> bool
+    requires { ⌜ f .offices ≤ 8 ⌝ }
+    ensures { λ r. ⌜ r ≡ leb (length (frameWords f)) room ⌝ }
+{
+    if room >= 268 {
+        return true;
+    }
+    words_of(f) <= room
+}
+
+// The words of a frame, where there is room for them; gives how many. The head is put behind what it counts.
+fn fill(f: Frame, out: &mut [u32]) -> usize
+    requires { ⌜ (frameOk (f .offices) 64 f ≡ true) × (length (frameWords f) ≤ length (now out)) ⌝ }
+    ensures { λ r. ⌜ (r ≡ length (frameWords f)) × (now (out .exit) ≡ laid (frameWords f) (now (out .entry))) ⌝ }
 {
     let e = f.entry;
     let clock = e.clock;
     let deps = e.deps;
     let offices = f.offices;
-    let count = n - offices as usize - 4;
-    let head = head_word(e.office, e.serial, f.hops, offices, count as u32);
-    put_head(out, head, e.plot, e.value);
     crate::word::put_clock(clock, offices as usize, out, 3);
     let end = crate::word::put_ids(deps, out, 3 + offices as usize);
+    let count = end - 3 - offices as usize;
+    let head = head_word(e.office, e.serial, f.hops, offices, count as u32);
+    put_head(out, head, e.plot, e.value);
     crate::word::put_sum(out, end);
+    end + 1
+}
+
+// A frame that may be written, from at on: the rest of out is lent to the frame writer. Gives the place behind it.
+pub fn put_frame(f: Frame, out: &mut [u32], at: usize) -> usize
+    requires { ⌜ (frameOk (f .offices) 64 f ≡ true) × (at + length (frameWords f) ≤ length (now out)) ⌝ }
+    ensures { λ r. ⌜ (r ≡ at + length (frameWords f)) × (now (out .exit) ≡ sets (now (out .entry)) at (frameWords f)) ⌝ }
+{
+    let words = fill(f, &mut out[at..]);
+    at + words
 }
 
 // A frame that is known to be one, where there is known to be room: nothing is asked again. Gives the number of its words.
@@ -74,10 +96,9 @@ pub fn write_frame(f: Frame, out: &mut [u32]) -> Written
     if !crate::entry::frame_ok(f.offices, 64, f) {
         return Written::NotWritten(Refusal::Content);
     }
-    let n = words_of(f);
-    if n > out.len() {
+    if !has_room(f, out.len()) {
         return Written::NotWritten(Refusal::Room);
     }
-    fill(f, out, n);
+    let n = fill(f, out);
     Written::Words(n)
 }

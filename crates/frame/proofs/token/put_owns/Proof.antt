@@ -5,11 +5,12 @@ use native.Mathlib.Omega.{arith}
 use native.Mathlib.Nat.{add-zero}
 use lib.ListN.{length}
 use lib.Seq.{sets, length-sets}
-use Rattle.frame.specs.Frames.{framed, frameWords}
+use Rattle.frame.specs.Frames.{framed, frameWords, frameOk}
 use Rattle.frame.specs.Tokens.{ownRows}
 use Rattle.frame.proofs.TokenTurns as T
 use Rattle.causal.specs.Lists.{tab}
 use Rattle.frame.proofs.OwnTurns.{ownsOf}
+use Rattle.frame.specs.declared.entry.Frame.{Frame}
 use borrow.Author.Needs.{needs}
 use Rattle.frame.proofs.token.put_owns.Statement.{statement}
 use Rattle.frame.proofs.token.put_owns.Tie as tie
@@ -29,8 +30,16 @@ mul-e c = search needs
 array-copy-out-e : tie.Need-array-copy-out-e Inv-loop μ-loop
 array-copy-out-e c = search needs
 
-put-own-requires : tie.Need-put-own-requires Inv-loop μ-loop
-put-own-requires c κs = let z = c .before .before .before .before .before .args in let l = c .before .before .before .loop in let f = ownsOf (z .t2) in (c .before .before .before .before .before .pre .1 (l .i) (omega arith), omega (arith, l .inv .1, l .inv .2, T.rows-room (z .n) f (l .i) (z .count) (omega arith), c .before .before .before .before .before .pre .2))
+own-frame-requires : tie.Need-own-frame-requires Inv-loop μ-loop
+own-frame-requires c κs = search needs
+
+put-frame-requires : tie.Need-put-frame-requires Inv-loop μ-loop
+put-frame-requires c κs =
+    let z = c .before .before .before .before .before .before in let l = c .before .before .before .before .loop in let f = ownsOf (z .args .t2) in
+    let e = c .before .own-frame .ensures in (
+      ap (λ (x : Frame). frameOk (x .offices) 64 x) e ∙ z .pre .1 (l .i) (omega arith),
+      omega (arith, l .inv .1, l .inv .2, T.rows-room (z .args .n) f (l .i) (z .args .count) (omega arith), z .pre .2, ap (λ (x : Frame). length (frameWords x)) e),
+    )
 
 add-i : tie.Need-add-i Inv-loop μ-loop
 add-i c = search needs
@@ -39,7 +48,16 @@ loop-less : tie.Need-loop-less Inv-loop μ-loop
 loop-less c = search needs
 
 loop-again : tie.Need-loop-again Inv-loop μ-loop
-loop-again c = let z = c .before .before .before .before .before .before .before .before .args in let l = c .before .before .before .before .before .before .loop in let f = ownsOf (z .t2) in let e = c .before .before .put-own .ensures in (omega arith, ap length (e .1) ∙ length-sets (l .out) (l .to) (frameWords (framed (z .n) 0 (f (l .i)))) ∙ l .inv .1, omega (arith, e .0, l .inv .2, T.rows-length (z .n) f (l .i)), T.rows-turn (z .n) f (z .out .now) (l .out) _ (z .at) (l .to) (l .i) (l .inv .2) (l .inv .3) (e .1))
+loop-again c =
+    let z = c .before .before .before .before .before .before .before .before .before .args in let l = c .before .before .before .before .before .before .before .loop in let f = ownsOf (z .t2) in
+    let e = c .before .before .before .before .own-frame .ensures in
+    let a = c .before .before .put-frame .ensures .0 ∙ ap (λ (x : Frame). l .to + length (frameWords x)) e in
+    let r = c .before .before .put-frame .ensures .1 ∙ ap (λ (x : Frame). sets (l .out) (l .to) (frameWords x)) e in (
+      omega arith,
+      ap length r ∙ length-sets (l .out) (l .to) (frameWords (framed (z .n) 0 (f (l .i)))) ∙ l .inv .1,
+      omega (arith, a, l .inv .2, T.rows-length (z .n) f (l .i)),
+      T.rows-turn (z .n) f (z .out .now) (l .out) _ (z .at) (l .to) (l .i) (l .inv .2) (l .inv .3) r,
+    )
 
 same-length : tie.Need-same-length Inv-loop μ-loop
 same-length c = c .before .loop .inv .1
@@ -56,7 +74,8 @@ put-owns-spec =
     loop-holds
     mul-e
     array-copy-out-e
-    put-own-requires
+    own-frame-requires
+    put-frame-requires
     add-i
     loop-less
     loop-again
