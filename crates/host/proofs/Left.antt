@@ -1,7 +1,7 @@
 -- What a write hands back says the session that it leaves. Assumes nothing.
 use Prim.Native.Nat.{ℕ, _+_}
 use mathlib.Core.List.{List, [], _∷_}
-use mathlib.Core.Path.{_≡_, refl, ap, ap₂, sym, _∙_}
+use mathlib.Core.Path.{_≡_, refl, ap, sym, _∙_}
 use lib.ListN.{getD, set}
 use Rattle.causal.specs.Clocks.{join}
 use Rattle.frame.specs.declared.entry.Entry.{Entry}

@@ -3,28 +3,19 @@ use Rattle.office.specs.Decide.{alone, withSeen}
 use borrow.Author.Needs.{needs}
 use Rattle.host.proofs.lent.joint_alone.Statement.{statement}
 use Rattle.host.proofs.lent.joint_alone.Tie as tie
-use Rattle.host.proofs.lent.joint_alone.Reads as reads
-use Rattle.host.proofs.lent.joint_alone.Lts as lts
-use Rattle.host.proofs.lent.joint_done.Reads as joint-done-reads
-use Rattle.office.proofs.joint.see_joint_alone.Reads as see-joint-alone-reads
 
--- src/lent.rt:149:9
 see-joint-alone-requires : tie.Need-see-joint-alone-requires
 see-joint-alone-requires c κs = search needs
 
--- src/lent.rt:150:5
 joint-done-requires : tie.Need-joint-done-requires
 joint-done-requires c κs = search needs
 
--- src/lent.rt:139:1
 same-length : tie.Need-same-length
 same-length c = search needs
 
--- src/lent.rt:139:1
 same-length-2 : tie.Need-same-length-2
 same-length-2 c = search needs
 
--- src/lent.rt:139:1
 returns : tie.Need-returns
 returns c = let z = c .before .before .before .before .before .before .before .before .before .before .before .args in
     let d = c .joint-done .ensures in

@@ -3,24 +3,16 @@ use Rattle.office.specs.Decide.{withSeen}
 use borrow.Author.Needs.{needs}
 use Rattle.host.proofs.lent.plot_by_value.Statement.{statement}
 use Rattle.host.proofs.lent.plot_by_value.Tie as tie
-use Rattle.host.proofs.lent.plot_by_value.Reads as reads
-use Rattle.host.proofs.lent.plot_by_value.Lts as lts
-use Rattle.host.proofs.lent.plot_done.Reads as plot-done-reads
-use Rattle.office.proofs.read.see_plot.Reads as see-plot-reads
 
--- src/lent.rt:80:9
 see-plot-requires : tie.Need-see-plot-requires
 see-plot-requires c κs = search needs
 
--- src/lent.rt:81:5
 plot-done-requires : tie.Need-plot-done-requires
 plot-done-requires c κs = search needs
 
--- src/lent.rt:77:1
 same-length : tie.Need-same-length
 same-length c = search needs
 
--- src/lent.rt:77:1
 returns : tie.Need-returns
 returns c = let d = c .plot-done .ensures in
     let e = c .before .before .before .see-plot .ensures in

@@ -4,28 +4,19 @@ use Rattle.office.specs.Decide.{alone}
 use borrow.Author.Needs.{needs}
 use Rattle.host.proofs.lent.write_alone.Statement.{statement}
 use Rattle.host.proofs.lent.write_alone.Tie as tie
-use Rattle.host.proofs.lent.write_alone.Reads as reads
-use Rattle.host.proofs.lent.write_alone.Lts as lts
-use Rattle.host.proofs.lent.write_done.Reads as write-done-reads
-use Rattle.office.proofs.write.make_alone.Reads as make-alone-reads
 
--- src/lent.rt:235:9
 make-alone-requires : tie.Need-make-alone-requires
 make-alone-requires c κs = search needs
 
--- src/lent.rt:236:5
 write-done-requires : tie.Need-write-done-requires
 write-done-requires c κs = λ n h. omega arith
 
--- src/lent.rt:223:1
 same-length : tie.Need-same-length
 same-length c = search needs
 
--- src/lent.rt:223:1
 same-length-2 : tie.Need-same-length-2
 same-length-2 c = search needs
 
--- src/lent.rt:223:1
 returns : tie.Need-returns
 returns c = let z = c .before .before .before .before .before .before .before .before .before .before .args in
     let d = c .write-done .ensures in

@@ -3,33 +3,23 @@ use Rattle.office.proofs.Writes.{wrote-few}
 use borrow.Author.Needs.{needs}
 use Rattle.host.proofs.lent.write_by_value.Statement.{statement}
 use Rattle.host.proofs.lent.write_by_value.Tie as tie
-use Rattle.host.proofs.lent.write_by_value.Reads as reads
-use Rattle.host.proofs.lent.write_by_value.Lts as lts
-use Rattle.host.proofs.lent.write_done.Reads as write-done-reads
-use Rattle.office.proofs.write.make.Reads as make-reads
 
--- src/lent.rt:216:9
 make-requires : tie.Need-make-requires
 make-requires c κs = search needs
 
--- src/lent.rt:218:17
 element-copy-out-first : tie.Need-element-copy-out-first
 element-copy-out-first c = search needs
 
--- src/lent.rt:219:5
 write-done-requires : tie.Need-write-done-requires
 write-done-requires c κs = let z = c .before .before .before .before .before .before .before .before .before .before .before .args in
     λ n h. wrote-few (z .store .now) (z .t2) (z .plot) (z .value) (z .out .now) _ _ _ _ (c .before .before .before .before .before .before .make .ensures) n h
 
--- src/lent.rt:207:1
 same-length : tie.Need-same-length
 same-length c = search needs
 
--- src/lent.rt:207:1
 same-length-2 : tie.Need-same-length-2
 same-length-2 c = search needs
 
--- src/lent.rt:207:1
 returns : tie.Need-returns
 returns c = let z = c .before .before .before .before .before .before .before .before .before .before .before .before .args in
     let d = c .write-done .ensures in
