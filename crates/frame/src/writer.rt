@@ -52,8 +52,9 @@ fn has_room(f: Frame, room: usize) -> bool
     words_of(f) <= room
 }
 
-// The words of a frame, where there is room for them; gives how many. The head is put behind what it counts.
-fn fill(f: Frame, out: &mut [u32]) -> usize
+// The words of a frame that may be written, where there is room for them: nothing is asked again. Gives how many. The head is put behind what
+// it counts.
+pub fn put(f: Frame, out: &mut [u32]) -> usize
     requires { ⌜ (frameOk (f .offices) 64 f ≡ true) × (length (frameWords f) ≤ length (now out)) ⌝ }
     ensures { λ r. ⌜ (r ≡ length (frameWords f)) × (now (out .exit) ≡ laid (frameWords f) (now (out .entry))) ⌝ }
 {
@@ -75,18 +76,8 @@ pub fn put_frame(f: Frame, out: &mut [u32], at: usize) -> usize
     requires { ⌜ (frameOk (f .offices) 64 f ≡ true) × (at + length (frameWords f) ≤ length (now out)) ⌝ }
     ensures { λ r. ⌜ (r ≡ at + length (frameWords f)) × (now (out .exit) ≡ sets (now (out .entry)) at (frameWords f)) ⌝ }
 {
-    let words = fill(f, &mut out[at..]);
+    let words = put(f, &mut out[at..]);
     at + words
-}
-
-// A frame that is known to be one, where there is known to be room: nothing is asked again. Gives the number of its words.
-pub fn put(f: Frame, out: &mut [u32]) -> usize
-    requires { ⌜ (frameOk (f .offices) 64 f ≡ true) × (length (frameWords f) ≤ length (now out)) ⌝ }
-    ensures { λ r. ⌜ (r ≡ length (frameWords f)) × (now (out .exit) ≡ laid (frameWords f) (now (out .entry))) ⌝ }
-{
-    let n = words_of(f);
-    fill(f, out, n);
-    n
 }
 
 // 01: write a frame.
@@ -99,6 +90,6 @@ pub fn write_frame(f: Frame, out: &mut [u32]) -> Written
     if !has_room(f, out.len()) {
         return Written::NotWritten(Refusal::Room);
     }
-    let n = fill(f, out);
+    let n = put(f, out);
     Written::Words(n)
 }

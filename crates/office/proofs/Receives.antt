@@ -21,7 +21,7 @@ use Rattle.frame.specs.Entries.{idOf}
 use Rattle.frame.specs.Frames.{ringOk, frameOk, frameWords, frameOf, accepts}
 use Rattle.frame.specs.Refusals.{Reply}
 use Rattle.frame.specs.Tokens.{rowsOf}
-use Rattle.frame.specs.Calls.{laid, readFrameCode, frameIf, readFrame, writeFrame, writeFrameRow}
+use Rattle.frame.specs.Calls.{laid, readFrameCode, frameIf, readFrame}
 use Rattle.frame.proofs.Entries.{FrameFacts, frame-facts, facts-frame, frame-wider, facts-ring}
 use Rattle.frame.proofs.Sessions.{SaneEntry}
 use Rattle.store.specs.Offices.{Office, need, slotAt, officeOf, storeWords, soundStore, reveal, hold}

@@ -5,65 +5,22 @@ use mathlib.Core.Bool.{Bool, true, false, cond}
 use mathlib.Core.List.{List, [], _∷_, _++_, map, append-assoc, append-nil}
 use native.Mathlib.Nat.{zero-add, add-zero, le-refl}
 use native.Mathlib.Omega.{arith}
-use lib.ListN.{length, take, drop, length-append, length-drop, drop-of-length-le}
-use lib.Seq.{sets, sets-eq, drop-drop, take-all}
+use lib.ListN.{length, length-append}
+use lib.Seq.{sets}
 use Rattle.causal.specs.Lists.{tab}
 use Rattle.causal.specs.Sets.{isIn}
 use Rattle.causal.proofs.Lists.{sets-append, sets-front, tab-more}
 use Rattle.frame.specs.declared.entry.Entry.{Entry}
 use Rattle.frame.specs.declared.entry.Frame.{Frame}
-use Rattle.frame.specs.declared.refusal.Refusal.{Refusal}
-use Rattle.frame.specs.declared.refusal.Refusal.the-variants.{Settings, Store, Content, Plot, Value, OfficeFull, SessionFull, Room, Format, Unmade, Different, Missing, OwnWrite}
-use Rattle.frame.specs.declared.refusal.Written.the-variants.{Words, NotWritten}
-use Rattle.frame.specs.Refusals.{Reply, numberOf, replyOf, replied}
 use Rattle.frame.specs.Entries.{idOf}
 use Rattle.frame.specs.Frames.{framed, frameOk, frameWords}
 use Rattle.frame.specs.Tokens.{rowsOf}
-use Rattle.frame.specs.Calls.{laid, laidIf, writeFrame, writeFrameRow}
+use Rattle.frame.specs.Calls.{laid}
 use Rattle.frame.proofs.Frames.{length-frame}
 use Rattle.frame.proofs.Tokens.{reads-le}
-use Rattle.frame.proofs.Turns.{write-code-0}
 use Rattle.store.specs.Offices.{Office}
 use Rattle.office.specs.Calls.{missing}
 use Rattle.office.specs.Steps.{ownAt, ownTo, started, frameIf, framesIn, allFrames}
-
--- ---- the writer's answer where the frame is one and there is room
-
-pub number-some : (x : Refusal) → numberOf x ≡ 0 → ⊥
-unfolding numberOf
-number-some Settings e = omega arith
-number-some Store e = omega arith
-number-some Content e = omega arith
-number-some Plot e = omega arith
-number-some Value e = omega arith
-number-some OfficeFull e = omega arith
-number-some SessionFull e = omega arith
-number-some Room e = omega arith
-number-some Format e = omega arith
-number-some Unmade e = omega arith
-number-some Different e = omega arith
-number-some Missing e = omega arith
-number-some OwnWrite e = omega arith
-
--- ---- a part that was lent from its start on, with words written at its front
-
-lent-sets : (o ws : List ℕ) (at : ℕ) → at + length ws ≤ length o → take at o ++ (ws ++ drop (length ws) (drop at o)) ≡ sets o at ws
-lent-sets o ws at h =
-    rw (drop-drop (length ws) at o) (sym (append-assoc (take at o) ws (drop (at + length ws) o)) ∙ sym (sets-eq ws o at h))
-
-module _ (f : Frame) (o : List ℕ) (at : ℕ) (h : at + length (frameWords f) ≤ length o) where
-  rest : take (length o - at) (drop at o) ≡ drop at o
-  rest = take-all (length o - at) (drop at o) (simp length-drop (omega arith))
-
-  pub fits : length (frameWords f) ≤ length (take (length o - at) (drop at o))
-  fits = rw rest (simp length-drop (omega arith))
-
-  pub put-lent : (new : List ℕ) → new ≡ laid (frameWords f) (take (length o - at) (drop at o))
-      → take at o ++ (new ++ drop (length o - at) (drop at o)) ≡ sets o at (frameWords f)
-  unfolding laid
-  put-lent new w =
-      let n : drop (length o - at) (drop at o) ≡ [] = drop-of-length-le (drop at o) {i = length o - at} (simp length-drop (omega arith)) in
-      rw (w, n, append-nil, rest) (lent-sets o (frameWords f) at h)
 
 -- ---- one own write
 

@@ -2,6 +2,7 @@
 use frame::entry::Entry;
 use frame::entry::Frame;
 use frame::session::Session;
+use frame::writer::put_frame;
 ghost use mathlib.Core.Path.{_≡_};
 ghost use mathlib.Core.Bool.{true};
 ghost use Prim.Native.Nat.{_+_, _-_, _≤_};
@@ -73,14 +74,6 @@ pub fn words_alone(n: u32, e: Entry) -> usize
 }
 
 // ---- the words
-
-// One frame, from `at` on: the rest of out is lent to the frame writer. Gives the place behind it.
-fn put_frame(f: Frame, out: &mut [u32], at: usize) -> usize
-    requires { ⌜ (frameOk (f .offices) 64 f ≡ true) × (at + length (frameWords f) ≤ length (now out)) ⌝ }
-    ensures { λ r. ⌜ (r ≡ at + length (frameWords f)) × (now (out .exit) ≡ sets (now (out .entry)) at (frameWords f)) ⌝ }
-{
-    at + frame::writer::put(f, &mut out[at..])
-}
 
 fn put_turn(held: [u32; 8], n: u32, e: Entry, out: &mut [u32], at: usize) -> usize
     requires { ⌜ (frameOk n 64 (startedOf n e) ≡ true) × (at + length (frameIf (isIn held (idOf e)) n e) ≤ length (now out)) ⌝ }

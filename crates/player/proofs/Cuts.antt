@@ -1,5 +1,5 @@
 -- Words copied one by one; where the frames of a row begin. Assumes nothing.
-use Prim.Native.Nat.{ℕ, suc, zero, _%_, _*_, _+_, _<_, _≤_}
+use Prim.Native.Nat.{ℕ, suc, zero, _%_, _+_, _<_, _≤_}
 use mathlib.Core.List.{List, [], _∷_, _++_}
 use mathlib.Core.Logic.{⊎-elim}
 use mathlib.Core.Path.{_∙_, _≡_, ap, refl, sym}

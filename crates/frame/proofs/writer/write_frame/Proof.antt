@@ -27,8 +27,8 @@ returns-2 : tie.Need-returns-2
 unfolding replyOf numberOf
 returns-2 c = let z = c .before .before .before .before .before .args in let f = z .f in let o = z .out .now in write-refused f o 7 (write-code-8 f o (may (c .before .before)) (sym (c .before .has-room .ensures) ∙ not-true _ (c .if2 .taken)))
 
-fill-requires : tie.Need-fill-requires
-fill-requires c κs = let z = c .before .before .before .before .before .before .args in let f = z .f in let o = z .out .now in (may (c .before .before .before), leb-true (length (frameWords f)) (length o) (sym (c .before .before .has-room .ensures) ∙ not-false _ (c .before .if2 .left)))
+put-requires : tie.Need-put-requires
+put-requires c κs = let z = c .before .before .before .before .before .before .args in let f = z .f in let o = z .out .now in (may (c .before .before .before), leb-true (length (frameWords f)) (length o) (sym (c .before .before .has-room .ensures) ∙ not-false _ (c .before .if2 .left)))
 
 same-length : tie.Need-same-length
 same-length c = search needs
@@ -38,7 +38,7 @@ unfolding replyOf
 returns-3 c =
     let z = c .before .before .before .before .before .before .before .before .before .args in let f = z .f in let o = z .out .now in
     let l = leb-true (length (frameWords f)) (length o) (sym (c .before .before .before .before .before .has-room .ensures) ∙ not-false _ (c .before .before .before .before .if2 .left)) in
-    write-accepted f o (c .before .before .fill .result) (c .before .before .fill .last .1 .0) (write-code-0 f o (may (c .before .before .before .before .before .before)) l) (c .before .before .fill .ensures .0) (c .before .before .fill .ensures .1)
+    write-accepted f o (c .before .before .put .result) (c .before .before .put .last .1 .0) (write-code-0 f o (may (c .before .before .before .before .before .before)) l) (c .before .before .put .ensures .0) (c .before .before .put .ensures .1)
 
 pub write-frame-spec : {M : Type 1} → statement M
 write-frame-spec =
@@ -48,6 +48,6 @@ write-frame-spec =
     returns
     has-room-requires
     returns-2
-    fill-requires
+    put-requires
     same-length
     returns-3)
