@@ -1,4 +1,6 @@
-//! Stores, sessions, frames and tokens to time calls on: an empty ring, and a full one.
+//! Stores, sessions, frames and tokens to time calls on: an empty ring, a full one, and some between.
+// Several programs share this file, and not each uses all of it.
+#![allow(dead_code)]
 
 use crate::model::codec::{write_frame, Frame};
 use crate::model::entry::{ids, insert, Clock, Entry, IdSet, SERIALS};
@@ -75,14 +77,14 @@ fn filled(offices: u32, set: &IdSet) -> Vec<u32> {
     words
 }
 
-/// Has read the whole set and carries the last entries of it.
+/// Has read the whole set and carries the last entries of it, as far as there are any.
 fn full_session(offices: u32, set: &IdSet) -> Session {
     let mut session = fresh_session(offices).unwrap();
     let mut order: Vec<(u32, u32)> = ids(*set).collect();
     order.sort_by_key(|&(office, serial)| (serial, office));
     session.read = *set;
     session.clock[..offices as usize].fill(SERIALS);
-    for &id in &order[order.len() - CARRIED..] {
+    for &id in &order[order.len().saturating_sub(CARRIED)..] {
         session.own[session.count] = entry(offices, id, set);
         session.count += 1;
     }
@@ -113,13 +115,29 @@ pub fn empty(offices: u32, from: u32, hops: u32) -> Case {
 
 /// All that a ring can hold, but for the spare id, which the call brings; the frame is the spare's.
 pub fn full(offices: u32, spare: Option<(u32, u32)>, hops: u32) -> Case {
-    let set = all_but(offices, spare);
-    let session = full_session(offices, &set);
-    let lent = Lent { store: filled(offices, &set), session, row: vec![0; 5_000] };
+    holding(offices, &all_but(offices, spare), spare, hops)
+}
+
+fn holding(offices: u32, set: &IdSet, spare: Option<(u32, u32)>, hops: u32) -> Case {
+    let session = full_session(offices, set);
+    let lent = Lent { store: filled(offices, set), session, row: vec![0; 5_000] };
     let last = Entry {
-        deps: spare.map_or(IdSet::default(), |_| set),
-        ..entry(offices, spare.unwrap_or((0, 1)), &set)
+        deps: spare.map_or(IdSet::default(), |_| *set),
+        ..entry(offices, spare.unwrap_or((0, 1)), set)
     };
     let frame = frame_words(&Frame { offices, hops, entry: last });
     Case { offices, lent, frame, token: token_of(&session) }
+}
+
+/// The first ids that the offices make in turns. Where a call brings one more, it is the next of `from`;
+/// where all would be held, that one is missing.
+pub fn partly(offices: u32, held: u32, from: Option<u32>, hops: u32) -> Case {
+    let mut set = IdSet::default();
+    (0..held).for_each(|turn| insert(&mut set, turn % offices, turn / offices + 1));
+    let spare = from.map(|office| {
+        let serial = (set[office as usize].count_ones() + 1).min(SERIALS);
+        set[office as usize] &= !(1 << (serial - 1));
+        (office, serial)
+    });
+    holding(offices, &set, spare, hops)
 }

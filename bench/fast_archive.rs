@@ -1,0 +1,52 @@
+//! The fast version's calls in the shapes of tests/host/archive, so that what tests the archive there
+//! tests them too.
+
+#[path = "../tests/host/archive/forms.rs"]
+pub mod forms;
+
+fn reply<T: Default>(result: Result<T, u32>) -> (u32, T) {
+    match result {
+        Ok(value) => (0, value),
+        Err(refusal) => (refusal, T::default()),
+    }
+}
+
+pub mod lent {
+    use super::reply;
+    use crate::fast::office;
+    use crate::model::entry::Entry;
+    use crate::model::session::Session;
+
+    pub fn read_plot(store: &mut [u32], session: &mut Session, plot: u32) -> (u32, (u32, Entry)) {
+        let (refusal, entry) = reply(office::read_plot(store, session, plot));
+        (refusal, entry.map_or((0, Entry::default()), |entry| (1, entry)))
+    }
+
+    pub fn read_joint(store: &mut [u32], session: &mut Session, plots: &[u32], answer: &mut [u32]) -> u32 {
+        reply(office::read_joint(store, session, plots, answer)).0
+    }
+
+    pub fn write(
+        store: &mut [u32],
+        session: &mut Session,
+        plot: u32,
+        value: u32,
+        out: &mut [u32],
+    ) -> (u32, usize) {
+        reply(office::write(store, session, plot, value, out))
+    }
+}
+
+pub mod office {
+    pub use super::lent::{read_joint, read_plot, write};
+    use super::reply;
+    use crate::fast::office;
+
+    pub fn store_need(offices: u32, own: u32, plots: u32) -> (u32, usize) {
+        reply(office::store_need(offices, own, plots))
+    }
+
+    pub fn receive(store: &mut [u32], frame: &[u32], out: &mut [u32]) -> (u32, usize) {
+        reply(office::receive(store, frame, out))
+    }
+}
