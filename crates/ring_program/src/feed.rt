@@ -56,7 +56,8 @@ fn reach(sessions: [Session; 4], board: Board, pending: Pending, at: usize, next
 }
 
 // The bytes from `from` on, up to the end or to where the text has less than 40 bytes of room. The sessions are large: they are locals of this one
-// loop, so that a line copies no more than the session that it names. This is why all kinds of lines are played here.
+// loop, so that a line copies no more than the session that it names, and a changed one is made from the row rather than from the copy that the
+// call had. This is why all kinds of lines are played here.
 pub fn feed_some(
     stage: Stage,
     bytes: &[u8],
@@ -101,7 +102,8 @@ pub fn feed_some(
                 );
                 if turn.done {
                     let e = turn.entry;
-                    let grown = extended(s, e);
+                    let mine = sessions[who];
+                    let grown = extended(mine, e);
                     sessions[who] = grown;
                 }
                 let after = turn.board;
@@ -114,7 +116,8 @@ pub fn feed_some(
                 let s = sessions[who];
                 let turn = read_line(board, who, s, plot, &mut *stores);
                 let seen = turn.seen;
-                let noted = with_seen(s, seen);
+                let mine = sessions[who];
+                let noted = with_seen(mine, seen);
                 sessions[who] = noted;
                 let reply = turn.reply;
                 at = put_reply(reply, &mut *text, at);

@@ -118,14 +118,20 @@ write-line-requires c κs =
     let low = subst Named (c .before .before .before .before .before .line .given .1) (c .before .before .before .before .before .before .before .parse .ensures .1) in
     (low, L .inv .2 ∙ z .pre .0, (L .sessions, refl, (_, X .shows)))
 
+mul-mine : tie.Need-mul-mine Inv-loop μ-loop
+mul-mine c = let low = subst Named (c .before .before .before .before .before .before .before .before .before .before .before .before .before .before .line .given .1) (c .before .before .before .before .before .before .before .before .before .before .before .before .before .before .before .before .parse .ensures .1) in omega arith
+
+array-copy-out-mine : tie.Need-array-copy-out-mine Inv-loop μ-loop
+array-copy-out-mine c = let low = subst Named (c .before .before .before .before .before .before .before .before .before .before .before .before .before .before .line .given .1) (c .before .before .before .before .before .before .before .before .before .before .before .before .before .before .before .before .parse .ensures .1) in omega arith
+
 extended-requires : tie.Need-extended-requires Inv-loop μ-loop
-extended-requires c κs = c .before .before .before .before .before .before .before .before .write-line .ensures .0 (c .before .if3 .taken)
+extended-requires c κs = c .before .before .before .before .before .before .before .before .before .write-line .ensures .0 (c .before .before .if3 .taken)
 
 mul-sessions : tie.Need-mul-sessions Inv-loop μ-loop
-mul-sessions c = let low = subst Named (c .before .before .before .before .before .before .before .before .before .before .before .before .before .before .before .line .given .1) (c .before .before .before .before .before .before .before .before .before .before .before .before .before .before .before .before .before .parse .ensures .1) in omega arith
+mul-sessions c = let low = subst Named (c .before .before .before .before .before .before .before .before .before .before .before .before .before .before .before .before .line .given .1) (c .before .before .before .before .before .before .before .before .before .before .before .before .before .before .before .before .before .before .parse .ensures .1) in omega arith
 
 array-set-from-sessions : tie.Need-array-set-from-sessions Inv-loop μ-loop
-array-set-from-sessions c = let low = subst Named (c .before .before .before .before .before .before .before .before .before .before .before .before .before .before .before .line .given .1) (c .before .before .before .before .before .before .before .before .before .before .before .before .before .before .before .before .before .parse .ensures .1) in omega arith
+array-set-from-sessions c = let low = subst Named (c .before .before .before .before .before .before .before .before .before .before .before .before .before .before .before .before .line .given .1) (c .before .before .before .before .before .before .before .before .before .before .before .before .before .before .before .before .before .before .parse .ensures .1) in omega arith
 
 put-reply-requires : tie.Need-put-reply-requires Inv-loop μ-loop
 put-reply-requires c κs = let L = c .before .before .before .before .before .before .before .before .before .before .before .before .before .before .before .before .before .before .before .before .before .before .before .before .loop in omega (arith, c .before .before .before .before .before .before .before .before .before .before .before .before .before .before .before .before .before .before .before .before .before .before .if1 .left, L .inv .6)
@@ -150,17 +156,23 @@ read-line-requires c κs =
     let low = subst Named (c .before .before .before .line2 .given .1) (c .before .before .before .before .before .parse .ensures .1) in
     (low, (L .sessions, L .lines, refl, (_, X .shows)))
 
+mul-mine-2 : tie.Need-mul-mine-2 Inv-loop μ-loop
+mul-mine-2 c = let low = subst Named (c .before .before .before .before .before .before .before .line2 .given .1) (c .before .before .before .before .before .before .before .before .before .parse .ensures .1) in omega arith
+
+array-copy-out-mine-2 : tie.Need-array-copy-out-mine-2 Inv-loop μ-loop
+array-copy-out-mine-2 c = let low = subst Named (c .before .before .before .before .before .before .before .line2 .given .1) (c .before .before .before .before .before .before .before .before .before .parse .ensures .1) in omega arith
+
 with-seen-requires : tie.Need-with-seen-requires Inv-loop μ-loop
 with-seen-requires c κs = search needs
 
 mul-sessions-2 : tie.Need-mul-sessions-2 Inv-loop μ-loop
-mul-sessions-2 c = let low = subst Named (c .before .before .before .before .before .before .before .before .line2 .given .1) (c .before .before .before .before .before .before .before .before .before .before .parse .ensures .1) in omega arith
+mul-sessions-2 c = let low = subst Named (c .before .before .before .before .before .before .before .before .before .line2 .given .1) (c .before .before .before .before .before .before .before .before .before .before .before .parse .ensures .1) in omega arith
 
 array-set-from-sessions-2 : tie.Need-array-set-from-sessions-2 Inv-loop μ-loop
-array-set-from-sessions-2 c = let low = subst Named (c .before .before .before .before .before .before .before .before .line2 .given .1) (c .before .before .before .before .before .before .before .before .before .before .parse .ensures .1) in omega arith
+array-set-from-sessions-2 c = let low = subst Named (c .before .before .before .before .before .before .before .before .before .line2 .given .1) (c .before .before .before .before .before .before .before .before .before .before .before .parse .ensures .1) in omega arith
 
 put-reply-requires-2 : tie.Need-put-reply-requires-2 Inv-loop μ-loop
-put-reply-requires-2 c κs = let L = c .before .before .before .before .before .before .before .before .before .before .before .before .before .before .before .before .before .before .loop in omega (arith, c .before .before .before .before .before .before .before .before .before .before .before .before .before .before .before .before .if1 .left, L .inv .6)
+put-reply-requires-2 c κs = let L = c .before .before .before .before .before .before .before .before .before .before .before .before .before .before .before .before .before .before .before .loop in omega (arith, c .before .before .before .before .before .before .before .before .before .before .before .before .before .before .before .before .before .if1 .left, L .inv .6)
 
 play-other-requires : tie.Need-play-other-requires Inv-loop μ-loop
 play-other-requires c κs =
@@ -193,16 +205,16 @@ loop-again c =
     let y = w .17 in
     fd.turn-of _ _ _ _ _ _ _ _ (q .result .reply) _ (q .result .board) (y .result) _ _ _ _ (q .kept .1 .1 .1 .1 .1 .0) (q .kept .1 .1 .1 .1 .1 .1 .0) (q .kept .1 .1 .1 .1 .1 .1 .1 .0) (y .kept .1 .0)
     (λ g S. rw (w .1 .given .1) (q .ensures .1 (L .sessions) g refl S)) (y .ensures) _ _ _ _ _ _ _
-    (w .24 ∙ ⊎-elim (λ v. fd.put-done (L .sessions) _ _ (q .result .entry) (q .result .done) _ (v .0 .taken) (v .2 .ensures) (v .3)) (λ v. fd.not-put (L .sessions) _ _ (q .result .entry) (q .result .done) (v .0 .left) (v .1)) (w .14 .came))
+    (w .24 ∙ ⊎-elim (λ v. fd.put-done (L .sessions) _ _ (q .result .entry) (q .result .done) _ (v .0 .taken) (v .3 .ensures) (v .4)) (λ v. fd.not-put (L .sessions) _ _ (q .result .entry) (q .result .done) (v .0 .left) (v .1)) (w .14 .came))
     (w .25) (w .26) (w .20) (w .21) (w .22) (w .23))
     (λ v.
     ⊎-elim
     (λ w.
     let q = w .5 in
-    let y = w .11 in
+    let y = w .12 in
     fd.turn-of _ _ _ _ _ _ _ _ (q .result .reply) _ (L .board) (y .result) _ _ _ _ (q .kept .1 .1 .1 .1 .0) refl refl (y .kept .1 .0)
     (λ g S. rw (w .1 .given .1) (q .ensures (L .sessions) (L .out) (L .lines) g refl S)) (y .ensures) _ _ _ _ _ _ _
-    (w .18 ∙ ap (set (L .sessions) _) (w .9 .ensures)) (w .19) (w .20) (w .14) (w .15) (w .16) (w .17))
+    (w .19 ∙ ap (set (L .sessions) _) (w .10 .ensures)) (w .20) (w .21) (w .15) (w .16) (w .17) (w .18))
     (λ w.
     let q = w .4 in
     let y = w .13 in
@@ -271,6 +283,8 @@ feed-some-spec =
     mul-s
     array-copy-out-s
     write-line-requires
+    mul-mine
+    array-copy-out-mine
     extended-requires
     mul-sessions
     array-set-from-sessions
@@ -280,6 +294,8 @@ feed-some-spec =
     mul-s-2
     array-copy-out-s-2
     read-line-requires
+    mul-mine-2
+    array-copy-out-mine-2
     with-seen-requires
     mul-sessions-2
     array-set-from-sessions-2
