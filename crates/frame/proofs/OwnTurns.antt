@@ -1,21 +1,26 @@
 -- What each turn of the loops over own writes does; the session that says a content. Assumes nothing.
-use Prim.Native.Nat.{ℕ, zero, suc, _+_, _-_, _<_, _≤_}
+use Prim.Native.Nat.{ℕ, zero, suc, _+_, _-_, _/_, _<_, _≤_}
 use mathlib.Core.Path.{_≡_, refl, sym, ap, _∙_}
+use native.Mathlib.Omega.{arith}
 use mathlib.Core.Bool.{Bool, true, false, not}
 use mathlib.Core.List.{List, [], _∷_, _++_, foldl-append}
 use lib.Dec.{leb, eqb}
 use lib.ListN.{length, getD, replicate, List·getD-append}
-use lib.Seq.{ext-getD}
-use borrow.Author.Tests.{leb-true}
-use Rattle.causal.proofs.Tests.{both-one, both-assoc, both-true}
+use lib.Bits.{bitOr}
+use lib.Seq.{ext-getD, getD-set-other}
+use borrow.Author.Tests.{leb-true, eqb-true, eq-eqb}
+use Rattle.causal.proofs.Sets.{empty-unite, subset-left, zero-at}
+use Rattle.causal.proofs.Tests.{both-one, both-assoc, both-false, both-true, all-at}
 use Rattle.causal.specs.Tests.{both, allBelow}
 use Rattle.causal.specs.Lists.{tab, zeros}
-use Rattle.causal.specs.Sets.{isIn, unite, inserted, subsetOf}
-use Rattle.causal.proofs.Lists.{tab-length, tab-at, tab-more}
+use Rattle.causal.specs.Sets.{isEmpty, isIn, unite, minus, inserted, subsetOf, wordIn}
+use Rattle.causal.proofs.Bits.{or-is-zero}
+use Rattle.causal.proofs.Lists.{tab-length, tab-at, tab-more, zip8-at}
 use Rattle.frame.specs.declared.entry.Entry.{Entry}
 use Rattle.frame.specs.declared.session.Session.{Session}
-use Rattle.frame.specs.Entries.{idOf, clockOk, idsOk, boundsOk, entryOk, blankEntry}
+use Rattle.frame.specs.Entries.{idOf, clockOk, underOk, idsOk, boundsOk, entryOk, blankEntry}
 use Rattle.frame.specs.Sessions.{Content, nobody, contentOf, filled, sessionOf, idsOf, ownTurn, ownOk, headOk, sessionOk}
+use Rattle.frame.proofs.Entries.{EntryFacts, entry-facts, facts-ids, ids-facts}
 use Rattle.frame.proofs.Sessions.{idsWith}
 
 -- ---- own writes, one after the other
@@ -93,6 +98,10 @@ pub head-few : (n offices count : ℕ) (clock read : List ℕ) → headOk n offi
 unfolding headOk
 head-few n offices count clock read h = leb-true count 16 (both-true (leb count 16) _ (both-true (eqb offices n) _ h .1) .0)
 
+pub head-ids : (n offices count : ℕ) (clock read : List ℕ) → headOk n offices count clock read ≡ true → idsOk n read ≡ true
+unfolding headOk
+head-ids n offices count clock read h = both-true (clockOk n clock) _ (both-true (leb count 16) _ (both-true (eqb offices n) _ h .1) .1) .1
+
 pub none-ok : (n p : ℕ) (read : List ℕ) (f : ℕ → Entry) (m : ℕ) → m ≡ 0 → true ≡ ownOk n p read zeros (tab m f)
 unfolding ownOk tab
 none-ok n p read f m e = rw e refl
@@ -113,19 +122,56 @@ content-back c h = λ i. record { offices = c .offices; clock = c .clock; read =
 
 -- ---- the tests of one own write, in the order in which the code asks them
 
-tests-in-row : (a b c d e x : Bool) → both (both a (both b (both c (both d e)))) x ≡ both a (both b (both c (both d (both e x))))
-unfolding both
-tests-in-row false b c d e x = refl
-tests-in-row true false c d e x = refl
-tests-in-row true true false d e x = refl
-tests-in-row true true true false e x = refl
-tests-in-row true true true true e x = refl
+-- what depends only on ids of the ring's offices has only such
+pub in-ring : (n : ℕ) (read seen deps : List ℕ) → idsOk n read ≡ true → idsOk n seen ≡ true → subsetOf deps (unite read seen) ≡ true → idsOk n deps ≡ true
+unfolding subsetOf wordIn unite
+in-ring n read seen deps x y h = facts-ids n deps none
+  where
+    none : (j : ℕ) → j < 8 → n ≤ j → getD deps j 0 ≡ 0
+    none j l g =
+        let t = eqb-true _ _ (all-at (wordIn deps (unite read seen)) 8 h j l) in
+        let u : getD (unite read seen) j 0 ≡ 0 = zip8-at bitOr read seen j l ∙ (λ i. bitOr (ids-facts n read x j l g i) (ids-facts n seen y j l g i)) in
+        let v : bitOr (getD deps j 0) (getD (unite read seen) j 0) ≡ 0 = t ∙ u in
+        eqb-true _ 0 (both-true (eqb (getD deps j 0) 0) _ (sym (or-is-zero (getD deps j 0) (getD (unite read seen) j 0)) ∙ eq-eqb _ 0 v) .0)
 
-pub own-tests : (n p : ℕ) (read seen : List ℕ) (e : Entry) → ownTurn n p read seen e ≡
+-- ids in range, and one more of an entry that keeps its bounds
+pub ids-turn-ok : (n p : ℕ) (read seen : List ℕ) (e : Entry) (k : ℕ) (r : List ℕ) → idsOk n seen ≡ true → ownTurn n p read seen e ≡ true → k ≡ idOf e → r ≡ inserted seen k → idsOk n r ≡ true
+unfolding ownTurn inserted
+ids-turn-ok n p read seen e k r x h q m = rw m (facts-ids n (inserted seen k) none)
+  where
+    kept : EntryFacts n p e
+    kept = entry-facts n p e (both-true (entryOk n p e) _ h .0)
+
+    none : (j : ℕ) → j < 8 → n ≤ j → getD (inserted seen k) j 0 ≡ 0
+    none j l g = getD-set-other seen (k / 32) j _ 0 (λ w. omega (arith, w, q, kept .bounds .office-ok, kept .bounds .to)) ∙ ids-facts n seen x j l g
+
+pub none-seen : (n : ℕ) → idsOk n zeros ≡ true
+none-seen n = facts-ids n zeros (λ j l g. zero-at j)
+
+-- six tests in the order of the rules are five in that of the code, where the last says the one left out
+tests-in-row : (a b c d i s t : Bool) → (t ≡ true → i ≡ true) → both (both a (both b (both c (both d i)))) (both s t) ≡ both a (both b (both c (both s (both d t))))
+unfolding both
+tests-in-row false b c d i s t f = refl
+tests-in-row true false c d i s t f = refl
+tests-in-row true true false d i s t f = refl
+tests-in-row true true true false i false t f = refl
+tests-in-row true true true false i true t f = refl
+tests-in-row true true true true false false t f = refl
+tests-in-row true true true true true false t f = refl
+tests-in-row true true true true i true false f = both-false i
+tests-in-row true true true true i true true f = ap (λ (b : Bool). both b true) (f refl)
+
+pub own-tests : (n p : ℕ) (most read seen : List ℕ) (e : Entry) → idsOk n read ≡ true → idsOk n seen ≡ true → ((c : List ℕ) → underOk most c ≡ clockOk n c) → ownTurn n p read seen e ≡
     both (boundsOk n p (e .office) (e .serial) (e .plot) (e .value))
     (both (eqb (getD (e .clock) (e .office) 0) (e .serial))
     (both (not (isIn (e .deps) (idOf e)))
-    (both (clockOk n (e .clock))
-    (both (idsOk n (e .deps)) (both (not (isIn seen (idOf e))) (subsetOf (e .deps) (unite read seen)))))))
+    (both (not (isIn seen (idOf e))) (both (underOk most (e .clock)) (subsetOf (e .deps) (unite read seen))))))
 unfolding ownTurn entryOk
-own-tests n p read seen e = tests-in-row _ _ _ _ _ _
+own-tests n p most read seen e x y u =
+    tests-in-row _ _ _ _ _ _ _ (in-ring n read seen (e .deps) x y)
+    ∙ ap (λ (q : Bool). both (boundsOk n p (e .office) (e .serial) (e .plot) (e .value)) (both (eqb (getD (e .clock) (e .office) 0) (e .serial)) (both (not (isIn (e .deps) (idOf e))) (both (not (isIn seen (idOf e))) (both q (subsetOf (e .deps) (unite read seen))))))) (sym (u (e .clock)))
+
+-- nothing over its bound and nothing unknown, asked at once
+pub at-once : (most clock deps known over unknown bad : List ℕ) (r : Bool) → isEmpty over ≡ underOk most clock → unknown ≡ minus deps known → bad ≡ unite over unknown → r ≡ isEmpty bad → r ≡ both (underOk most clock) (subsetOf deps known)
+at-once most clock deps known over unknown bad r o u b e =
+    e ∙ ap isEmpty b ∙ empty-unite over unknown ∙ (λ i. both (o i) ((ap isEmpty u ∙ subset-left deps known) i))

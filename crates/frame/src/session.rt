@@ -1,13 +1,14 @@
 // Sessions (01: errands).
 ghost use mathlib.Core.Path.{_≡_};
-ghost use mathlib.Core.Bool.{not};
-ghost use Prim.Native.Nat.{_+_, _-_, _*_, _<_, _≤_};
+ghost use mathlib.Core.Bool.{true, not};
+ghost use mathlib.Core.List.{List};
+ghost use Prim.Native.Nat.{ℕ, _+_, _-_, _*_, _<_, _≤_};
 ghost use lib.Dec.{eqb};
 ghost use lib.ListN.{getD};
 ghost use Rattle.causal.specs.Tests.{both};
 ghost use Rattle.causal.specs.Sets.{isIn, unite, subsetOf};
 ghost use Rattle.causal.specs.Lists.{tab, zeros};
-ghost use Rattle.frame.specs.Entries.{clockOk, idsOk};
+ghost use Rattle.frame.specs.Entries.{clockOk, underOk, idsOk};
 ghost use Rattle.frame.specs.Sessions.{nobody, contentOf, sessionOf, idsOf, ownTurn, ownOk, headOk, sessionOk, freshContent};
 use crate::entry::Entry;
 
@@ -37,10 +38,10 @@ pub fn blank_session() -> Session
     }
 }
 
-// The rules of an own write's clock and dependencies, an id that is not among the earlier ones, and no dependency but on what was read or
-// written before. Not by the functions of an entry's rules, which would copy the rows once more.
+// The tests of an own write that ask its clock and dependencies: its own number, not on itself, an id that is not among the earlier ones; then at
+// once no number over its bound and no dependency but on what was read or written before.
 fn own_past_ok(
-    n: usize,
+    most: [u32; 8],
     office: usize,
     serial: u32,
     clock: [u32; 8],
@@ -49,7 +50,7 @@ fn own_past_ok(
     seen: [u32; 8],
 ) -> bool
     requires { ⌜ (office < 8) × (1 ≤ serial) × (serial ≤ 32) ⌝ }
-    ensures { λ r. ⌜ r ≡ both (eqb (getD clock office 0) serial) (both (not (isIn deps (32 * office + (serial - 1)))) (both (clockOk n clock) (both (idsOk n deps) (both (not (isIn seen (32 * office + (serial - 1)))) (subsetOf deps (unite read seen)))))) ⌝ }
+    ensures { λ r. ⌜ r ≡ both (eqb (getD clock office 0) serial) (both (not (isIn deps (32 * office + (serial - 1)))) (both (not (isIn seen (32 * office + (serial - 1)))) (both (underOk most clock) (subsetOf deps (unite read seen))))) ⌝ }
 {
     if clock[office] != serial {
         return false;
@@ -57,21 +58,20 @@ fn own_past_ok(
     if crate::entry::in_word(deps[office], serial) {
         return false;
     }
-    if !crate::entry::clock_ok(n, clock) {
-        return false;
-    }
-    if !crate::entry::ids_ok(n, deps) {
-        return false;
-    }
     if crate::entry::in_word(seen[office], serial) {
         return false;
     }
+    let over = crate::entry::overs(most, clock);
     let known = causal::set::union(read, seen);
-    causal::set::subset(deps, known)
+    let unknown = causal::set::without(deps, known);
+    let bad = causal::set::union(over, unknown);
+    causal::set::is_empty(bad)
 }
 
-// One own write: the entry rules, an id that is not among the earlier ones, and no dependency but on what was read or written before.
-fn own_ok(n: u32, p: u32, read: [u32; 8], seen: [u32; 8], e: Entry) -> bool
+// One own write: the entry rules, an id that is not among the earlier ones, and no dependency but on what was read or written before. All of
+// that is of offices that the ring has, so its dependencies are, too.
+fn own_ok(n: u32, p: u32, most: [u32; 8], read: [u32; 8], seen: [u32; 8], e: Entry) -> bool
+    requires { ⌜ ((c : List ℕ) → underOk most c ≡ clockOk n c) × (idsOk n read ≡ true) × (idsOk n seen ≡ true) ⌝ }
     ensures { λ r. ⌜ r ≡ ownTurn n p read seen e ⌝ }
 {
     if !crate::entry::bounds_ok(n, p, e.office, e.serial, e.plot, e.value) {
@@ -83,26 +83,19 @@ fn own_ok(n: u32, p: u32, read: [u32; 8], seen: [u32; 8], e: Entry) -> bool
     }
     let clock = e.clock;
     let deps = e.deps;
-    own_past_ok(
-        n as usize,
-        e.office as usize,
-        e.serial,
-        clock,
-        deps,
-        read,
-        seen,
-    )
+    own_past_ok(most, e.office as usize, e.serial, clock, deps, read, seen)
 }
 
 // The own writes, with the set of the ids seen so far.
 pub fn owns_ok(n: u32, p: u32, read: [u32; 8], own: [Entry; 16], count: usize) -> bool
-    requires { ⌜ count ≤ 16 ⌝ }
+    requires { ⌜ (count ≤ 16) × (idsOk n read ≡ true) ⌝ }
     ensures { λ r. ⌜ r ≡ ownOk n p read zeros (tab count (λ i. getD own i nobody)) ⌝ }
 {
+    let most = crate::entry::mosts(n as usize);
     let mut seen = [0u32; 8];
     for i in 0..count {
         let e = own[i];
-        if !own_ok(n, p, read, seen, e) {
+        if !own_ok(n, p, most, read, seen, e) {
             return false;
         }
         let id = crate::entry::id_of(e);

@@ -9,6 +9,7 @@ ghost use Rattle.causal.specs.Codes.{check};
 ghost use Rattle.causal.specs.Lists.{tab};
 ghost use Rattle.causal.specs.Sets.{sizeOf};
 ghost use Rattle.frame.specs.Words.{clockWords, idWords};
+ghost use Rattle.frame.specs.Entries.{idsOk};
 ghost use Rattle.frame.specs.Refusals.{numberOf, codeOf, replyOf};
 ghost use Rattle.frame.specs.Frames.{ringOk, framed, frameOk, frameOf};
 ghost use Rattle.frame.specs.Calls.{laid};
@@ -298,7 +299,7 @@ fn bare(offices: u32, clock: [u32; 8], read: [u32; 8]) -> TokenRead
 
 // The session whose own frames stand in ws, up to the last word.
 fn laden(ws: &[u32], n: u32, p: u32, clock: [u32; 8], read: [u32; 8], count: usize) -> TokenRead
-    requires { ⌜ (ringOk n p ≡ true) × (count ≤ 16) ⌝ }
+    requires { ⌜ (ringOk n p ≡ true) × (count ≤ 16) × (idsOk n read ≡ true) ⌝ }
     ensures { λ r. ⌜ (codeOf (r .status) ≡ check (carriedOk count n p read (now (ws .entry))) 9 0)
         × (r .session ≡ sessionOf (cond (carriedOk count n p read (now (ws .entry))) (record { offices = n; clock = clock; read = read; own = ownFrom count n (now (ws .entry)) }) (freshContent 0))) ⌝ }
 {

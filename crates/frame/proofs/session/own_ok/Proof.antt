@@ -15,7 +15,9 @@ bounds-ok-requires : tie.Need-bounds-ok-requires
 bounds-ok-requires c κs = search needs
 
 returns : tie.Need-returns
-returns c = let z = c .before .before .args in rw (own-tests (z .n) (z .p) (z .read) (z .seen) (z .e)) (search (chain, arith) depth 9)
+returns c =
+    let z = c .before .before in
+    rw (own-tests (z .args .n) (z .args .p) (z .args .most) (z .args .read) (z .args .seen) (z .args .e) (z .pre .1) (z .pre .2) (z .pre .0)) (search (chain, arith) depth 9)
 
 returns-2 : tie.Need-returns-2
 unfolding ownTurn both
@@ -35,7 +37,9 @@ own-past-ok-requires c κs =
     (omega (arith, c .before .before .before .if2 .left), omega (arith, f), omega (arith, f))
 
 returns-3 : tie.Need-returns-3
-returns-3 c = let z = c .before .before .before .before .before .before .before .before .args in rw (own-tests (z .n) (z .p) (z .read) (z .seen) (z .e)) (search (chain, arith) depth 9)
+returns-3 c =
+    let z = c .before .before .before .before .before .before .before .before in
+    rw (own-tests (z .args .n) (z .args .p) (z .args .most) (z .args .read) (z .args .seen) (z .args .e) (z .pre .1) (z .pre .2) (z .pre .0)) (search (chain, arith) depth 9)
 
 pub own-ok-spec : {M : Type 1} → statement M
 own-ok-spec =

@@ -22,7 +22,8 @@ returns-2 c =
 
 owns-ok-requires : tie.Need-owns-ok-requires
 owns-ok-requires c κs =
-    T.head-few _ _ _ _ _ (sym (c .before .before .before .head-ok .ensures) ∙ not-false _ (c .before .before .if1 .left))
+    let h = sym (c .before .before .before .head-ok .ensures) ∙ not-false _ (c .before .before .if1 .left) in
+    (T.head-few _ _ _ _ _ h, T.head-ids _ _ _ _ _ h)
 
 returns-3 : tie.Need-returns-3
 returns-3 c =

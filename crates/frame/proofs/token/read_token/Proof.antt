@@ -17,7 +17,7 @@ use Rattle.frame.specs.Sessions.{Content, sessionOf, freshContent}
 use Rattle.frame.specs.Tokens.{tokenOwns, tokenReads}
 use Rattle.frame.specs.TokenReading.{startOk, carriedOk}
 use Rattle.frame.proofs.Entries.{ring-facts}
-use Rattle.frame.proofs.Ascents.{ascends-wider}
+use Rattle.frame.proofs.Ascents.{ascends-wider, ids-range}
 use Rattle.frame.proofs.TokenReads as R
 use Rattle.frame.proofs.TokenChecks.{Shape}
 use borrow.Author.Needs.{needs}
@@ -119,7 +119,7 @@ part-laden-end : tie.Need-part-laden-end
 part-laden-end c = search needs
 
 laden-requires : tie.Need-laden-requires
-laden-requires c κs = (ring (c .before .before .before .before .before .before .before .before .before .before), shape (c .before .before .before .before .before .before .before .before) .few)
+laden-requires c κs = (ring (c .before .before .before .before .before .before .before .before .before .before), shape (c .before .before .before .before .before .before .before .before) .few, rw (reads (c .before .before)) (ids-range _ _ (R.start-reads (c .before .before .before .before .before .before .before .before .before .before .before .before .before .args .offices) (c .before .before .before .before .before .before .before .before .before .before .before .before .before .args .plots) (c .before .before .before .before .before .before .before .before .before .before .before .before .before .args .ws .now) (start (c .before .before .before .before .before .before .before .before)))))
 
 returns-4 : tie.Need-returns-4
 returns-4 c =

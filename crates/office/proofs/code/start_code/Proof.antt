@@ -62,7 +62,7 @@ owns-ok-requires c κs =
     let z = c .before .before .before .before .before .before .before .before .before .before .before .before .args in
     let sound = sym (c .before .before .before .before .before .before .before .before .before .before .is-sound .ensures) ∙ not-false _ (c .before .before .before .before .before .before .before .before .before .if1 .left) in
     let head = sym (c .before .before .before .before .before .head-ok .ensures) ∙ not-false _ (c .before .before .before .before .if2 .left) in
-    T.head-few _ _ _ _ _ head
+    (T.head-few _ _ _ _ _ head, T.head-ids _ _ _ _ _ head)
 
 returns-4 : tie.Need-returns-4
 unfolding startCode check
