@@ -16,16 +16,16 @@ use borrow.Author.Tests.{lt-ltb, le-ltb, le-leb}
 use Rattle.causal.specs.Lists.{tab, zeros}
 use Rattle.causal.specs.Sets.{bit}
 use Rattle.causal.proofs.Tests.{lt-or-le}
-use Rattle.causal.proofs.Lists.{sets-append, sets-front, take-front, tab-length, tab-at, getD-sets-in, getD-sets-after}
+use Rattle.causal.proofs.Lists.{sets-append, sets-front, tab-length, tab-at, getD-sets-in, getD-sets-after}
 use Rattle.causal.proofs.Sets.{zero-at, size-le}
 use Rattle.causal.proofs.Walk.{Passed, next, skip, fold-next, fold-end}
 use Rattle.frame.specs.declared.entry.Frame.{Frame}
-use Rattle.frame.specs.Words.{payAt, clockWords, clockPlace, clockFrom, idWord, idWordIf, idWordsTo, idWords, idWordsIn, sumWord, summed}
+use Rattle.frame.specs.Words.{payAt, clockWords, clockPlace, clockFrom, idWord, idWordIf, idWordsTo, idWords, idWordsIn, total, sumWord, summed}
 use Rattle.causal.specs.Codes.{check}
 use Rattle.frame.specs.Refusals.{replied}
 use Rattle.frame.specs.Frames.{headWord, bodyWords, frameWords, frameOk}
 use Rattle.frame.specs.Calls.{laid, laidIf, writeFrameCode, writeFrame, writeFrameRow}
-use Rattle.frame.proofs.Words.{ids-in, ids-size, length-clock}
+use Rattle.frame.proofs.Words.{ids-in, ids-size, length-clock, total-append}
 use Rattle.frame.proofs.Frames.{length-body, length-frame}
 
 -- ---- a clock, read
@@ -165,7 +165,7 @@ frame-filled : (f : Frame) (out a0 a1 a2 a3 : List ℕ) (head end : ℕ)
     → a1 ≡ sets a0 3 (clockWords (f .offices) (f .entry .clock))
     → a2 ≡ sets a1 (3 + f .offices) (idWords (f .entry .deps))
     → end ≡ 3 + f .offices + length (idWords (f .entry .deps))
-    → a3 ≡ set a2 end (sumWord (take end a2))
+    → a3 ≡ set a2 end (sumWord (bodyWords f))
     → length (frameWords f) ≤ length out
     → a3 ≡ laid (frameWords f) out
 unfolding laid bodyWords frameWords summed
@@ -196,11 +196,9 @@ frame-filled f out a0 a1 a2 a3 head end eh e0 e1 e2 ee e3 room = whole ∙ sets-
         let B : List ℕ = bodyWords f in
         let lb : length B ≡ f .offices + length D + 3 = length-body f in
         let le : end ≡ length B = omega arith in
-        let t : take end (sets out 0 B) ≡ B = take-front out B end le (omega (arith, length-frame f)) in
         let k : end ≡ 0 + length B = omega arith in
         e3
-        ∙ ap (λ (l : List ℕ). set l end (sumWord (take end l))) body
-        ∙ ap (λ (l : List ℕ). set (sets out 0 B) end (sumWord l)) t
+        ∙ ap (λ (l : List ℕ). set l end (sumWord B)) body
         ∙ ap (λ (i : ℕ). set (sets out 0 B) i (sumWord B)) k
         ∙ sym (sets-append out 0 B (sumWord B ∷ []))
 
@@ -227,7 +225,7 @@ pub head-last : (f : Frame) (out a0 a1 a2 a3 : List ℕ) (head end : ℕ)
     → a1 ≡ sets a0 (3 + f .offices) (idWords (f .entry .deps))
     → a2 ≡ sets a1 0 (head ∷ (805306368 + f .entry .plot) ∷ (1073741824 + f .entry .value) ∷ [])
     → end ≡ 3 + f .offices + length (idWords (f .entry .deps))
-    → a3 ≡ set a2 end (sumWord (take end a2))
+    → a3 ≡ set a2 end (sumWord (bodyWords f))
     → length (frameWords f) ≤ length out
     → a3 ≡ laid (frameWords f) out
 head-last f out a0 a1 a2 a3 head end eh e0 e1 e2 ee e3 room =
@@ -239,6 +237,38 @@ head-last f out a0 a1 a2 a3 head end eh e0 e1 e2 ee e3 room =
     ∙ sets-first out C D (3 + f .offices) head (805306368 + f .entry .plot) (1073741824 + f .entry .value) (omega arith)
     in
     frame-filled f out (sets out 0 H) (sets (sets out 0 H) 3 C) a2 a3 head end eh refl refl q ee e3 room
+
+-- the check by the sums of the parts
+mod-right : (a b c : ℕ) → b % 268435456 ≡ c % 268435456 → (a + b) % 268435456 ≡ (a + c) % 268435456
+mod-right a b c e = omega arith
+
+mod-left : (a b : ℕ) → (a % 268435456 + b) % 268435456 ≡ (a + b) % 268435456
+mod-left a b = omega arith
+
+parts-sum : (h p v c d x y : ℕ) → c % 268435456 ≡ x % 268435456 → d % 268435456 ≡ y % 268435456
+    → (h + (p + v) + c + d) % 268435456 ≡ (h % 268435456 + ((805306368 + p) % 268435456 + ((1073741824 + v) % 268435456 + (x + y)))) % 268435456
+parts-sum h p v c d x y e f =
+    let a : h + (p + v) + c + y ≡ h + (p + v) + y + c = omega arith in
+    let b : (h + (p + v) + y + x) % 268435456 ≡ (h + (805306368 + p + (1073741824 + v + (x + y)))) % 268435456 = omega arith in
+    mod-right (h + (p + v) + c) d y f ∙ ap (λ (n : ℕ). n % 268435456) a ∙ mod-right (h + (p + v) + y) c x e ∙ b
+    ∙ mod-right h (805306368 + p + (1073741824 + v + (x + y))) ((805306368 + p) % 268435456 + ((1073741824 + v) % 268435456 + (x + y)))
+    (mod-right (805306368 + p) (1073741824 + v + (x + y)) ((1073741824 + v) % 268435456 + (x + y)) (sym (mod-left (1073741824 + v) (x + y)))
+    ∙ sym (mod-left (805306368 + p) ((1073741824 + v) % 268435456 + (x + y))))
+    ∙ sym (mod-left h ((805306368 + p) % 268435456 + ((1073741824 + v) % 268435456 + (x + y))))
+
+pub body-sum : (f : Frame) (head clocks deps : ℕ)
+    → head ≡ headWord (f .entry .office) (f .entry .serial) (f .hops) (f .offices) (length (idWords (f .entry .deps)))
+    → clocks % 268435456 ≡ total (clockWords (f .offices) (f .entry .clock)) % 268435456
+    → deps % 268435456 ≡ total (idWords (f .entry .deps)) % 268435456
+    → 4026531840 + (head + (f .entry .plot + f .entry .value) + clocks + deps) % 268435456 ≡ sumWord (bodyWords f)
+unfolding bodyWords total
+body-sum f head clocks deps e c d =
+    let C : List ℕ = clockWords (f .offices) (f .entry .clock) in
+    let D : List ℕ = idWords (f .entry .deps) in
+    ap (λ (x : ℕ). 4026531840 + x)
+    (parts-sum head (f .entry .plot) (f .entry .value) clocks deps (total C) (total D) c d
+    ∙ ap (λ (x : ℕ). (head % 268435456 + ((805306368 + f .entry .plot) % 268435456 + ((1073741824 + f .entry .value) % 268435456 + x))) % 268435456) (sym (total-append C D))
+    ∙ ap (λ (x : ℕ). (x % 268435456 + ((805306368 + f .entry .plot) % 268435456 + ((1073741824 + f .entry .value) % 268435456 + total (C ++ D)))) % 268435456) e)
 
 -- no frame has more than 268 words
 pub frame-most : (f : Frame) → f .offices ≤ 8 → length (frameWords f) ≤ 268

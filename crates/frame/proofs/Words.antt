@@ -86,6 +86,10 @@ total-take ws i h = rw (add-one, take-suc ws i 0 h) (total-append (take i ws) (g
     one : total (take i ws) + (payload (getD ws i 0) + 0) ≡ total (take i ws) + payload (getD ws i 0)
     one = omega arith
 
+pub total-snoc : (ws : List ℕ) (w : ℕ) → total (ws ++ (w ∷ [])) ≡ total ws + payload w
+unfolding total
+total-snoc ws w = total-append ws (w ∷ []) ∙ omega arith
+
 -- a wrapping addition keeps the sum modulo 2^28: the kind and what wraps are multiples of it
 pub wrapped : (s w t : ℕ) → s % 268435456 ≡ t % 268435456 → (s + w) % 4294967296 % 268435456 ≡ (t + payload w) % 268435456
 wrapped s w t h = thin (s + w) ∙ apart s w ∙ ap (λ (x : ℕ). (x + payload w) % 268435456) h ∙ sym (again t (payload w))
@@ -102,6 +106,21 @@ wrapped s w t h = thin (s + w) ∙ apart s w ∙ ap (λ (x : ℕ). (x + payload 
 pub length-summed : (ws : List ℕ) → length (summed ws) ≡ length ws + 1
 unfolding summed
 length-summed ws = length-append ws (sumWord ws ∷ [])
+
+pub two-wrapped : (x y : ℕ) → (x % 4294967296 + y % 4294967296) % 4294967296 % 268435456 ≡ (x + y) % 268435456
+two-wrapped x y = omega arith
+
+-- a word more, and sums that are added
+pub sum-more : (s w : ℕ) (ws : List ℕ) → s % 268435456 ≡ total ws % 268435456 → (s + w) % 4294967296 % 268435456 ≡ total (ws ++ (w ∷ [])) % 268435456
+sum-more s w ws h = wrapped s w (total ws) h ∙ ap (λ (x : ℕ). x % 268435456) (sym (total-snoc ws w))
+
+pub sum-added : (s u : ℕ) (ws vs : List ℕ) → s % 268435456 ≡ total ws % 268435456 → u % 268435456 ≡ total vs % 268435456
+    → (s + u) % 4294967296 % 268435456 ≡ total (ws ++ vs) % 268435456
+sum-added s u ws vs h k =
+    wrapped s u (total ws) h ∙ ap (λ (x : ℕ). (total ws + x) % 268435456) k ∙ last (total ws) (total vs) ∙ ap (λ (x : ℕ). x % 268435456) (sym (total-append ws vs))
+  where
+    last : (a b : ℕ) → (a + b % 268435456) % 268435456 ≡ (a + b) % 268435456
+    last a b = omega arith
 
 -- ---- the words of a clock
 

@@ -105,7 +105,8 @@ fn put_start(n: u32, count: usize, clock: [u32; 8], read: [u32; 8], out: &mut [u
     let head = head_word(n, count as u32, reads as u32);
     out[0] = head;
     crate::word::put_clock(clock, n as usize, out, 1);
-    crate::word::put_ids(read, out, 1 + n as usize)
+    let put = crate::word::put_ids(read, out, 1 + n as usize);
+    put.to
 }
 
 // The words of a token, where there is room for them. The own writes are taken out before out is written to, and only where there are any.

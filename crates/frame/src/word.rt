@@ -42,47 +42,64 @@ pub fn check_sum(ws: &[u32]) -> u32
 
 // ---- writing
 
-// n clock words from at on.
-pub fn put_clock(clock: [u32; 8], n: usize, out: &mut [u32], at: usize)
+// The place behind words that were put, and their sum modulo 2^32: what a check needs of it is the rest modulo 2^28.
+pub struct Put {
+    pub to: usize,
+    pub sum: u32,
+}
+
+// n clock words from at on; gives their sum.
+pub fn put_clock(clock: [u32; 8], n: usize, out: &mut [u32], at: usize) -> u32
     requires { ⌜ (n ≤ 8) × (at + n ≤ length (now out)) × ((j : ℕ) → j < 8 → getD clock j 0 ≤ 32) ⌝ }
-    ensures { λ r. ⌜ now (out .exit) ≡ sets (now (out .entry)) at (clockWords n clock) ⌝ }
+    ensures { λ r. ⌜ (r % 268435456 ≡ total (clockWords n clock) % 268435456) × (now (out .exit) ≡ sets (now (out .entry)) at (clockWords n clock)) ⌝ }
 {
+    let mut sum: u32 = 0;
     for j in 0..n {
         let c = clock[j];
-        out[at + j] = 0x5000_0000 + c;
+        let w = 0x5000_0000 + c;
+        out[at + j] = w;
+        sum = std::num::wrapping_add_u32(sum, w);
     }
+    sum
 }
 
-// The words of count ids, one next to the other, from at on: first is the word of the lowest.
-fn put_run(first: u32, count: usize, out: &mut [u32], at: usize)
+// The words of count ids, one next to the other, from at on: first is the word of the lowest. Gives their sum.
+fn put_run(first: u32, count: usize, out: &mut [u32], at: usize) -> u32
     requires { ⌜ (first ≤ 1879048192) × (count ≤ 32) × (at + count ≤ length (now out)) ⌝ }
-    ensures { λ r. ⌜ now (out .exit) ≡ sets (now (out .entry)) at (tab count (λ i. first + i)) ⌝ }
+    ensures { λ r. ⌜ (r % 268435456 ≡ total (tab count (λ i. first + i)) % 268435456) × (now (out .exit) ≡ sets (now (out .entry)) at (tab count (λ i. first + i))) ⌝ }
 {
+    let mut sum: u32 = 0;
     for i in 0..count {
-        out[at + i] = first + i as u32;
+        let w = first + i as u32;
+        out[at + i] = w;
+        sum = std::num::wrapping_add_u32(sum, w);
     }
+    sum
 }
 
-// The words of the ids in word j of a set, lowest first, from at on; gives the place behind them. One at a time.
-fn put_each(j: usize, w: u32, out: &mut [u32], at: usize) -> usize
+// The words of the ids in word j of a set, lowest first, from at on. One at a time.
+fn put_each(j: usize, w: u32, out: &mut [u32], at: usize) -> Put
     requires { ⌜ (j < 8) × (at + length (idWordsIn j w 32) ≤ length (now out)) ⌝ }
-    ensures { λ r. ⌜ (r ≡ at + length (idWordsIn j w 32)) × (now (out .exit) ≡ sets (now (out .entry)) at (idWordsIn j w 32)) ⌝ }
+    ensures { λ r. ⌜ (r .to ≡ at + length (idWordsIn j w 32)) × (r .sum % 268435456 ≡ total (idWordsIn j w 32) % 268435456) × (now (out .exit) ≡ sets (now (out .entry)) at (idWordsIn j w 32)) ⌝ }
 {
     let first = 0x6000_0001 + 256 * j as u32;
     let mut to = at;
+    let mut sum: u32 = 0;
     let mut rest = w;
     while rest != 0 {
-        out[to] = first + u32::trailing_zeros(rest);
+        let word = first + u32::trailing_zeros(rest);
+        out[to] = word;
+        sum = std::num::wrapping_add_u32(sum, word);
         rest = rest & (rest - 1);
         to += 1;
     }
-    to
+    Put { to, sum }
 }
 
 // The same, where most words of a set have all ids up to some serial.
-fn put_ids_of(j: usize, w: u32, out: &mut [u32], at: usize) -> usize
+fn put_ids_of(j: usize, w: u32, out: &mut [u32], at: usize) -> Put
     requires { ⌜ (j < 8) × (at + length (idWordsIn j w 32) ≤ length (now out)) ⌝ }
-    ensures { λ r. ⌜ (r ≡ at + length (idWordsIn j w 32)) × (now (out .exit) ≡ sets (now (out .entry)) at (idWordsIn j w 32)) ⌝ }
+    ensures { λ r. ⌜ (r .to ≡ at + length (idWordsIn j w 32)) × (r .sum % 268435456 ≡ total (idWordsIn j w 32) % 268435456) × (now (out .exit) ≡ sets (now (out .entry)) at (idWordsIn j w 32)) ⌝ }
 {
     if w < 256 {
         return put_each(j, w, out, at);
@@ -92,21 +109,27 @@ fn put_ids_of(j: usize, w: u32, out: &mut [u32], at: usize) -> usize
         return put_each(j, w, out, at);
     }
     let count = 32 - free as usize;
-    put_run(0x6000_0001 + 256 * j as u32, count, out, at);
-    at + count
+    let sum = put_run(0x6000_0001 + 256 * j as u32, count, out, at);
+    Put {
+        to: at + count,
+        sum,
+    }
 }
 
-// The words of a set of ids, from at on; gives the place behind them.
-pub fn put_ids(ids: [u32; 8], out: &mut [u32], at: usize) -> usize
+// The words of a set of ids, from at on.
+pub fn put_ids(ids: [u32; 8], out: &mut [u32], at: usize) -> Put
     requires { ⌜ at + length (idWords ids) ≤ length (now out) ⌝ }
-    ensures { λ r. ⌜ (r ≡ at + length (idWords ids)) × (now (out .exit) ≡ sets (now (out .entry)) at (idWords ids)) ⌝ }
+    ensures { λ r. ⌜ (r .to ≡ at + length (idWords ids)) × (r .sum % 268435456 ≡ total (idWords ids) % 268435456) × (now (out .exit) ≡ sets (now (out .entry)) at (idWords ids)) ⌝ }
 {
     let mut to = at;
+    let mut sum: u32 = 0;
     for j in 0..8 {
         let w = ids[j];
-        to = put_ids_of(j, w, &mut *out, to);
+        let put = put_ids_of(j, w, &mut *out, to);
+        to = put.to;
+        sum = std::num::wrapping_add_u32(sum, put.sum);
     }
-    to
+    Put { to, sum }
 }
 
 // The check word of the words before end, at end.

@@ -2,7 +2,7 @@
 ghost use mathlib.Core.Path.{_≡_};
 ghost use mathlib.Core.Bool.{true};
 ghost use mathlib.Core.List.{[], _∷_};
-ghost use Prim.Native.Nat.{_+_, _<_, _≤_};
+ghost use Prim.Native.Nat.{_+_, _%_, _<_, _≤_};
 ghost use lib.Dec.{leb};
 ghost use lib.ListN.{length};
 ghost use lib.Seq.{sets};
@@ -29,6 +29,15 @@ fn head_word(office: u32, serial: u32, hops: u32, offices: u32, count: u32) -> u
 {
     0x1000_0000
         + (office * 0x0100_0000 + (serial * 0x1_0000 + (hops * 0x1000 + (offices * 256 + count))))
+}
+
+// The check word of a frame, by the sums of its parts: the kinds of plot and value words fall away.
+fn check_word(head: u32, fields: u32, clocks: u32, deps: u32) -> u32
+    ensures { λ r. ⌜ r ≡ 4026531840 + (head + fields + clocks + deps) % 268435456 ⌝ }
+{
+    let a = std::num::wrapping_add_u32(head, fields);
+    let b = std::num::wrapping_add_u32(clocks, deps);
+    0xF000_0000 + std::num::wrapping_add_u32(a, b) % crate::word::LOW
 }
 
 // How many words a frame takes.
@@ -62,12 +71,13 @@ pub fn put(f: Frame, out: &mut [u32]) -> usize
     let clock = e.clock;
     let deps = e.deps;
     let offices = f.offices;
-    crate::word::put_clock(clock, offices as usize, out, 3);
-    let end = crate::word::put_ids(deps, out, 3 + offices as usize);
+    let clocks = crate::word::put_clock(clock, offices as usize, out, 3);
+    let put = crate::word::put_ids(deps, out, 3 + offices as usize);
+    let end = put.to;
     let count = end - 3 - offices as usize;
     let head = head_word(e.office, e.serial, f.hops, offices, count as u32);
     put_head(out, head, e.plot, e.value);
-    crate::word::put_sum(out, end);
+    out[end] = check_word(head, e.plot + e.value, clocks, put.sum);
     end + 1
 }
 

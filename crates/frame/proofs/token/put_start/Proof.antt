@@ -43,9 +43,9 @@ returns c =
     let z = c .before .before .before .before .before .before .before .before .before .before .before .args in
     let h = c .before .before .before .before .before .before .before .before .head-word .ensures ∙ ap (tokenHead (z .n) (z .count)) (c .before .before .before .before .before .before .before .before .before .size .ensures) in (
       c .before .before .put-ids .ensures .0,
-      c .before .before .put-ids .ensures .1
+      c .before .before .put-ids .ensures .2
           ∙ ap (λ (l : List ℕ). sets l (1 + z .n) (idWords (z .read)))
-          (c .before .before .before .before .before .before .put-clock .ensures ∙ ap (λ (x : ℕ). sets (set (z .out .now) 0 x) 1 (clockWords (z .n) (z .clock))) h),
+          (c .before .before .before .before .before .before .put-clock .ensures .1 ∙ ap (λ (x : ℕ). sets (set (z .out .now) 0 x) 1 (clockWords (z .n) (z .clock))) h),
     )
 
 pub put-start-spec : {M : Type 1} → statement M

@@ -3,6 +3,9 @@ use native.Mathlib.Omega.{arith}
 use lib.Count.{leadingZeros, leading-le, leading-top}
 use lib.Seq.{sets}
 use Rattle.frame.proofs.Turns.{run-is, run-length}
+use Prim.Native.Nat.{ℕ, _%_}
+use mathlib.Core.List.{List}
+use Rattle.frame.specs.Words.{total}
 use borrow.Author.Needs.{needs}
 use Rattle.frame.proofs.word.put_ids_of.Statement.{statement}
 use Rattle.frame.proofs.word.put_ids_of.Tie as tie
@@ -46,14 +49,18 @@ add-put-run c = search needs
 put-run-requires : tie.Need-put-run-requires
 put-run-requires c κs = let z = c .before .before .before .before .args in let l = run-length (z .j) (z .w) (leadingZeros 32 (z .w)) (leading-le 32 (z .w)) (c .before .if2 .left) in (omega arith, omega arith, omega (arith, l, c .before .before .before .before .pre .1))
 
-add-result : tie.Need-add-result
-add-result c = search needs
+add-t14 : tie.Need-add-t14
+add-t14 c = search needs
 
 same-length-3 : tie.Need-same-length-3
 same-length-3 c = search needs
 
 returns-3 : tie.Need-returns-3
-returns-3 c = let z = c .before .before .before .before .before .before .before .args in let f = leadingZeros 32 (z .w) in let l = run-length (z .j) (z .w) f (leading-le 32 (z .w)) (c .before .before .before .before .if2 .left) in (omega (arith, l), c .before .before .put-run .ensures ∙ ap (sets (z .out .now) (z .at)) (sym (run-is (z .j) (z .w) f (leading-le 32 (z .w)) (c .before .before .before .before .if2 .left))))
+returns-3 c =
+    let z = c .before .before .before .before .before .before .before .args in let f = leadingZeros 32 (z .w) in
+    let l = run-length (z .j) (z .w) f (leading-le 32 (z .w)) (c .before .before .before .before .if2 .left) in
+    let r = run-is (z .j) (z .w) f (leading-le 32 (z .w)) (c .before .before .before .before .if2 .left) in
+    (omega (arith, l), c .before .before .put-run .ensures .0 ∙ ap (λ (o : List ℕ). total o % 268435456) (sym r), c .before .before .put-run .ensures .1 ∙ ap (sets (z .out .now) (z .at)) (sym r))
 
 pub put-ids-of-spec : {M : Type 1} → statement M
 put-ids-of-spec =
@@ -72,6 +79,6 @@ put-ids-of-spec =
     mul-put-run
     add-put-run
     put-run-requires
-    add-result
+    add-t14
     same-length-3
     returns-3)

@@ -1,12 +1,12 @@
 use Prim.Native.Nat.{_-_}
 use mathlib.Core.Path.{_≡_, ap, _∙_}
 use native.Mathlib.Omega.{arith}
-use lib.ListN.{length}
+use lib.ListN.{length, set, length-set}
 use Rattle.frame.specs.Words.{idWords}
 use Rattle.frame.specs.Frames.{headWord}
 use Rattle.frame.proofs.Entries.{FrameFacts, frame-facts, EntryFacts, entry-facts, clock-facts}
 use Rattle.frame.proofs.Frames.{HeadFits, head-fits, length-frame}
-use Rattle.frame.proofs.Turns.{head-last, frame-most}
+use Rattle.frame.proofs.Turns.{head-last, body-sum, frame-most}
 use borrow.Author.Needs.{needs}
 use Rattle.frame.proofs.writer.put.Statement.{statement}
 use Rattle.frame.proofs.writer.put.Tie as tie
@@ -53,22 +53,34 @@ head-word-requires c κs = let z = c .before .before .before .before .before .be
 put-head-requires : tie.Need-put-head-requires
 put-head-requires c κs = let z = c .before .before .before .before .before .before .before .before .before .before .before .before .before .before in let f = z .args .f in (omega (arith, z .pre .1, length-frame f, c .before .before .before .before .put-ids .kept .1 .0, c .before .before .before .before .before .before .before .before .put-clock .kept .1 .1 .0), omega (arith, rules z .bounds), rules z .bounds .value-ok)
 
-put-sum-requires : tie.Need-put-sum-requires
-put-sum-requires c κs = let z = c .before .before .before .before .before .before .before .before .before .before .before .before .before .before .before .before .before .before in let f = z .args .f in omega (arith, z .pre .1, length-frame f, c .before .before .before .before .before .before .before .before .put-ids .ensures .0, c .before .before .before .put-head .kept .0, c .before .before .before .before .before .before .before .before .put-ids .kept .1 .0, c .before .before .before .before .before .before .before .before .before .before .before .before .put-clock .kept .1 .1 .0)
+add-check-word : tie.Need-add-check-word
+add-check-word c = let z = c .before .before .before .before .before .before .before .before .before .before .before .before .before .before .before .before .before .before in let f = z .args .f in omega (arith, rules z .bounds)
+
+check-word-requires : tie.Need-check-word-requires
+check-word-requires c κs = search needs
+
+mul-out : tie.Need-mul-out
+mul-out c = search needs
+
+slice-write-out : tie.Need-slice-write-out
+slice-write-out c = let z = c .before .before .before .before .before .before .before .before .before .before .before .before .before .before .before .before .before .before .before in let f = z .args .f in omega (arith, z .pre .1, length-frame f, c .before .before .before .before .before .before .before .before .before .put-ids .ensures .0, c .before .before .before .before .put-head .kept .0, c .before .before .before .before .before .before .before .before .before .put-ids .kept .1 .0, c .before .before .before .before .before .before .before .before .before .before .before .before .before .put-clock .kept .1 .1 .0)
 
 add-result : tie.Need-add-result
-add-result c = let z = c .before .before .before .before .before .before .before .before .before .before .before .before .before .before .before .before .before .before .before .before .before in let f = z .args .f in omega (arith, c .before .before .before .before .before .before .before .before .before .before .before .put-ids .ensures .0, length-frame f, frame-most f (facts z .high))
+add-result c = let z = c .before .before .before .before .before .before .before .before .before .before .before .before .before .before .before .before .before .before .before in let f = z .args .f in omega (arith, c .before .before .before .before .before .before .before .before .before .put-ids .ensures .0, length-frame f, frame-most f (facts z .high))
 
 same-length : tie.Need-same-length
-same-length c = c .before .before .put-sum .kept .0 ∙ c .before .before .before .before .before .before .put-head .kept .0 ∙ c .before .before .before .before .before .before .before .before .before .before .before .put-ids .kept .1 .0 ∙ c .before .before .before .before .before .before .before .before .before .before .before .before .before .before .before .put-clock .kept .1 .1 .0
+same-length c = length-set (c .before .before .before .before .put-head .last .0) (c .before .before .before .before .before .before .before .before .before .put-ids .result .to) (c .check-word .result) ∙ c .before .before .before .before .put-head .kept .0 ∙ c .before .before .before .before .before .before .before .before .before .put-ids .kept .1 .0 ∙ c .before .before .before .before .before .before .before .before .before .before .before .before .before .put-clock .kept .1 .1 .0
 
 returns : tie.Need-returns
 returns c =
-    let z = c .before .before .before .before .before .before .before .before .before .before .before .before .before .before .before .before .before .before .before .before .before in let f = z .args .f in
-    let i = c .before .before .before .before .before .before .before .before .before .before .before .put-ids .ensures in
-    let e : c .before .before .before .before .before .before .before .before .before .before .before .put-ids .result - 3 - f .offices ≡ length (idWords (f .entry .deps)) = omega (arith, i .0) in (
+    let z = c .before .before .before .before .before .before .before .before .before .before .before .before .before .before .before .before .before .before .before in let f = z .args .f in
+    let i = c .before .before .before .before .before .before .before .before .before .put-ids .ensures in
+    let k = c .before .before .before .before .before .before .before .before .before .before .before .before .before .put-clock .ensures in
+    let e : c .before .before .before .before .before .before .before .before .before .put-ids .result .to - 3 - f .offices ≡ length (idWords (f .entry .deps)) = omega (arith, i .0) in
+    let h = c .before .before .before .before .before .before .head-word .ensures ∙ ap (headWord (f .entry .office) (f .entry .serial) (f .hops) (f .offices)) e in
+    let s = c .check-word .ensures ∙ body-sum f (c .before .before .before .before .before .before .head-word .result) (c .before .before .before .before .before .before .before .before .before .before .before .before .before .put-clock .result) (c .before .before .before .before .before .before .before .before .before .put-ids .result .sum) h (k .0) (i .1) in (
       omega (arith, i .0, length-frame f),
-      head-last f (z .args .out .now) _ _ _ _ _ _ (c .before .before .before .before .before .before .before .before .head-word .ensures ∙ ap (headWord (f .entry .office) (f .entry .serial) (f .hops) (f .offices)) e) (c .before .before .before .before .before .before .before .before .before .before .before .before .before .before .before .put-clock .ensures) (i .1) (c .before .before .before .before .before .before .put-head .ensures) (i .0) (c .before .before .put-sum .ensures) (z .pre .1),
+      head-last f (z .args .out .now) _ _ _ _ _ _ h (k .1) (i .2) (c .before .before .before .before .put-head .ensures) (i .0) (ap (set (c .before .before .before .before .put-head .last .0) (c .before .before .before .before .before .before .before .before .before .put-ids .result .to)) s) (z .pre .1),
     )
 
 pub put-spec : {M : Type 1} → statement M
@@ -86,7 +98,10 @@ put-spec =
     cast-head-word
     head-word-requires
     put-head-requires
-    put-sum-requires
+    add-check-word
+    check-word-requires
+    mul-out
+    slice-write-out
     add-result
     same-length
     returns)
