@@ -13,7 +13,6 @@ use borrow.Author.Tests.{le-leb, lt-leb, leb-true}
 use Rattle.causal.specs.Tests.{both, allBelow}
 use Rattle.causal.specs.Codes.{check}
 use Rattle.causal.specs.Lists.{tab}
-use Rattle.causal.specs.Sets.{sizeOf}
 use Rattle.causal.proofs.Tests.{both-true, all-at}
 use Rattle.causal.proofs.Codes.{check-none}
 use Rattle.causal.proofs.Lists.{tab-length, tab-more, sets-append, sets-front, take-front}
@@ -92,6 +91,15 @@ module _ (n : ℕ) (f : ℕ → Entry) where
       ∙ ap (sets o at) (sym (rows-more i))
 
 -- ---- the writer's steps make the writing
+
+-- the words of head, clock and read ids are the front of the row
+pub start-taken : (n h at : ℕ) (o a U D : List ℕ) → length U ≡ n → at ≡ 1 + n + length D → a ≡ sets (sets (set o 0 h) 1 U) (1 + n) D → at ≤ length o
+    → take at a ≡ h ∷ (U ++ D)
+start-taken n h at o a U D u e q l =
+    let k : 1 + n ≡ 0 + length (h ∷ U) = omega arith in
+    let s : a ≡ sets o 0 (h ∷ (U ++ D)) = q ∙ ap (λ (i : ℕ). sets (sets o 0 (h ∷ U)) i D) k ∙ sym (sets-append o 0 (h ∷ U) D) in
+    let m : at ≡ length (h ∷ (U ++ D)) = omega (arith, length-append U D) in
+    ap (take at) s ∙ take-front o (h ∷ (U ++ D)) at m (omega arith)
 
 module _ (s : Content) where
   abbrev H : ℕ
@@ -187,7 +195,7 @@ pub record Writable (s : Session) : Type 0 where
   pub reads : length (idWords (s .read)) ≤ 256
   pub clock : (j : ℕ) → j < 8 → getD (s .clock) j 0 ≤ 32
   pub frames : (i : ℕ) → i < s .count → frameOk (s .offices) 64 (framed (s .offices) 0 (ownsOf (s .own) i)) ≡ true
-  pub head : tokenHead (s .offices) (s .count) (sizeOf (s .read)) ≡ tokenHead (s .offices) (length (contentOf s .own)) (length (idWords (s .read)))
+  pub head : tokenHead (s .offices) (s .count) (length (idWords (s .read))) ≡ tokenHead (s .offices) (length (contentOf s .own)) (length (idWords (s .read)))
   pub size : length (tokenWords (contentOf s)) ≡ s .offices + length (idWords (s .read)) + length (ownRows (s .offices) (tab (s .count) (ownsOf (s .own)))) + 2
 
 pub size-of : (s : Session)
@@ -213,7 +221,7 @@ writable s ring ok =
       reads = omega (arith, ids-size (s .read), size-le (s .read));
       clock = λ j l. clock-facts (s .offices) (s .clock) (F .clock) j l .small;
       frames = λ i l. own-frame (s .offices) 64 (ownsOf (s .own) i) (G .low) (G .high) (turn-entry (s .offices) 64 (s .read) (ownsOf (s .own)) i (all-at (OwnAt (s .offices) 64 (s .read) (ownsOf (s .own))) (s .count) b i l));
-      head = ap (λ (k : ℕ). tokenHead (s .offices) k (sizeOf (s .read))) (sym t) ∙ ap (tokenHead (s .offices) (length (tab (s .count) (ownsOf (s .own))))) (sym (ids-size (s .read)));
+      head = ap (λ (k : ℕ). tokenHead (s .offices) k (length (idWords (s .read)))) (sym t);
       size = size-of s;
     }
 

@@ -204,7 +204,7 @@ frame-filled f out a0 a1 a2 a3 head end eh e0 e1 e2 ee e3 room = whole ∙ sets-
 
 -- the same where the head is put last
 
-set-sets : (l : List ℕ) (i : ℕ) (xs : List ℕ) (j a : ℕ) → j < i → set (sets l i xs) j a ≡ sets (set l j a) i xs
+pub set-sets : (l : List ℕ) (i : ℕ) (xs : List ℕ) (j a : ℕ) → j < i → set (sets l i xs) j a ≡ sets (set l j a) i xs
 set-sets l i [] j a h = refl
 set-sets l i (x ∷ xs) j a h =
     set-sets (set l i x) (suc i) xs j a (omega arith)

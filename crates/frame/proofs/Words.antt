@@ -4,7 +4,7 @@ use mathlib.Core.Path.{_≡_, refl, sym, ap, _∙_}
 use mathlib.Core.Bool.{Bool, true, false, cond}
 use mathlib.Core.Logic.{_⊎_, inl, inr, ⊎-elim}
 use mathlib.Core.List.{List, [], _∷_, _++_, foldl, foldl-append, append-assoc, append-nil}
-use native.Mathlib.Nat.{add-zero, add-suc, le-refl}
+use native.Mathlib.Nat.{add-comm, add-zero, add-suc, le-refl}
 use native.Mathlib.Numerals.{add-one}
 use native.Mathlib.Omega.{arith}
 use lib.Dec.{leb, ltb, eqb}
@@ -113,6 +113,10 @@ two-wrapped x y = omega arith
 -- a word more, and sums that are added
 pub sum-more : (s w : ℕ) (ws : List ℕ) → s % 268435456 ≡ total ws % 268435456 → (s + w) % 4294967296 % 268435456 ≡ total (ws ++ (w ∷ [])) % 268435456
 sum-more s w ws h = wrapped s w (total ws) h ∙ ap (λ (x : ℕ). x % 268435456) (sym (total-snoc ws w))
+
+pub sum-first : (s w : ℕ) (ws : List ℕ) → s % 268435456 ≡ total ws % 268435456 → (s + w) % 4294967296 % 268435456 ≡ total (w ∷ ws) % 268435456
+unfolding total
+sum-first s w ws h = wrapped s w (total ws) h ∙ ap (λ (x : ℕ). x % 268435456) (add-comm (total ws) (payload w))
 
 pub sum-added : (s u : ℕ) (ws vs : List ℕ) → s % 268435456 ≡ total ws % 268435456 → u % 268435456 ≡ total vs % 268435456
     → (s + u) % 4294967296 % 268435456 ≡ total (ws ++ vs) % 268435456

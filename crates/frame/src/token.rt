@@ -1,15 +1,14 @@
 // Tokens (01: slips): a session as a row of words.
 ghost use mathlib.Core.Path.{_≡_};
 ghost use mathlib.Core.Bool.{true, false, cond};
-ghost use mathlib.Core.List.{[]};
-ghost use Prim.Native.Nat.{ℕ, _+_, _<_, _≤_};
+ghost use mathlib.Core.List.{[], _∷_, _++_};
+ghost use Prim.Native.Nat.{ℕ, _+_, _%_, _<_, _≤_};
 ghost use lib.ListN.{length, getD, take, set};
 ghost use lib.Seq.{sets};
 ghost use Rattle.causal.specs.Codes.{check};
 ghost use Rattle.causal.specs.Lists.{tab};
-ghost use Rattle.causal.specs.Sets.{sizeOf};
-ghost use Rattle.frame.specs.Words.{clockWords, idWords};
 ghost use Rattle.frame.specs.Entries.{idsOk};
+ghost use Rattle.frame.specs.Words.{clockWords, idWords, total};
 ghost use Rattle.frame.specs.Refusals.{numberOf, codeOf, replyOf};
 ghost use Rattle.frame.specs.Frames.{ringOk, framed, frameOk, frameOf};
 ghost use Rattle.frame.specs.Calls.{laid};
@@ -23,6 +22,7 @@ use crate::refusal::Refusal;
 use crate::refusal::Status;
 use crate::refusal::Written;
 use crate::session::Session;
+use crate::word::Put;
 
 // ---- writing
 
@@ -95,18 +95,24 @@ fn put_owns(n: u32, own: [Entry; 16], count: usize, out: &mut [u32], at: usize) 
     to
 }
 
-// The head, the clock and the read ids; gives the place behind them.
-fn put_start(n: u32, count: usize, clock: [u32; 8], read: [u32; 8], out: &mut [u32]) -> usize
+// The head, the clock and the read ids. The head is put behind what it counts.
+fn put_start(n: u32, count: usize, clock: [u32; 8], read: [u32; 8], out: &mut [u32]) -> Put
     requires { ⌜ (n ≤ 8) × (count ≤ 16) × ((j : ℕ) → j < 8 → getD clock j 0 ≤ 32) × (1 + n + length (idWords read) ≤ length (now out)) ⌝ }
-    ensures { λ r. ⌜ (r ≡ 1 + n + length (idWords read))
-        × (now (out .exit) ≡ sets (sets (set (now (out .entry)) 0 (tokenHead n count (sizeOf read))) 1 (clockWords n clock)) (1 + n) (idWords read)) ⌝ }
+    ensures { λ r. ⌜ (r .to ≡ 1 + n + length (idWords read))
+        × (r .sum % 268435456 ≡ total (tokenHead n count (length (idWords read)) ∷ (clockWords n clock ++ idWords read)) % 268435456)
+        × (now (out .exit) ≡ sets (sets (set (now (out .entry)) 0 (tokenHead n count (length (idWords read)))) 1 (clockWords n clock)) (1 + n) (idWords read)) ⌝ }
 {
-    let reads = causal::set::size(read);
+    let clocks = crate::word::put_clock(clock, n as usize, out, 1);
+    let put = crate::word::put_ids(read, out, 1 + n as usize);
+    let to = put.to;
+    let reads = to - 1 - n as usize;
     let head = head_word(n, count as u32, reads as u32);
     out[0] = head;
-    crate::word::put_clock(clock, n as usize, out, 1);
-    let put = crate::word::put_ids(read, out, 1 + n as usize);
-    put.to
+    let rest = std::num::wrapping_add_u32(clocks, put.sum);
+    Put {
+        to,
+        sum: std::num::wrapping_add_u32(rest, head),
+    }
 }
 
 // The words of a token, where there is room for them. The own writes are taken out before out is written to, and only where there are any.
@@ -118,13 +124,14 @@ fn fill(s: Session, out: &mut [u32])
     let read = s.read;
     let n = s.offices;
     if s.count == 0 {
-        let end = put_start(n, 0, clock, read, out);
-        crate::word::put_sum(out, end);
+        let put = put_start(n, 0, clock, read, out);
+        let end = put.to;
+        out[end] = 0xF000_0000 + put.sum % crate::word::LOW;
         return;
     }
     let own = s.own;
-    let at = put_start(n, s.count, clock, read, out);
-    let end = put_owns(n, own, s.count, out, at);
+    let put = put_start(n, s.count, clock, read, out);
+    let end = put_owns(n, own, s.count, out, put.to);
     crate::word::put_sum(out, end);
 }
 
