@@ -14,10 +14,10 @@ use Rattle.causal.proofs.Tests.{both-true}
 use Rattle.frame.specs.declared.entry.Frame.{Frame}
 use Rattle.frame.specs.Entries.{idsOk, entryOk}
 use Rattle.frame.specs.Words.{kindIs, idsFrom, clockFrom}
-use Rattle.frame.specs.Frames.{ringOk, officesIn, countIn, frameOf, accepts, blankFrame}
+use Rattle.frame.specs.Frames.{ringOk, officesIn, countIn, frameOk, frameOf, accepts, blankFrame}
 use Rattle.frame.specs.Reading.{shapeOk, kindsOk, ascends, sumOk, checked, frameAt}
 use Rattle.frame.specs.Calls.{readFrameCode, frameIf, readFrame}
-use Rattle.frame.proofs.Entries.{ring-facts}
+use Rattle.frame.proofs.Entries.{ring-facts, frame-facts}
 use Rattle.frame.proofs.Ascents.{ids-range}
 use Rattle.frame.proofs.Frames.{checks-accept}
 
@@ -74,6 +74,10 @@ module _ (n p : ℕ) (ws : List ℕ) where
   unfolding readFrame frameIf
   read-refused c code f e q b = (q ∙ sym e, b ∙ ap (λ (k : ℕ). frameIf k ws) (sym e))
 
+  -- a row that has no frame
+  pub no-frame : (f : Frame) → readFrameCode n p ws ≡ 9 → f ≡ blankFrame → f ≡ readFrame n p ws
+  no-frame f e b = read-refused 8 9 f e refl b .1
+
   pub settings-refused : ringOk n p ≡ false → readFrameCode n p ws ≡ 1
   unfolding readFrameCode check
   settings-refused e = rw e refl
@@ -114,3 +118,21 @@ module _ (n p : ℕ) (ws : List ℕ) where
       let c : checked n p ws ≡ true = rw (s, k, a) e in
       let d : accepts n p ws ≡ true = sym (checks-accept n p ws (g .low) (g .high)) ∙ c in
       (rw (r, d) refl, rw (r, d) q)
+
+  -- an accepted frame has offices, and where none was accepted there are none
+  pub told : ringOk n p ≡ true → (f : Frame) → f ≡ readFrame n p ws
+      → (f .offices ≡ 0 → 9 ≡ readFrameCode n p ws) × ((f .offices ≡ 0 → ⊥) → 0 ≡ readFrameCode n p ws)
+  unfolding readFrameCode readFrame frameIf check accepts
+  told r f q = go (accepts n p ws) refl
+    where
+      go : (b : Bool) → accepts n p ws ≡ b → (f .offices ≡ 0 → 9 ≡ readFrameCode n p ws) × ((f .offices ≡ 0 → ⊥) → 0 ≡ readFrameCode n p ws)
+      go true e =
+          let c : readFrameCode n p ws ≡ 0 = rw (r, e) refl in
+          let i : f ≡ frameOf ws = q ∙ ap (λ (k : ℕ). frameIf k ws) c in
+          let o = frame-facts n p (frameOf ws) (both-true (frameOk n p (frameOf ws)) _ e .0) in
+          let m : f .offices ≡ n = ap (λ (x : Frame). x .offices) i ∙ o .ring in
+          (λ (z : f .offices ≡ 0). absurd (omega (arith, m, o .low)), λ z. sym c)
+      go false e =
+          let c : readFrameCode n p ws ≡ 9 = rw (r, e) refl in
+          let i : f ≡ blankFrame = q ∙ ap (λ (k : ℕ). frameIf k ws) c in
+          (λ z. sym c, λ z. absurd (z (ap (λ (x : Frame). x .offices) i)))

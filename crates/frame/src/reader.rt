@@ -6,7 +6,8 @@ ghost use lib.Dec.{leb, eqb};
 ghost use lib.ListN.{length, getD};
 ghost use Rattle.causal.specs.Sets.{isIn};
 ghost use Rattle.frame.specs.Refusals.{numberOf, codeOf};
-ghost use Rattle.frame.specs.Frames.{blankFrame};
+ghost use Rattle.frame.specs.Frames.{ringOk, blankFrame};
+ghost use Rattle.frame.specs.Calls.{readFrame};
 ghost use Rattle.causal.specs.Tests.{both};
 ghost use Rattle.frame.specs.Entries.{clockOk, idsOk, entryOk};
 ghost use Rattle.frame.specs.Reading.{shapeOk, kindsOk, sumOk, frameAt};
@@ -21,15 +22,22 @@ pub struct FrameRead {
     pub frame: Frame, // all zeros on a refusal
 }
 
-fn refused(refusal: Refusal) -> FrameRead
-    ensures { λ r. ⌜ (codeOf (r .status) ≡ numberOf refusal) × (r .frame ≡ blankFrame) ⌝ }
+// What stands where there is no frame.
+fn blank_frame() -> Frame
+    ensures { λ r. ⌜ r ≡ blankFrame ⌝ }
 {
     let entry = crate::entry::blank_entry();
-    let frame = Frame {
+    Frame {
         offices: 0,
         hops: 0,
         entry,
-    };
+    }
+}
+
+fn refused(refusal: Refusal) -> FrameRead
+    ensures { λ r. ⌜ (codeOf (r .status) ≡ numberOf refusal) × (r .frame ≡ blankFrame) ⌝ }
+{
+    let frame = blank_frame();
     FrameRead {
         status: Status::Refused(refusal),
         frame,
@@ -132,28 +140,43 @@ fn content_ok(ws: &[u32], n: u32, p: u32, f: Frame) -> bool
     crate::word::sum_ok(ws)
 }
 
-// 01: read a frame.
+// The frame that a row has, all zeros where it has none.
+pub fn frame_from(ws: &[u32], offices: u32, plots: u32) -> Frame
+    requires { ⌜ ringOk offices plots ≡ true ⌝ }
+    ensures { λ r. ⌜ r ≡ readFrame offices plots (now (ws .entry)) ⌝ }
+{
+    if !shape_ok(ws, offices) {
+        return blank_frame();
+    }
+    if !kinds_ok(ws, offices) {
+        return blank_frame();
+    }
+    let from = 3 + offices as usize;
+    let end = ws.len() - 1;
+    if !crate::word::ids_ascend(&ws[from..end], offices) {
+        return blank_frame();
+    }
+    let deps = crate::word::ids_from(&ws[from..end]);
+    let frame = frame_of(ws, offices, deps);
+    if !content_ok(ws, offices, plots, frame) {
+        return blank_frame();
+    }
+    frame
+}
+
+// 01: read a frame. Only the answer is made here: a caller then sees which it is, and copies no more than the frame.
 pub fn read_frame(ws: &[u32], offices: u32, plots: u32) -> FrameRead
     ensures { λ r. ⌜ ReadFramePromise (now (ws .entry)) offices plots (codeOf (r .status)) (r .frame) ⌝ }
 {
     if !crate::entry::ring_ok(offices, plots) {
         return refused(Refusal::Settings);
     }
-    if !shape_ok(ws, offices) {
-        return refused(Refusal::Format);
-    }
-    if !kinds_ok(ws, offices) {
-        return refused(Refusal::Format);
-    }
-    let from = 3 + offices as usize;
-    let end = ws.len() - 1;
-    if !crate::word::ids_ascend(&ws[from..end], offices) {
-        return refused(Refusal::Format);
-    }
-    let deps = crate::word::ids_from(&ws[from..end]);
-    let frame = frame_of(ws, offices, deps);
-    if !content_ok(ws, offices, plots, frame) {
-        return refused(Refusal::Format);
+    let frame = frame_from(ws, offices, plots);
+    if frame.offices == 0 {
+        return FrameRead {
+            status: Status::Refused(Refusal::Format),
+            frame,
+        };
     }
     FrameRead {
         status: Status::Accepted,

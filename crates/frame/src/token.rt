@@ -230,12 +230,10 @@ fn own_from(ws: &[u32], n: u32, p: u32) -> OwnRead
     if words > ws.len() {
         return no_own();
     }
-    let read = crate::reader::read_frame(&ws[..words], n, p);
-    let status = read.status;
-    if crate::refusal::code_of(status) != 0 {
+    let frame = crate::reader::frame_from(&ws[..words], n, p);
+    if frame.offices == 0 {
         return no_own();
     }
-    let frame = read.frame;
     let entry = frame.entry;
     OwnRead {
         entry,

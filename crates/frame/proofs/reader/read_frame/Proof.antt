@@ -1,52 +1,15 @@
-use lib.Dec.{leb}
+use mathlib.Core.Path.{_≡_, sym, _∙_}
 use mathlib.Core.Bool.{true}
-use lib.ListN.{length, take, drop}
 use borrow.Author.Tests.{not-true, not-false}
-use Rattle.causal.specs.Tests.{both}
-use Rattle.frame.specs.declared.entry.Frame.{Frame}
 use Rattle.frame.specs.Refusals.{numberOf, codeOf}
-use Rattle.frame.specs.Entries.{entryOk}
-use Rattle.causal.specs.Lists.{part}
-use Rattle.frame.specs.Words.{idsFrom}
-use Rattle.frame.specs.Frames.{ringOk, countIn, frameOf}
-use Rattle.frame.proofs.Ascents.{ascends-wider}
-use Rattle.frame.specs.Reading.{ascends, sumOk, shapeOk, kindsOk}
-use Rattle.frame.proofs.Entries.{ring-facts}
-use Rattle.frame.proofs.Reading.{Shape, in-range, shape-facts, deps-between, frame-at, read-refused, settings-refused, shape-refused, kinds-refused, ids-refused, content-refused, accepted}
-use native.Mathlib.Omega.{arith}
-use Prim.Native.Nat.{_+_, _-_, _≤_}
-use mathlib.Core.Path.{_≡_, sym, ap, _∙_}
+use Rattle.frame.specs.Frames.{ringOk}
+use Rattle.frame.proofs.Reading.{read-refused, settings-refused, told}
 use borrow.Author.Needs.{needs}
 use Rattle.frame.proofs.reader.read_frame.Statement.{statement}
 use Rattle.frame.proofs.reader.read_frame.Tie as tie
 
--- what is known behind each test, and of what was read
 ring : (c : tie.Else1) → ringOk (c .before .before .before .args .offices) (c .before .before .before .args .plots) ≡ true
 ring c = sym (c .before .ring-ok .ensures) ∙ not-false _ (c .if1 .left)
-
-shape : (c : tie.Else2) → shapeOk (c .before .before .before .before .before .args .offices) (c .before .before .before .before .before .args .ws .now) ≡ true
-shape c = sym (c .before .shape-ok .ensures) ∙ not-false _ (c .if2 .left)
-
-whole : (c : tie.Else2) → Shape (c .before .before .before .before .before .args .offices) (c .before .before .before .before .before .args .ws .now)
-whole c = shape-facts (c .before .before .before .before .before .args .offices) (c .before .before .before .before .before .args .ws .now) (shape c)
-
-kinds : (c : tie.Else3) → kindsOk (c .before .before .before .before .before .before .before .args .offices) (c .before .before .before .before .before .before .before .args .ws .now) ≡ true
-kinds c = sym (c .before .kinds-ok .ensures) ∙ not-false _ (c .if3 .left)
-
-between : (c : tie.Else3) → take (length (c .before .before .before .before .before .before .before .args .ws .now) - 1 - (3 + (c .before .before .before .before .before .before .before .args .offices))) (drop (3 + (c .before .before .before .before .before .before .before .args .offices)) (c .before .before .before .before .before .before .before .args .ws .now)) ≡ part (c .before .before .before .before .before .before .before .args .ws .now) (3 + (c .before .before .before .before .before .before .before .args .offices)) (countIn (c .before .before .before .before .before .before .before .args .ws .now))
-between c = deps-between (c .before .before .before .before .before .before .before .args .offices) (c .before .before .before .before .before .before .before .args .plots) (c .before .before .before .before .before .before .before .args .ws .now) (whole (c .before .before))
-
-up : (c : tie.Else4) → ascends (c .before .before .before .before .before .before .before .before .before .before .args .offices) 0 (part (c .before .before .before .before .before .before .before .before .before .before .args .ws .now) (3 + (c .before .before .before .before .before .before .before .before .before .before .args .offices)) (countIn (c .before .before .before .before .before .before .before .before .before .before .args .ws .now))) ≡ true
-up c = ap (ascends (c .before .before .before .before .before .before .before .before .before .before .args .offices) 0) (sym (between (c .before .before .before))) ∙ sym (c .before .ids-ascend .ensures) ∙ not-false _ (c .if4 .left)
-
-deps : (c : tie.After-ids-from) → c .ids-from .result ≡ idsFrom (part (c .before .before .before .before .before .before .before .before .before .before .before .before .args .ws .now) (3 + (c .before .before .before .before .before .before .before .before .before .before .before .before .args .offices)) (countIn (c .before .before .before .before .before .before .before .before .before .before .before .before .args .ws .now)))
-deps c = c .ids-from .ensures ∙ ap idsFrom (between (c .before .before .before .before .before))
-
-frame : (c : tie.After-frame-of) → c .frame-of .result ≡ frameOf (c .before .before .before .before .before .before .before .before .before .before .before .before .before .args .ws .now)
-frame c = c .frame-of .ensures ∙ frame-at (c .before .before .before .before .before .before .before .before .before .before .before .before .before .args .offices) (c .before .before .before .before .before .before .before .before .before .before .before .before .before .args .plots) (c .before .before .before .before .before .before .before .before .before .before .before .before .before .args .ws .now) (whole (c .before .before .before .before .before .before .before .before)) _ (deps (c .before))
-
-asked : (c : tie.After-content-ok) → c .content-ok .result ≡ both (leb (frameOf (c .before .before .before .before .before .before .before .before .before .before .before .before .before .before .args .ws .now) .hops) ((c .before .before .before .before .before .before .before .before .before .before .before .before .before .before .args .offices) - 2)) (both (entryOk (c .before .before .before .before .before .before .before .before .before .before .before .before .before .before .args .offices) (c .before .before .before .before .before .before .before .before .before .before .before .before .before .before .args .plots) (frameOf (c .before .before .before .before .before .before .before .before .before .before .before .before .before .before .args .ws .now) .entry)) (sumOk (c .before .before .before .before .before .before .before .before .before .before .before .before .before .before .args .ws .now)))
-asked c = c .content-ok .ensures ∙ ap (λ (f : Frame). both (leb (f .hops) ((c .before .before .before .before .before .before .before .before .before .before .before .before .before .before .args .offices) - 2)) (both (entryOk (c .before .before .before .before .before .before .before .before .before .before .before .before .before .before .args .offices) (c .before .before .before .before .before .before .before .before .before .before .before .before .before .before .args .plots) (f .entry)) (sumOk (c .before .before .before .before .before .before .before .before .before .before .before .before .before .before .args .ws .now)))) (frame (c .before))
 
 ring-ok-requires : tie.Need-ring-ok-requires
 ring-ok-requires c κs = search needs
@@ -58,117 +21,18 @@ returns : tie.Need-returns
 unfolding numberOf
 returns c = read-refused (c .before .before .before .before .args .offices) (c .before .before .before .before .args .plots) (c .before .before .before .before .args .ws .now) 0 _ _ (settings-refused (c .before .before .before .before .args .offices) (c .before .before .before .before .args .plots) (c .before .before .before .before .args .ws .now) (sym (c .before .before .ring-ok .ensures) ∙ not-true _ (c .before .if1 .taken))) (c .refused .ensures .0) (c .refused .ensures .1)
 
-shape-ok-requires : tie.Need-shape-ok-requires
-shape-ok-requires c κs = ring-facts (c .before .before .before .args .offices) (c .before .before .before .args .plots) (ring c) .high
-
-refused-requires-2 : tie.Need-refused-requires-2
-refused-requires-2 c κs = search needs
+frame-from-requires : tie.Need-frame-from-requires
+frame-from-requires c κs = ring c
 
 returns-2 : tie.Need-returns-2
-unfolding numberOf
-returns-2 c = read-refused (c .before .before .before .before .before .before .args .offices) (c .before .before .before .before .before .before .args .plots) (c .before .before .before .before .before .before .args .ws .now) 8 _ _ (shape-refused (c .before .before .before .before .before .before .args .offices) (c .before .before .before .before .before .before .args .plots) (c .before .before .before .before .before .before .args .ws .now) (ring (c .before .before .before)) (sym (c .before .before .shape-ok .ensures) ∙ not-true _ (c .before .if2 .taken))) (c .refused2 .ensures .0) (c .refused2 .ensures .1)
-
-kinds-ok-requires : tie.Need-kinds-ok-requires
-kinds-ok-requires c κs = (ring-facts (c .before .before .before .before .before .args .offices) (c .before .before .before .before .before .args .plots) (ring (c .before .before)) .high, omega (arith, whole c .exact))
-
-refused-requires-3 : tie.Need-refused-requires-3
-refused-requires-3 c κs = search needs
+unfolding codeOf numberOf
+returns-2 c = let q = c .before .before .frame-from .ensures in (told (c .before .before .before .before .before .before .args .offices) (c .before .before .before .before .before .before .args .plots) (c .before .before .before .before .before .before .args .ws .now) (ring (c .before .before .before)) _ q .0 (c .if2 .taken), q)
 
 returns-3 : tie.Need-returns-3
-unfolding numberOf
-returns-3 c = read-refused (c .before .before .before .before .before .before .before .before .args .offices) (c .before .before .before .before .before .before .before .before .args .plots) (c .before .before .before .before .before .before .before .before .args .ws .now) 8 _ _ (kinds-refused (c .before .before .before .before .before .before .before .before .args .offices) (c .before .before .before .before .before .before .before .before .args .plots) (c .before .before .before .before .before .before .before .before .args .ws .now) (ring (c .before .before .before .before .before)) (shape (c .before .before .before)) (sym (c .before .before .kinds-ok .ensures) ∙ not-true _ (c .before .if3 .taken))) (c .refused3 .ensures .0) (c .refused3 .ensures .1)
-
-add-from : tie.Need-add-from
-add-from c = search needs
-
-sub-end : tie.Need-sub-end
-sub-end c = omega (arith, whole (c .before .before) .exact)
-
-mul-ids-ascend : tie.Need-mul-ids-ascend
-mul-ids-ascend c = search needs
-
-sub-ids-ascend : tie.Need-sub-ids-ascend
-sub-ids-ascend c = omega (arith, whole (c .before .before) .exact)
-
-part-ids-ascend-start : tie.Need-part-ids-ascend-start
-part-ids-ascend-start c = let q : 3 + (c .before .before .before .before .before .before .before .args .offices) ≤ length (c .before .before .before .before .before .before .before .args .ws .now) - 1 = omega (arith, whole (c .before .before) .exact) in q
-
-part-ids-ascend-end : tie.Need-part-ids-ascend-end
-part-ids-ascend-end c = search needs
-
-ids-ascend-requires : tie.Need-ids-ascend-requires
-ids-ascend-requires c κs = search needs
-
-refused-requires-4 : tie.Need-refused-requires-4
-refused-requires-4 c κs = search needs
-
-returns-4 : tie.Need-returns-4
-unfolding numberOf
-returns-4 c = read-refused (c .before .before .before .before .before .before .before .before .before .before .before .args .offices) (c .before .before .before .before .before .before .before .before .before .before .before .args .plots) (c .before .before .before .before .before .before .before .before .before .before .before .args .ws .now) 8 _ _ (ids-refused (c .before .before .before .before .before .before .before .before .before .before .before .args .offices) (c .before .before .before .before .before .before .before .before .before .before .before .args .plots) (c .before .before .before .before .before .before .before .before .before .before .before .args .ws .now) (ring (c .before .before .before .before .before .before .before .before)) (shape (c .before .before .before .before .before .before)) (kinds (c .before .before .before .before)) (ap (ascends (c .before .before .before .before .before .before .before .before .before .before .before .args .offices) 0) (sym (between (c .before .before .before .before))) ∙ sym (c .before .before .ids-ascend .ensures) ∙ not-true _ (c .before .if4 .taken))) (c .refused4 .ensures .0) (c .refused4 .ensures .1)
-
-mul-ids-from : tie.Need-mul-ids-from
-mul-ids-from c = search needs
-
-sub-ids-from : tie.Need-sub-ids-from
-sub-ids-from c = omega (arith, whole (c .before .before .before .before .before) .exact)
-
-part-ids-from-start : tie.Need-part-ids-from-start
-part-ids-from-start c = let q : 3 + (c .before .before .before .before .before .before .before .before .before .before .args .offices) ≤ length (c .before .before .before .before .before .before .before .before .before .before .args .ws .now) - 1 = omega (arith, whole (c .before .before .before .before .before) .exact) in q
-
-part-ids-from-end : tie.Need-part-ids-from-end
-part-ids-from-end c = search needs
-
-ids-from-requires : tie.Need-ids-from-requires
-ids-from-requires c κs = ascends-wider (c .before .before .before .before .before .before .before .before .before .before .before .args .offices) 8 0 _ (ring-facts (c .before .before .before .before .before .before .before .before .before .before .before .args .offices) (c .before .before .before .before .before .before .before .before .before .before .before .args .plots) (ring (c .before .before .before .before .before .before .before .before)) .high) (sym (c .before .before .ids-ascend .ensures) ∙ not-false _ (c .before .if4 .left))
-
-frame-of-requires : tie.Need-frame-of-requires
-frame-of-requires c κs = (ring-facts (c .before .before .before .before .before .before .before .before .before .before .before .before .args .offices) (c .before .before .before .before .before .before .before .before .before .before .before .before .args .plots) (ring (c .before .before .before .before .before .before .before .before .before)) .high, omega (arith, whole (c .before .before .before .before .before .before .before) .exact))
-
-content-ok-requires : tie.Need-content-ok-requires
-content-ok-requires c κs =
-    let g = ring-facts (c .before .before .before .before .before .before .before .before .before .before .before .before .before .args .offices) (c .before .before .before .before .before .before .before .before .before .before .before .before .before .args .plots) (ring (c .before .before .before .before .before .before .before .before .before .before)) in
-    (g .low, g .high, omega (arith, whole (c .before .before .before .before .before .before .before .before) .exact), in-range (c .before .before .before .before .before .before .before .before .before .before .before .before .before .args .offices) (c .before .before .before .before .before .before .before .before .before .before .before .before .before .args .ws .now) (c .frame-of .result) (whole (c .before .before .before .before .before .before .before .before)) (up (c .before .before .before)) (frame c))
-
-refused-requires-5 : tie.Need-refused-requires-5
-refused-requires-5 c κs = search needs
-
-returns-5 : tie.Need-returns-5
-unfolding numberOf
-returns-5 c = read-refused (c .before .before .before .before .before .before .before .before .before .before .before .before .before .before .before .before .args .offices) (c .before .before .before .before .before .before .before .before .before .before .before .before .before .before .before .before .args .plots) (c .before .before .before .before .before .before .before .before .before .before .before .before .before .before .before .before .args .ws .now) 8 _ _ (content-refused (c .before .before .before .before .before .before .before .before .before .before .before .before .before .before .before .before .args .offices) (c .before .before .before .before .before .before .before .before .before .before .before .before .before .before .before .before .args .plots) (c .before .before .before .before .before .before .before .before .before .before .before .before .before .before .before .before .args .ws .now) (ring (c .before .before .before .before .before .before .before .before .before .before .before .before .before)) (shape (c .before .before .before .before .before .before .before .before .before .before .before)) (kinds (c .before .before .before .before .before .before .before .before .before)) (up (c .before .before .before .before .before .before)) (sym (asked (c .before .before)) ∙ not-true _ (c .before .if5 .taken))) (c .refused5 .ensures .0) (c .refused5 .ensures .1)
-
-returns-6 : tie.Need-returns-6
 unfolding codeOf
-returns-6 c = accepted (c .before .before .before .before .before .before .before .before .before .before .before .before .before .before .before .args .offices) (c .before .before .before .before .before .before .before .before .before .before .before .before .before .before .before .args .plots) (c .before .before .before .before .before .before .before .before .before .before .before .before .before .before .before .args .ws .now) (ring (c .before .before .before .before .before .before .before .before .before .before .before .before)) (shape (c .before .before .before .before .before .before .before .before .before .before)) (kinds (c .before .before .before .before .before .before .before .before)) (up (c .before .before .before .before .before)) (sym (asked (c .before)) ∙ not-false _ (c .if5 .left)) _ (frame (c .before .before))
+returns-3 c = let q = c .before .before .frame-from .ensures in (told (c .before .before .before .before .before .before .args .offices) (c .before .before .before .before .before .before .args .plots) (c .before .before .before .before .before .before .args .ws .now) (ring (c .before .before .before)) _ q .1 (c .if2 .left), q)
 
 pub read-frame-spec : {M : Type 1} → statement M
 read-frame-spec =
     tie.close
-    (tie.spec
-    ring-ok-requires
-    refused-requires
-    returns
-    shape-ok-requires
-    refused-requires-2
-    returns-2
-    kinds-ok-requires
-    refused-requires-3
-    returns-3
-    add-from
-    sub-end
-    mul-ids-ascend
-    sub-ids-ascend
-    part-ids-ascend-start
-    part-ids-ascend-end
-    ids-ascend-requires
-    refused-requires-4
-    returns-4
-    mul-ids-from
-    sub-ids-from
-    part-ids-from-start
-    part-ids-from-end
-    ids-from-requires
-    frame-of-requires
-    content-ok-requires
-    refused-requires-5
-    returns-5
-    returns-6)
+    (tie.spec ring-ok-requires refused-requires returns frame-from-requires returns-2 returns-3)

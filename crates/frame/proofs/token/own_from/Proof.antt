@@ -5,6 +5,8 @@ use Rattle.causal.proofs.Tests.{false-true}
 use Rattle.frame.specs.Tokens.{frameLength}
 use Rattle.frame.proofs.Entries.{ring-facts}
 use Rattle.frame.proofs.TokenTurns as T
+use lib.ListN.{take}
+use Rattle.frame.proofs.Reading.{told}
 use borrow.Author.Needs.{needs}
 use Rattle.frame.proofs.token.own_from.Statement.{statement}
 use Rattle.frame.proofs.token.own_from.Tie as tie
@@ -33,23 +35,27 @@ no-own-requires-2 c κs = search needs
 returns-2 : tie.Need-returns-2
 returns-2 c = let z = c .before .before .before .before .before .args in let n = z .n in let p = z .p in let ws = z .ws .now in (c .no-own2 .ensures ∙ sym (T.own-short n p ws (omega arith)), λ q. false-true (sym (c .no-own2 .ensures) ∙ q))
 
-slice-aggregate-read-frame : tie.Need-slice-aggregate-read-frame
-slice-aggregate-read-frame c = let z = c .before .before .before .before .before .args in let n = z .n in let p = z .p in let ws = z .ws .now in sym (length-take-le (frameLength n ws) ws (omega arith))
+slice-aggregate-frame-from : tie.Need-slice-aggregate-frame-from
+slice-aggregate-frame-from c = let z = c .before .before .before .before .before .args in let n = z .n in let p = z .p in let ws = z .ws .now in sym (length-take-le (frameLength n ws) ws (omega arith))
 
-read-frame-requires : tie.Need-read-frame-requires
-read-frame-requires c κs = search needs
-
-code-of-requires : tie.Need-code-of-requires
-code-of-requires c κs = search needs
+frame-from-requires : tie.Need-frame-from-requires
+frame-from-requires c κs = search needs
 
 no-own-requires-3 : tie.Need-no-own-requires-3
 no-own-requires-3 c κs = search needs
 
 returns-3 : tie.Need-returns-3
-returns-3 c = let z = c .before .before .before .before .before .before .before .before .before .args in let n = z .n in let p = z .p in let ws = z .ws .now in (c .no-own3 .ensures ∙ sym (T.own-bad n p ws (c .before .before .before .before .before .before .before .before .before .pre) (omega arith) (λ e. c .before .if3 .taken (c .before .before .code-of .ensures ∙ c .before .before .before .read-frame .ensures .0 ∙ e))), λ q. false-true (sym (c .no-own3 .ensures) ∙ q))
+returns-3 c =
+    let z = c .before .before .before .before .before .before .before .before .before .args in let n = z .n in let p = z .p in let ws = z .ws .now in let L = frameLength n ws in
+    let t = told n p (take L ws) (c .before .before .before .before .before .before .before .before .before .pre) _ (c .before .before .before .frame-from .ensures) .0 (c .before .if3 .taken) in
+    (c .no-own3 .ensures ∙ sym (T.own-bad n p ws (c .before .before .before .before .before .before .before .before .before .pre) (omega arith) (λ e. omega (arith, t, e))), λ q. false-true (sym (c .no-own3 .ensures) ∙ q))
 
 returns-4 : tie.Need-returns-4
-returns-4 c = let z = c .before .before .before .before .before .before .before .before .before .before .before .args in let n = z .n in let p = z .p in let ws = z .ws .now in let g = T.own-good n p ws (omega arith) (c .before .before .before .before .before .read-frame .result .frame) (sym (c .before .before .before .before .before .read-frame .ensures .0) ∙ sym (c .before .before .before .before .code-of .ensures) ∙ c .before .before .before .if3 .left) (c .before .before .before .before .before .read-frame .ensures .1) in (g .0, λ q. (refl, g .1))
+returns-4 c =
+    let z = c .before .before .before .before .before .before .before .before .before .before .args in let n = z .n in let p = z .p in let ws = z .ws .now in let L = frameLength n ws in
+    let e = c .before .before .before .before .frame-from .ensures in
+    let g = T.own-good n p ws (omega arith) (c .before .before .before .before .frame-from .result) (sym (told n p (take L ws) (c .before .before .before .before .before .before .before .before .before .before .pre) _ e .1 (c .before .before .if3 .left))) e in
+    (g .0, λ q. (refl, g .1))
 
 pub own-from-spec : {M : Type 1} → statement M
 own-from-spec =
@@ -63,9 +69,8 @@ own-from-spec =
     cast-words
     no-own-requires-2
     returns-2
-    slice-aggregate-read-frame
-    read-frame-requires
-    code-of-requires
+    slice-aggregate-frame-from
+    frame-from-requires
     no-own-requires-3
     returns-3
     returns-4)
