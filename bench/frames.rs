@@ -1,17 +1,21 @@
-//! Times reading and writing of one frame: archive, model and fast version side by side in one run.
+//! Times reading and writing of one frame: archive, model and fast version side by side in one run, archive and
+//! fast version through the C interface.
 //! All use the same buffers, which are not cleared between calls.
 
 #[path = "../tests/host/archive/mod.rs"]
 mod archive;
 mod fast;
+mod fast_exports;
 #[path = "../tests/host/frame_cases.rs"]
 mod frame_cases;
 #[path = "../tests/model/mod.rs"]
 mod model;
 #[path = "../tests/host/random.rs"]
 mod random;
+mod sides;
 
 use model::codec::{self, Frame};
+use sides::{Side, ARCHIVE, FAST};
 use std::hint::black_box;
 use std::time::Instant;
 
@@ -24,62 +28,48 @@ struct Case {
     row: Vec<u32>,
 }
 
-#[inline(never)]
-fn archive_read(case: &mut Case) {
-    let read = archive::frames::read_frame(black_box(&case.words), case.frame.offices, 64);
-    assert_eq!(black_box(&read).0, 0);
+fn read(side: &Side, case: &mut Case) {
+    let words = black_box(&case.words);
+    let read = unsafe { (side.read_frame)(words.as_ptr(), words.len(), case.frame.offices, 64) };
+    assert_eq!(black_box(&read).refusal, 0);
 }
 
-#[inline(never)]
-fn model_read(case: &mut Case) {
+fn model_read(_: &Side, case: &mut Case) {
     let read = codec::read_frame(black_box(&case.words), case.frame.offices, 64);
     assert!(black_box(&read).is_ok());
 }
 
-#[inline(never)]
-fn fast_read(case: &mut Case) {
-    let read = fast::frame::read_frame(black_box(&case.words), case.frame.offices, 64);
-    assert!(black_box(&read).is_ok());
-}
-
-#[inline(never)]
-fn archive_write(case: &mut Case) {
-    let written = archive::frames::write_frame(black_box(&case.frame), &mut case.row);
-    assert_eq!(black_box(written).0, 0);
+fn write(side: &Side, case: &mut Case) {
+    let row = &mut case.row;
+    let written = unsafe { (side.write_frame)(*black_box(&case.frame), row.as_mut_ptr(), row.len()) };
+    assert_eq!(black_box(&written).refusal, 0);
     black_box(&case.row);
 }
 
-#[inline(never)]
-fn model_write(case: &mut Case) {
+fn model_write(_: &Side, case: &mut Case) {
     let written = codec::write_frame(black_box(&case.frame), &mut case.row);
     assert!(black_box(written).is_ok());
     black_box(&case.row);
 }
 
-#[inline(never)]
-fn fast_write(case: &mut Case) {
-    let written = fast::frame::write_frame(black_box(&case.frame), &mut case.row);
-    assert!(black_box(written).is_ok());
-    black_box(&case.row);
-}
-
-type Call = fn(&mut Case);
+type Call = fn(&Side, &mut Case);
 
 /// Nanoseconds for each of many calls.
-fn time(call: Call, case: &mut Case) -> f64 {
+fn time(call: Call, side: &Side, case: &mut Case) -> f64 {
     let began = Instant::now();
     for _ in 0..CALLS {
-        call(case);
+        black_box(call)(black_box(side), case);
     }
     began.elapsed().as_nanos() as f64 / CALLS as f64
 }
 
 /// The best of rounds that take turns, so that a slow moment of the machine hits all.
-fn best(calls: [Call; 3], case: &mut Case) -> [f64; 3] {
+fn best(call: Call, model: Call, case: &mut Case) -> [f64; 3] {
+    let ways = [(call, &ARCHIVE), (model, &FAST), (call, &FAST)];
     let mut best = [f64::MAX; 3];
     for _ in 0..ROUNDS {
-        for (best, call) in best.iter_mut().zip(calls) {
-            *best = best.min(time(call, case));
+        for (best, (call, side)) in best.iter_mut().zip(ways) {
+            *best = best.min(time(call, side, case));
         }
     }
     best
@@ -104,7 +94,7 @@ fn main() {
     println!("call   offices dependencies    archive      model       fast     model      fast");
     for (offices, deps) in [(8, 255), (8, 64), (3, 0), (3, 8)] {
         let case = &mut case(offices, deps);
-        print_row("read", offices, deps, best([archive_read, model_read, fast_read], case));
-        print_row("write", offices, deps, best([archive_write, model_write, fast_write], case));
+        print_row("read", offices, deps, best(read, model_read, case));
+        print_row("write", offices, deps, best(write, model_write, case));
     }
 }

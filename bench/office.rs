@@ -3,10 +3,12 @@
 #[path = "../tests/host/archive/mod.rs"]
 mod archive;
 mod fast;
+mod fast_exports;
 #[path = "../tests/model/mod.rs"]
 mod model;
 mod office_calls;
 mod office_cases;
+mod sides;
 mod timing;
 
 use office_calls::{
@@ -34,16 +36,16 @@ const CALLS: [Timed; 12] = [
 const BUDGET: Duration = Duration::from_millis(150);
 
 fn print_row(timed: &Timed, store: &str, case: &Case) {
-    let calls = [timed.archive, timed.model, timed.fast];
-    let [archive, model, fast] = timing::best(timed.name, calls, timed.changes, case, BUDGET);
+    let ways = [timed.archive(), timed.model(), timed.fast()];
+    let [archive, model, fast] = timing::best(timed.name, ways, timed.changes, case, BUDGET);
     let (to_model, to_fast) = (archive / model, archive / fast);
     print!("{:<18} {:>7} {store:>5} ", timed.name, case.offices);
     println!("{archive:>10.1} {model:>10.1} {fast:>10.1} {to_model:>9.2} {to_fast:>9.2}");
 }
 
 const TIMED: &str = "
-Timed: whole calls, those of the archive through the C interface, with the session lent, as model and fast version
-take it, and by value, there and back (1,360 bytes each way). All check store and session at every call.
+Timed: whole calls, those of archive and fast version both through the C interface, with the session lent, as the model
+takes it, and by value, there and back (1,360 bytes each way). All check store and session at every call.
 Not timed: setting store, session and row back, which is done for a whole round before its clock starts.
 Empty: an office that holds nothing, a fresh session. Full: 32 entries of each office held and visible, less
 the one that a write or a frame brings; each depends on all before it; the session has read them all and

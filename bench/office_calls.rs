@@ -1,193 +1,233 @@
-//! Each call on one office as the archive, the model and the fast version make it.
+//! Each call on one office, as archive and fast version make it through the C interface, and as the model does.
 // Several programs share this file, and not each uses all of it.
 #![allow(dead_code)]
 
-use crate::archive::{lent as archive_lent, office as archive_office, tokens as archive_tokens};
-use crate::fast::{office as fast_office, token as fast_tokens};
-use crate::model::{office as model_office, token as model_tokens};
+use crate::model::{office as model, token as model_tokens};
 use crate::office_cases::{Case, Lent, OWN};
+use crate::sides::{Side, ARCHIVE, FAST};
 use std::hint::black_box;
 
 const PLOTS: [u32; 4] = [0, 5, 9, 40];
 
-pub type Call = fn(&Case, &mut Lent);
+pub type Call = fn(&Side, &Case, &mut Lent);
 
-/// A call on all sides. One that changes what it is lent gets each copy once in a round.
+/// A call, and the side that makes it.
+#[derive(Clone, Copy)]
+pub struct Way {
+    pub call: Call,
+    pub side: &'static Side,
+}
+
+/// A call on all sides; the model's is one of its own. One that changes what it is lent gets each copy once
+/// in a round.
 pub struct Timed {
     pub name: &'static str,
-    pub archive: Call,
+    pub call: Call,
     pub model: Call,
-    pub fast: Call,
     pub changes: bool,
     pub spare: fn(u32) -> Option<(u32, u32)>,
     pub hops: fn(u32) -> u32,
 }
 
-fn archive_need(case: &Case, _: &mut Lent) {
-    let need = archive_office::store_need(black_box(case.offices), OWN, 64);
-    assert_eq!(black_box(&need).0, 0);
+impl Timed {
+    pub fn archive(&self) -> Way {
+        Way { call: self.call, side: &ARCHIVE }
+    }
+
+    pub fn model(&self) -> Way {
+        Way { call: self.model, side: &FAST }
+    }
+
+    pub fn fast(&self) -> Way {
+        Way { call: self.call, side: &FAST }
+    }
 }
 
-fn model_need(case: &Case, _: &mut Lent) {
-    let need = model_office::store_need(black_box(case.offices), OWN, 64);
-    assert!(black_box(&need).is_ok());
+fn need(side: &Side, case: &Case, _: &mut Lent) {
+    let need = unsafe { (side.store_need)(black_box(case.offices), OWN, 64) };
+    assert_eq!(black_box(&need).refusal, 0);
 }
 
-fn fast_need(case: &Case, _: &mut Lent) {
-    let need = fast_office::store_need(black_box(case.offices), OWN, 64);
+fn model_need(_: &Side, case: &Case, _: &mut Lent) {
+    let need = model::store_need(black_box(case.offices), OWN, 64);
     assert!(black_box(&need).is_ok());
 }
 
 /// No store at all: what is left is the way into the call and back.
-fn archive_refused(_: &Case, lent: &mut Lent) {
-    let read = archive_office::read_plot(&mut lent.store[..0], &mut lent.session, black_box(PLOTS[1]));
-    assert_eq!(black_box(&read).0, 2);
+fn refused(side: &Side, _: &Case, lent: &mut Lent) {
+    let read =
+        unsafe { (side.lent_read_plot)(lent.store.as_mut_ptr(), 0, &mut lent.session, black_box(PLOTS[1])) };
+    assert_eq!(black_box(&read).refusal, 2);
 }
 
-fn model_refused(_: &Case, lent: &mut Lent) {
-    let read = model_office::read_plot(&mut lent.store[..0], &mut lent.session, black_box(PLOTS[1]));
+fn model_refused(_: &Side, _: &Case, lent: &mut Lent) {
+    let read = model::read_plot(&mut lent.store[..0], &mut lent.session, black_box(PLOTS[1]));
     assert_eq!(black_box(read), Err(2));
 }
 
-fn fast_refused(_: &Case, lent: &mut Lent) {
-    let read = fast_office::read_plot(&mut lent.store[..0], &mut lent.session, black_box(PLOTS[1]));
-    assert_eq!(black_box(read), Err(2));
+fn plot(side: &Side, _: &Case, lent: &mut Lent) {
+    let (store, plot) = (&mut lent.store, black_box(PLOTS[1]));
+    let read =
+        unsafe { (side.lent_read_plot)(store.as_mut_ptr(), store.len(), &mut lent.session, plot) };
+    assert_eq!(black_box(&read).refusal, 0);
 }
 
-fn archive_plot(_: &Case, lent: &mut Lent) {
-    let read = archive_office::read_plot(&mut lent.store, &mut lent.session, black_box(PLOTS[1]));
-    assert_eq!(black_box(&read).0, 0);
+fn plot_by_value(side: &Side, _: &Case, lent: &mut Lent) {
+    let (store, plot) = (&mut lent.store, black_box(PLOTS[1]));
+    let read = unsafe { (side.read_plot)(store.as_mut_ptr(), store.len(), lent.session, plot) };
+    assert_eq!(black_box(&read).refusal, 0);
+    lent.session = read.session;
 }
 
-fn archive_lent_plot(_: &Case, lent: &mut Lent) {
-    let read = archive_lent::read_plot(&mut lent.store, &mut lent.session, black_box(PLOTS[1]));
-    assert_eq!(black_box(&read).0, 0);
-}
-
-fn model_plot(_: &Case, lent: &mut Lent) {
-    let read = model_office::read_plot(&mut lent.store, &mut lent.session, black_box(PLOTS[1]));
+fn model_plot(_: &Side, _: &Case, lent: &mut Lent) {
+    let read = model::read_plot(&mut lent.store, &mut lent.session, black_box(PLOTS[1]));
     assert!(black_box(&read).is_ok());
 }
 
-fn fast_plot(_: &Case, lent: &mut Lent) {
-    let read = fast_office::read_plot(&mut lent.store, &mut lent.session, black_box(PLOTS[1]));
-    assert!(black_box(&read).is_ok());
-}
-
-fn archive_joint(_: &Case, lent: &mut Lent) {
-    let plots = black_box(&PLOTS);
-    assert_eq!(archive_office::read_joint(&mut lent.store, &mut lent.session, plots, &mut lent.row), 0);
-}
-
-fn archive_lent_joint(_: &Case, lent: &mut Lent) {
-    let plots = black_box(&PLOTS);
-    assert_eq!(archive_lent::read_joint(&mut lent.store, &mut lent.session, plots, &mut lent.row), 0);
-}
-
-fn model_joint(_: &Case, lent: &mut Lent) {
-    let plots = black_box(&PLOTS);
-    assert!(model_office::read_joint(&mut lent.store, &mut lent.session, plots, &mut lent.row).is_ok());
-}
-
-fn fast_joint(_: &Case, lent: &mut Lent) {
-    let plots = black_box(&PLOTS);
-    assert!(fast_office::read_joint(&mut lent.store, &mut lent.session, plots, &mut lent.row).is_ok());
-}
-
-fn archive_write(_: &Case, lent: &mut Lent) {
-    let wrote = archive_office::write(&mut lent.store, &mut lent.session, black_box(7), 709, &mut lent.row);
-    assert_eq!(wrote.0, 0);
-}
-
-fn archive_lent_write(_: &Case, lent: &mut Lent) {
-    let wrote = archive_lent::write(&mut lent.store, &mut lent.session, black_box(7), 709, &mut lent.row);
-    assert_eq!(wrote.0, 0);
-}
-
-fn model_write(_: &Case, lent: &mut Lent) {
-    let wrote = model_office::write(&mut lent.store, &mut lent.session, black_box(7), 709, &mut lent.row);
-    assert!(wrote.is_ok());
-}
-
-fn fast_write(_: &Case, lent: &mut Lent) {
-    let wrote = fast_office::write(&mut lent.store, &mut lent.session, black_box(7), 709, &mut lent.row);
-    assert!(wrote.is_ok());
-}
-
-fn archive_receive(case: &Case, lent: &mut Lent) {
-    let received = archive_office::receive(&mut lent.store, black_box(&case.frame), &mut lent.row);
-    assert_eq!(received.0, 0);
-}
-
-fn model_receive(case: &Case, lent: &mut Lent) {
-    let received = model_office::receive(&mut lent.store, black_box(&case.frame), &mut lent.row);
-    assert!(received.is_ok());
-}
-
-fn fast_receive(case: &Case, lent: &mut Lent) {
-    let received = fast_office::receive(&mut lent.store, black_box(&case.frame), &mut lent.row);
-    assert!(received.is_ok());
-}
-
-fn archive_read_token(case: &Case, lent: &mut Lent) {
-    let (refusal, session) = archive_tokens::read_token(black_box(&case.token), case.offices, 64);
+fn joint(side: &Side, _: &Case, lent: &mut Lent) {
+    let (store, row, plots) = (&mut lent.store, &mut lent.row, black_box(&PLOTS));
+    let refusal = unsafe {
+        (side.lent_read_joint)(
+            store.as_mut_ptr(),
+            store.len(),
+            &mut lent.session,
+            plots.as_ptr(),
+            plots.len(),
+            row.as_mut_ptr(),
+            row.len(),
+        )
+    };
     assert_eq!(refusal, 0);
-    lent.session = session;
 }
 
-fn model_read_token(case: &Case, lent: &mut Lent) {
+fn joint_by_value(side: &Side, _: &Case, lent: &mut Lent) {
+    let (store, row, plots) = (&mut lent.store, &mut lent.row, black_box(&PLOTS));
+    let read = unsafe {
+        (side.read_joint)(
+            store.as_mut_ptr(),
+            store.len(),
+            lent.session,
+            plots.as_ptr(),
+            plots.len(),
+            row.as_mut_ptr(),
+            row.len(),
+        )
+    };
+    assert_eq!(read.refusal, 0);
+    lent.session = read.session;
+}
+
+fn model_joint(_: &Side, _: &Case, lent: &mut Lent) {
+    let plots = black_box(&PLOTS);
+    assert!(model::read_joint(&mut lent.store, &mut lent.session, plots, &mut lent.row).is_ok());
+}
+
+fn write(side: &Side, _: &Case, lent: &mut Lent) {
+    let (store, row, plot) = (&mut lent.store, &mut lent.row, black_box(7));
+    let wrote = unsafe {
+        (side.lent_write)(
+            store.as_mut_ptr(),
+            store.len(),
+            &mut lent.session,
+            plot,
+            709,
+            row.as_mut_ptr(),
+            row.len(),
+        )
+    };
+    assert_eq!(wrote.refusal, 0);
+}
+
+fn write_by_value(side: &Side, _: &Case, lent: &mut Lent) {
+    let (store, row, plot) = (&mut lent.store, &mut lent.row, black_box(7));
+    let wrote = unsafe {
+        (side.write)(
+            store.as_mut_ptr(),
+            store.len(),
+            lent.session,
+            plot,
+            709,
+            row.as_mut_ptr(),
+            row.len(),
+        )
+    };
+    assert_eq!(wrote.refusal, 0);
+    lent.session = wrote.session;
+}
+
+fn model_write(_: &Side, _: &Case, lent: &mut Lent) {
+    let wrote = model::write(&mut lent.store, &mut lent.session, black_box(7), 709, &mut lent.row);
+    assert!(wrote.is_ok());
+}
+
+fn receive(side: &Side, case: &Case, lent: &mut Lent) {
+    let (store, frame, row) = (&mut lent.store, black_box(&case.frame), &mut lent.row);
+    let received = unsafe {
+        (side.receive)(
+            store.as_mut_ptr(),
+            store.len(),
+            frame.as_ptr(),
+            frame.len(),
+            row.as_mut_ptr(),
+            row.len(),
+        )
+    };
+    assert_eq!(received.refusal, 0);
+}
+
+fn model_receive(_: &Side, case: &Case, lent: &mut Lent) {
+    let received = model::receive(&mut lent.store, black_box(&case.frame), &mut lent.row);
+    assert!(received.is_ok());
+}
+
+fn read_token(side: &Side, case: &Case, lent: &mut Lent) {
+    let token = black_box(&case.token);
+    let read = unsafe { (side.read_token)(token.as_ptr(), token.len(), case.offices, 64) };
+    assert_eq!(read.refusal, 0);
+    lent.session = read.session;
+}
+
+fn model_read_token(_: &Side, case: &Case, lent: &mut Lent) {
     match model_tokens::read_token(black_box(&case.token), case.offices, 64) {
         Ok(session) => lent.session = session,
         Err(refusal) => panic!("refused {refusal}"),
     }
 }
 
-fn fast_read_token(case: &Case, lent: &mut Lent) {
-    match fast_tokens::read_token(black_box(&case.token), case.offices, 64) {
-        Ok(session) => lent.session = session,
-        Err(refusal) => panic!("refused {refusal}"),
-    }
+fn write_token(side: &Side, _: &Case, lent: &mut Lent) {
+    let row = &mut lent.row;
+    let wrote = unsafe { (side.write_token)(*black_box(&lent.session), row.as_mut_ptr(), row.len()) };
+    assert_eq!(wrote.refusal, 0);
 }
 
-fn archive_write_token(_: &Case, lent: &mut Lent) {
-    assert_eq!(archive_tokens::write_token(black_box(&lent.session), &mut lent.row).0, 0);
-}
-
-fn model_write_token(_: &Case, lent: &mut Lent) {
+fn model_write_token(_: &Side, _: &Case, lent: &mut Lent) {
     assert!(model_tokens::write_token(black_box(&lent.session), &mut lent.row).is_ok());
 }
 
-fn fast_write_token(_: &Case, lent: &mut Lent) {
-    assert!(fast_tokens::write_token(black_box(&lent.session), &mut lent.row).is_ok());
-}
-
 /// A call that leaves what it is lent as it was.
-const fn reading(name: &'static str, archive: Call, model: Call, fast: Call) -> Timed {
-    Timed { name, archive, model, fast, changes: false, spare: |_| None, hops: |_| 0 }
+const fn reading(name: &'static str, call: Call, model: Call) -> Timed {
+    Timed { name, call, model, changes: false, spare: |_| None, hops: |_| 0 }
 }
 
 /// A call that makes the office's entry 32.
-const fn writing(name: &'static str, archive: Call) -> Timed {
-    let spare = |_| Some((OWN, 32));
-    Timed { name, archive, model: model_write, fast: fast_write, changes: true, spare, hops: |_| 0 }
+const fn writing(name: &'static str, call: Call) -> Timed {
+    Timed { name, call, model: model_write, changes: true, spare: |_| Some((OWN, 32)), hops: |_| 0 }
 }
 
 /// A call that takes a frame with one entry more.
 const fn receiving(name: &'static str, spare: fn(u32) -> Option<(u32, u32)>, hops: fn(u32) -> u32) -> Timed {
-    let (archive, model, fast): (Call, Call, Call) = (archive_receive, model_receive, fast_receive);
-    Timed { name, archive, model, fast, changes: true, spare, hops }
+    Timed { name, call: receive, model: model_receive, changes: true, spare, hops }
 }
 
-pub const NEED: Timed = reading("store_need", archive_need, model_need, fast_need);
-pub const NO_STORE: Timed = reading("read_plot no store", archive_refused, model_refused, fast_refused);
-pub const PLOT: Timed = reading("read_plot", archive_lent_plot, model_plot, fast_plot);
-pub const PLOT_BY_VALUE: Timed = reading("  by value", archive_plot, model_plot, fast_plot);
-pub const JOINT: Timed = reading("read_joint of 4", archive_lent_joint, model_joint, fast_joint);
-pub const JOINT_BY_VALUE: Timed = reading("  by value", archive_joint, model_joint, fast_joint);
-pub const WRITE: Timed = writing("write", archive_lent_write);
-pub const WRITE_BY_VALUE: Timed = writing("  by value", archive_write);
+pub const NEED: Timed = reading("store_need", need, model_need);
+pub const NO_STORE: Timed = reading("read_plot no store", refused, model_refused);
+pub const PLOT: Timed = reading("read_plot", plot, model_plot);
+pub const PLOT_BY_VALUE: Timed = reading("  by value", plot_by_value, model_plot);
+pub const JOINT: Timed = reading("read_joint of 4", joint, model_joint);
+pub const JOINT_BY_VALUE: Timed = reading("  by value", joint_by_value, model_joint);
+pub const WRITE: Timed = writing("write", write);
+pub const WRITE_BY_VALUE: Timed = writing("  by value", write_by_value);
 pub const LAST_HOP: Timed = receiving("receive, last hop", |_| Some((1, 32)), |_| 0);
 pub const MIDDLE: Timed = receiving("receive, middle", |n| Some((n - 1, 32)), |n| n - 2);
-pub const READ_TOKEN: Timed = reading("read_token", archive_read_token, model_read_token, fast_read_token);
-pub const WRITE_TOKEN: Timed =
-    reading("write_token", archive_write_token, model_write_token, fast_write_token);
+pub const READ_TOKEN: Timed = reading("read_token", read_token, model_read_token);
+pub const WRITE_TOKEN: Timed = reading("write_token", write_token, model_write_token);

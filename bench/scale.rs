@@ -4,11 +4,13 @@
 #[path = "../tests/host/archive/mod.rs"]
 mod archive;
 mod fast;
+mod fast_exports;
 #[path = "../tests/model/mod.rs"]
 mod model;
 mod office_calls;
 mod office_cases;
 mod plot;
+mod sides;
 mod timing;
 
 use office_calls::{Timed, JOINT, LAST_HOP, MIDDLE, PLOT, READ_TOKEN, WRITE, WRITE_TOKEN};
@@ -28,7 +30,7 @@ fn time(timed: &Timed, offices: u32, held: u32) -> Option<(u32, f64)> {
     }
     let from = (timed.spare)(offices).map(|(office, _)| office);
     let case = partly(offices, held, from, hops);
-    let [nanoseconds] = timing::best(timed.name, [timed.archive], timed.changes, &case, BUDGET);
+    let [nanoseconds] = timing::best(timed.name, [timed.archive()], timed.changes, &case, BUDGET);
     let held = case.lent.store[3..11].iter().map(|word| word.count_ones()).sum();
     Some((held, nanoseconds))
 }

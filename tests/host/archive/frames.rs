@@ -3,9 +3,9 @@
 use crate::model::codec::Frame;
 
 #[repr(C)]
-struct FrameRead {
-    refusal: u32,
-    frame: Frame,
+pub struct FrameRead {
+    pub refusal: u32,
+    pub frame: Frame,
 }
 
 layout!(FrameRead: 92, refusal 0, frame 4);
@@ -19,9 +19,9 @@ pub struct Written {
 layout!(Written: 16, refusal 0, words 8);
 
 extern "C" {
-    fn burial_check_frame(bytes: *const u8, len: usize, offices: u32, plots: u32) -> u32;
-    fn burial_read_frame(words: *const u32, len: usize, offices: u32, plots: u32) -> FrameRead;
-    fn burial_write_frame(frame: Frame, out: *mut u32, len: usize) -> Written;
+    pub fn burial_check_frame(bytes: *const u8, len: usize, offices: u32, plots: u32) -> u32;
+    pub fn burial_read_frame(words: *const u32, len: usize, offices: u32, plots: u32) -> FrameRead;
+    pub fn burial_write_frame(frame: Frame, out: *mut u32, len: usize) -> Written;
 }
 
 pub fn check_frame(bytes: &[u8], offices: u32, plots: u32) -> u32 {

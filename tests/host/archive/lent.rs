@@ -5,17 +5,17 @@ use crate::model::entry::Entry;
 use crate::model::session::Session;
 
 #[repr(C)]
-struct PlotFound {
-    refusal: u32,
-    found: u32,
-    entry: Entry,
+pub struct PlotFound {
+    pub refusal: u32,
+    pub found: u32,
+    pub entry: Entry,
 }
 
 layout!(PlotFound: 88, refusal 0, found 4, entry 8);
 
 extern "C" {
-    fn burial_lent_read_plot(store: *mut u32, len: usize, session: *mut Session, plot: u32) -> PlotFound;
-    fn burial_lent_read_joint(
+    pub fn burial_lent_read_plot(store: *mut u32, len: usize, session: *mut Session, plot: u32) -> PlotFound;
+    pub fn burial_lent_read_joint(
         store: *mut u32,
         store_len: usize,
         session: *mut Session,
@@ -24,7 +24,7 @@ extern "C" {
         answer: *mut u32,
         answer_len: usize,
     ) -> u32;
-    fn burial_lent_write(
+    pub fn burial_lent_write(
         store: *mut u32,
         store_len: usize,
         session: *mut Session,

@@ -5,44 +5,44 @@ use crate::model::entry::Entry;
 use crate::model::session::Session;
 
 #[repr(C)]
-struct PlotRead {
-    refusal: u32,
-    found: u32,
-    entry: Entry,
-    session: Session,
+pub struct PlotRead {
+    pub refusal: u32,
+    pub found: u32,
+    pub entry: Entry,
+    pub session: Session,
 }
 
 layout!(PlotRead: 1448, refusal 0, found 4, entry 8, session 88);
 
 #[repr(C)]
-struct JointRead {
-    refusal: u32,
-    session: Session,
+pub struct JointRead {
+    pub refusal: u32,
+    pub session: Session,
 }
 
 layout!(JointRead: 1368, refusal 0, session 8);
 
 #[repr(C)]
-struct Wrote {
-    refusal: u32,
-    words: usize,
-    session: Session,
+pub struct Wrote {
+    pub refusal: u32,
+    pub words: usize,
+    pub session: Session,
 }
 
 layout!(Wrote: 1376, refusal 0, words 8, session 16);
 
 #[repr(C)]
-struct Need {
-    refusal: u32,
-    words: usize,
+pub struct Need {
+    pub refusal: u32,
+    pub words: usize,
 }
 
 layout!(Need: 16, refusal 0, words 8);
 
 extern "C" {
-    fn burial_store_need(offices: u32, own: u32, plots: u32) -> Need;
-    fn burial_read_plot(store: *mut u32, store_len: usize, session: Session, plot: u32) -> PlotRead;
-    fn burial_read_joint(
+    pub fn burial_store_need(offices: u32, own: u32, plots: u32) -> Need;
+    pub fn burial_read_plot(store: *mut u32, store_len: usize, session: Session, plot: u32) -> PlotRead;
+    pub fn burial_read_joint(
         store: *mut u32,
         store_len: usize,
         session: Session,
@@ -51,7 +51,7 @@ extern "C" {
         answer: *mut u32,
         answer_len: usize,
     ) -> JointRead;
-    fn burial_write(
+    pub fn burial_write(
         store: *mut u32,
         store_len: usize,
         session: Session,
@@ -60,7 +60,7 @@ extern "C" {
         out: *mut u32,
         out_len: usize,
     ) -> Wrote;
-    fn burial_receive(
+    pub fn burial_receive(
         store: *mut u32,
         store_len: usize,
         frame: *const u32,

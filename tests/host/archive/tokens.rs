@@ -4,18 +4,18 @@ use super::frames::Written;
 use crate::model::session::Session;
 
 #[repr(C)]
-struct TokenRead {
-    refusal: u32,
-    session: Session,
+pub struct TokenRead {
+    pub refusal: u32,
+    pub session: Session,
 }
 
 layout!(TokenRead: 1368, refusal 0, session 8);
 
 extern "C" {
-    fn burial_read_token(words: *const u32, len: usize, offices: u32, plots: u32) -> TokenRead;
-    fn burial_write_token(session: Session, out: *mut u32, len: usize) -> Written;
-    fn burial_open_office(offices: u32, own: u32, plots: u32, store: *mut u32, len: usize) -> u32;
-    fn burial_fresh_session(offices: u32) -> TokenRead;
+    pub fn burial_read_token(words: *const u32, len: usize, offices: u32, plots: u32) -> TokenRead;
+    pub fn burial_write_token(session: Session, out: *mut u32, len: usize) -> Written;
+    pub fn burial_open_office(offices: u32, own: u32, plots: u32, store: *mut u32, len: usize) -> u32;
+    pub fn burial_fresh_session(offices: u32) -> TokenRead;
 }
 
 /// The refusal and the session, which is all zeros on refusal.
