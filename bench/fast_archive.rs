@@ -4,15 +4,8 @@
 #[path = "../tests/host/archive/forms.rs"]
 pub mod forms;
 
-fn reply<T: Default>(result: Result<T, u32>) -> (u32, T) {
-    match result {
-        Ok(value) => (0, value),
-        Err(refusal) => (refusal, T::default()),
-    }
-}
-
 pub mod lent {
-    use super::reply;
+    use crate::fast::entry::reply;
     use crate::fast::office;
     use crate::model::entry::Entry;
     use crate::model::session::Session;
@@ -39,7 +32,7 @@ pub mod lent {
 
 pub mod office {
     pub use super::lent::{read_joint, read_plot, write};
-    use super::reply;
+    use crate::fast::entry::reply;
     use crate::fast::office;
 
     pub fn store_need(offices: u32, own: u32, plots: u32) -> (u32, usize) {

@@ -5,19 +5,12 @@ use crate::archive::frames::{FrameRead, Written};
 use crate::archive::lent::PlotFound;
 use crate::archive::office::{JointRead, Need, PlotRead, Wrote};
 use crate::archive::tokens::TokenRead;
+use crate::fast::entry::reply;
 use crate::fast::{frame, office, token};
 use crate::model::codec::Frame;
 use crate::model::entry::Entry;
 use crate::model::session::Session;
 use std::slice::{from_raw_parts, from_raw_parts_mut};
-
-/// The refusal, 0 for none, and what stands beside it.
-fn reply<T: Default>(result: Result<T, u32>) -> (u32, T) {
-    match result {
-        Ok(value) => (0, value),
-        Err(refusal) => (refusal, T::default()),
-    }
-}
 
 #[inline(never)]
 pub unsafe extern "C" fn store_need(offices: u32, own: u32, plots: u32) -> Need {

@@ -7,6 +7,14 @@ pub fn refuse_if(condition: bool, refusal: u32) -> Result<(), u32> {
     (!condition).then_some(()).ok_or(refusal)
 }
 
+/// The refusal, 0 for none, and what stands beside it.
+pub fn reply<T: Default>(result: Result<T, u32>) -> (u32, T) {
+    match result {
+        Ok(value) => (0, value),
+        Err(refusal) => (refusal, T::default()),
+    }
+}
+
 pub fn ring_ok(offices: u32) -> bool {
     (2..=8).contains(&offices)
 }
