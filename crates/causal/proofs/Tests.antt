@@ -60,6 +60,13 @@ unfolding both
 both-one true = refl
 both-one false = refl
 
+pub both-swap : (a b : Bool) → both a b ≡ both b a
+unfolding both
+both-swap true true = refl
+both-swap true false = refl
+both-swap false true = refl
+both-swap false false = refl
+
 pub both-assoc : (a b c : Bool) → both (both a b) c ≡ both a (both b c)
 unfolding both
 both-assoc true b c = refl

@@ -17,11 +17,10 @@ use Rattle.causal.specs.Tests.{both, either}
 use Rattle.causal.specs.Lists.{zeros}
 use Rattle.causal.specs.Sets.{inserted}
 use Rattle.causal.proofs.Tests.{both-true, both-intro, both-assoc, both-one, same-test, not-so, false-true}
-use Rattle.causal.proofs.Bits.{one-shl}
 use Rattle.causal.proofs.Sets.{zero-at}
 use Rattle.frame.specs.Entries.{idsOk}
 use Rattle.frame.specs.Words.{kindOf, payload, isKind, kindIs, idIn, idsFrom}
-use Rattle.frame.specs.Reading.{idOk, ascends, nextOk, eightBits}
+use Rattle.frame.specs.Reading.{idOk, ascends, nextOk, bitIn, eightBits, fourBits}
 use Rattle.frame.proofs.Entries.{facts-ids}
 use Rattle.frame.proofs.Words.{Fold, IdFacts, id-facts, kind-is, is-kind}
 
@@ -265,6 +264,14 @@ rises n last ws e i (suc m) h =
     let k : i + suc m ≡ suc (i + m) = omega arith in
     rw k (omega (arith, rises n last ws e i m (omega arith), ascends-up n last ws e (i + m) (omega arith)))
 
+-- the id of a word, by its office and its bit
+id-word : (ws : List ℕ) → ascends 8 0 ws ≡ true → (k : ℕ) → k < length ws → idIn (getD ws k 0) ≡ 32 * (getD ws k 0 / 256 % 8) + (getD ws k 0 - 1) % 32
+id-word ws up k h =
+    let w = getD ws k 0 in
+    let f = ascends-at 8 0 ws up k h in
+    let p = subst (λ (x : ℕ). Place x (payload w / 256) (payload w % 256)) (sym (word-for w (f .1))) (place (payload w / 256) (payload w % 256) (f .2 .office) (f .2 .from) (f .2 .to)) in
+    omega (arith, p .office, p .serial, p .id)
+
 module _ (ws : List ℕ) (up : ascends 8 0 ws ≡ true) (ids : List ℕ) (eight : length ids ≡ 8) (i : ℕ) (here : i < length ws) (is : ids ≡ idsFrom (take i ws)) where
   abbrev W : ℕ
   W = getD ws i 0
@@ -293,12 +300,29 @@ module _ (ws : List ℕ) (up : ascends 8 0 ws ≡ true) (ids : List ℕ) (eight 
   begun : idsFrom (take i ws) ≡ set ids J (getD ids J 0)
   begun = sym is ∙ sym (set-getD ids J 0)
 
-  pub ids-next : set ids J (bitOr (getD ids J 0) (1 * 2 ^ B % 4294967296)) ≡ idsFrom (take (i + 1) ws)
+  pub ids-next : set ids J (bitOr (getD ids J 0) (bitIn W)) ≡ idsFrom (take (i + 1) ws)
   ids-next =
-      let e : idIn W ≡ 32 * J + B = omega (arith, stands) in
-      sym
-      (run-one ws ids J (getD ids J 0) B i (i + 1) (add-one i) (omega arith) (omega arith) here e begun
-      ∙ ap (λ (x : ℕ). set ids J (bitOr (getD ids J 0) x)) (sym (one-shl B (omega arith))))
+      sym (run-one ws ids J (getD ids J 0) B i (i + 1) (add-one i) (omega arith) (omega arith) here (id-word ws up i here) begun)
+
+  module _ (long : i + 3 < length ws) (one : getD ws (i + 3) 0 / 256 ≡ W / 256) where
+    of-one : (m : ℕ) → m ≤ 3 → idIn (getD ws (i + m) 0) ≡ 32 * J + (getD ws (i + m) 0 - 1) % 32
+    of-one m h =
+        let k : i + m + (3 - m) ≡ i + 3 = omega arith in
+        let a = rises 8 0 ws up i m (omega arith) in
+        let b = rises 8 0 ws up (i + m) (3 - m) (omega arith) in
+        let c : getD ws (i + m) 0 + (3 - m) ≤ getD ws (i + 3) 0 = rw k at b in
+        omega (arith, id-word ws up (i + m) (omega arith), a, c, one)
+
+    add-id : (x m n : ℕ) → m ≤ 3 → n ≡ suc (i + m) → idsFrom (take (i + m) ws) ≡ set ids J x → idsFrom (take n ws) ≡ set ids J (bitOr x (bitIn (getD ws (i + m) 0)))
+    add-id x m n h e q = run-one ws ids J x ((getD ws (i + m) 0 - 1) % 32) (i + m) n e (omega arith) (omega arith) (omega arith) (of-one m h) q
+
+    pub ids-four : set ids J (fourBits (getD ids J 0) ws i) ≡ idsFrom (take (i + 4) ws)
+    unfolding fourBits
+    ids-four =
+        sym
+        (add-id _ 3 (i + 4) (omega arith) (omega arith)
+        (add-id _ 2 (i + 3) (omega arith) (omega arith)
+        (add-id _ 1 (i + 2) (omega arith) (omega arith) (sym ids-next))))
 
   module _ (long : i + 7 < length ws) (run : getD ws (i + 7) 0 ≡ W + 7) where
     beside : (m : ℕ) → m ≤ 7 → getD ws (i + m) 0 ≡ W + m

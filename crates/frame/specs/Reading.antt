@@ -46,6 +46,15 @@ eightBits w b =
     (bitOr (bitOr (bitOr (bitOr (bitOr (bitOr (bitOr w (2 ^ b)) (2 ^ (b + 1))) (2 ^ (b + 2))) (2 ^ (b + 3))) (2 ^ (b + 4))) (2 ^ (b + 5))) (2 ^ (b + 6)))
     (2 ^ (b + 7))
 
+-- the bit of an id in the word of its office
+abbrev pub bitIn : ℕ → ℕ
+bitIn w = 2 ^ ((w - 1) % 32)
+
+-- a word of a set with the four ids of a row from i on
+unfoldable pub fourBits : ℕ → List ℕ → ℕ → ℕ
+fourBits w ws i =
+    bitOr (bitOr (bitOr (bitOr w (bitIn (getD ws i 0))) (bitIn (getD ws (i + 1) 0))) (bitIn (getD ws (i + 2) 0))) (bitIn (getD ws (i + 3) 0))
+
 -- the last word is of kind 15 and has the sum
 unfoldable pub sumOk : List ℕ → Bool
 sumOk ws =

@@ -10,6 +10,7 @@ ghost use Rattle.frame.specs.Frames.{ringOk, blankFrame};
 ghost use Rattle.frame.specs.Calls.{readFrame};
 ghost use Rattle.causal.specs.Tests.{both};
 ghost use Rattle.frame.specs.Entries.{clockOk, idsOk, entryOk};
+ghost use Rattle.frame.specs.Words.{clockFrom};
 ghost use Rattle.frame.specs.Reading.{shapeOk, kindsOk, sumOk, frameAt};
 ghost use Rattle.frame.specs.Promises.{ReadFramePromise};
 use crate::entry::Entry;
@@ -62,13 +63,12 @@ fn shape_ok(ws: &[u32], n: u32) -> bool
     ws.len() == (n + head % crate::word::LOW % 256 + 4) as usize
 }
 
-// The fields of a row that has the shape of a frame, with the dependencies that were read.
-fn frame_of(ws: &[u32], n: u32, deps: [u32; 8]) -> Frame
-    requires { ⌜ (n ≤ 8) × (3 + n ≤ length (now ws)) ⌝ }
+// The fields of a row that has the shape of a frame, with the clock and the dependencies that were read.
+fn frame_of(ws: &[u32], n: u32, clock: [u32; 8], deps: [u32; 8]) -> Frame
+    requires { ⌜ (3 + n ≤ length (now ws)) × (clock ≡ clockFrom (now ws) 3 n) ⌝ }
     ensures { λ r. ⌜ r ≡ frameAt n (now (ws .entry)) deps ⌝ }
 {
     let head = ws[0] % crate::word::LOW;
-    let clock = crate::word::clock_from(ws, 3, n as usize);
     let entry = Entry {
         office: head / 0x0100_0000,
         serial: head / 0x1_0000 % 256,
@@ -128,16 +128,16 @@ fn rules_ok(n: u32, p: u32, e: Entry) -> bool
 // May the frame say what it says, and is the check word right?
 fn content_ok(ws: &[u32], n: u32, p: u32, f: Frame) -> bool
     requires { ⌜ (2 ≤ n) × (n ≤ 8) × (1 ≤ length (now ws)) × (idsOk n (f .entry .deps) ≡ true) ⌝ }
-    ensures { λ r. ⌜ r ≡ both (leb (f .hops) (n - 2)) (both (entryOk n p (f .entry)) (sumOk (now (ws .entry)))) ⌝ }
+    ensures { λ r. ⌜ r ≡ both (leb (f .hops) (n - 2)) (both (sumOk (now (ws .entry))) (entryOk n p (f .entry))) ⌝ }
 {
     if f.hops > n - 2 {
         return false;
     }
-    let e = f.entry;
-    if !rules_ok(n, p, e) {
+    if !crate::word::sum_ok(ws) {
         return false;
     }
-    crate::word::sum_ok(ws)
+    let e = f.entry;
+    rules_ok(n, p, e)
 }
 
 // The frame that a row has, all zeros where it has none.
@@ -156,8 +156,9 @@ pub fn frame_from(ws: &[u32], offices: u32, plots: u32) -> Frame
     if !crate::word::ids_ascend(&ws[from..end], offices) {
         return blank_frame();
     }
+    let clock = crate::word::clock_from(ws, 3, offices as usize);
     let deps = crate::word::ids_from(&ws[from..end]);
-    let frame = frame_of(ws, offices, deps);
+    let frame = frame_of(ws, offices, clock, deps);
     if !content_ok(ws, offices, plots, frame) {
         return blank_frame();
     }

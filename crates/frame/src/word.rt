@@ -1,13 +1,13 @@
 // Words: the top four bits are the kind, the lower 28 the payload.
 ghost use mathlib.Core.Path.{_≡_};
-ghost use Prim.Native.Nat.{ℕ, _+_, _%_, _<_, _≤_};
+ghost use Prim.Native.Nat.{ℕ, _+_, _/_, _%_, _<_, _≤_};
 ghost use mathlib.Core.Bool.{true};
 ghost use lib.Dec.{eqb};
 ghost use lib.ListN.{length, getD, set, take};
 ghost use lib.Seq.{sets};
 ghost use Rattle.causal.specs.Lists.{tab};
 ghost use Rattle.frame.specs.Words.{kindIs, total, clockWords, clockFrom, idWordsIn, idWords, idsFrom, sumWord};
-ghost use Rattle.frame.specs.Reading.{clockKinds, nextOk, ascends, eightBits, sumOk};
+ghost use Rattle.frame.specs.Reading.{clockKinds, nextOk, ascends, bitIn, eightBits, fourBits, sumOk};
 
 pub const LOW: u32 = 0x1000_0000;
 
@@ -232,7 +232,34 @@ fn with_eight(w: u32, b: u32) -> u32
         | (128u32 << b)
 }
 
-// The set that ascending words of ids name: eight that stand one next to the other are put in at once.
+// Are the four ids of a row from i on of one office?
+fn is_four(ws: &[u32], i: usize) -> bool
+    requires { ⌜ i < length (now ws) ⌝ }
+    ensures { λ r. ⌜ (r ≡ true → (i + 3 < length (now (ws .entry))) × (getD (now (ws .entry)) (i + 3) 0 / 256 ≡ getD (now (ws .entry)) i 0 / 256)) ⌝ }
+{
+    if ws.len() - i < 4 {
+        return false;
+    }
+    ws[i + 3] / 256 == ws[i] / 256
+}
+
+// The bit of an id in the word of its office.
+fn bit_of(w: u32) -> u32
+    requires { ⌜ 1 ≤ w ⌝ }
+    ensures { λ r. ⌜ r ≡ bitIn w ⌝ }
+{
+    1u32 << ((w - 1) % 32)
+}
+
+// A word of a set with the four ids of a row from i on.
+fn with_four(w: u32, ws: &[u32], i: usize) -> u32
+    requires { ⌜ (i + 3 < length (now ws)) × (ascends 8 0 (now ws) ≡ true) ⌝ }
+    ensures { λ r. ⌜ r ≡ fourBits w (now (ws .entry)) i ⌝ }
+{
+    w | bit_of(ws[i]) | bit_of(ws[i + 1]) | bit_of(ws[i + 2]) | bit_of(ws[i + 3])
+}
+
+// The set that ascending words of ids name: eight that stand one next to the other, or four of one office, are put in at once.
 pub fn ids_from(ws: &[u32]) -> [u32; 8]
     requires { ⌜ ascends 8 0 (now ws) ≡ true ⌝ }
     ensures { λ r. ⌜ r ≡ idsFrom (now (ws .entry)) ⌝ }
@@ -242,13 +269,15 @@ pub fn ids_from(ws: &[u32]) -> [u32; 8]
     while i < ws.len() {
         let w = ws[i];
         let j = (w / 256 % 8) as usize;
-        let b = (w - 1) % 32;
-        if is_run(ws, i) {
-            ids[j] = with_eight(ids[j], b);
+        if !is_four(ws, i) {
+            ids[j] = ids[j] | bit_of(w);
+            i += 1;
+        } else if is_run(ws, i) {
+            ids[j] = with_eight(ids[j], (w - 1) % 32);
             i += 8;
         } else {
-            ids[j] = ids[j] | (1u32 << b);
-            i += 1;
+            ids[j] = with_four(ids[j], ws, i);
+            i += 4;
         }
     }
     ids

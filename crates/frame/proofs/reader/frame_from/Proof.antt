@@ -3,6 +3,7 @@ use mathlib.Core.Bool.{true}
 use lib.ListN.{length, take, drop}
 use borrow.Author.Tests.{not-true, not-false}
 use Rattle.causal.specs.Tests.{both}
+use Rattle.causal.proofs.Tests.{both-swap}
 use Rattle.frame.specs.declared.entry.Frame.{Frame}
 use Rattle.frame.specs.Entries.{entryOk}
 use Rattle.causal.specs.Lists.{part}
@@ -35,14 +36,18 @@ between c = deps-between (c .before .before .before .before .before .args .offic
 up : (c : tie.Else3) → ascends (c .before .before .before .before .before .before .before .before .args .offices) 0 (part (c .before .before .before .before .before .before .before .before .args .ws .now) (3 + (c .before .before .before .before .before .before .before .before .args .offices)) (countIn (c .before .before .before .before .before .before .before .before .args .ws .now))) ≡ true
 up c = ap (ascends (c .before .before .before .before .before .before .before .before .args .offices) 0) (sym (between (c .before .before .before))) ∙ sym (c .before .ids-ascend .ensures) ∙ not-false _ (c .if3 .left)
 
-deps : (c : tie.After-ids-from) → c .ids-from .result ≡ idsFrom (part (c .before .before .before .before .before .before .before .before .before .before .args .ws .now) (3 + (c .before .before .before .before .before .before .before .before .before .before .args .offices)) (countIn (c .before .before .before .before .before .before .before .before .before .before .args .ws .now)))
-deps c = c .ids-from .ensures ∙ ap idsFrom (between (c .before .before .before .before .before))
+deps : (c : tie.After-ids-from) → c .ids-from .result ≡ idsFrom (part (c .before .before .before .before .before .before .before .before .before .before .before .args .ws .now) (3 + (c .before .before .before .before .before .before .before .before .before .before .before .args .offices)) (countIn (c .before .before .before .before .before .before .before .before .before .before .before .args .ws .now)))
+deps c = c .ids-from .ensures ∙ ap idsFrom (between (c .before .before .before .before .before .before))
 
-frame : (c : tie.After-frame-of) → c .frame-of .result ≡ frameOf (c .before .before .before .before .before .before .before .before .before .before .before .args .ws .now)
-frame c = c .frame-of .ensures ∙ frame-at (c .before .before .before .before .before .before .before .before .before .before .before .args .offices) (c .before .before .before .before .before .before .before .before .before .before .before .args .plots) (c .before .before .before .before .before .before .before .before .before .before .before .args .ws .now) (whole (c .before .before .before .before .before .before .before .before)) _ (deps (c .before))
+frame : (c : tie.After-frame-of) → c .frame-of .result ≡ frameOf (c .before .before .before .before .before .before .before .before .before .before .before .before .args .ws .now)
+frame c = c .frame-of .ensures ∙ frame-at (c .before .before .before .before .before .before .before .before .before .before .before .before .args .offices) (c .before .before .before .before .before .before .before .before .before .before .before .before .args .plots) (c .before .before .before .before .before .before .before .before .before .before .before .before .args .ws .now) (whole (c .before .before .before .before .before .before .before .before .before)) _ (deps (c .before))
 
-asked : (c : tie.After-content-ok) → c .content-ok .result ≡ both (leb (frameOf (c .before .before .before .before .before .before .before .before .before .before .before .before .args .ws .now) .hops) ((c .before .before .before .before .before .before .before .before .before .before .before .before .args .offices) - 2)) (both (entryOk (c .before .before .before .before .before .before .before .before .before .before .before .before .args .offices) (c .before .before .before .before .before .before .before .before .before .before .before .before .args .plots) (frameOf (c .before .before .before .before .before .before .before .before .before .before .before .before .args .ws .now) .entry)) (sumOk (c .before .before .before .before .before .before .before .before .before .before .before .before .args .ws .now)))
-asked c = c .content-ok .ensures ∙ ap (λ (f : Frame). both (leb (f .hops) ((c .before .before .before .before .before .before .before .before .before .before .before .before .args .offices) - 2)) (both (entryOk (c .before .before .before .before .before .before .before .before .before .before .before .before .args .offices) (c .before .before .before .before .before .before .before .before .before .before .before .before .args .plots) (f .entry)) (sumOk (c .before .before .before .before .before .before .before .before .before .before .before .before .args .ws .now)))) (frame (c .before))
+asked : (c : tie.After-content-ok) → c .content-ok .result ≡ both (leb (frameOf (c .before .before .before .before .before .before .before .before .before .before .before .before .before .args .ws .now) .hops) ((c .before .before .before .before .before .before .before .before .before .before .before .before .before .args .offices) - 2)) (both (entryOk (c .before .before .before .before .before .before .before .before .before .before .before .before .before .args .offices) (c .before .before .before .before .before .before .before .before .before .before .before .before .before .args .plots) (frameOf (c .before .before .before .before .before .before .before .before .before .before .before .before .before .args .ws .now) .entry)) (sumOk (c .before .before .before .before .before .before .before .before .before .before .before .before .before .args .ws .now)))
+asked c =
+    let z = c .before .before .before .before .before .before .before .before .before .before .before .before .before .args in
+    c .content-ok .ensures
+    ∙ ap (λ (f : Frame). both (leb (f .hops) (z .offices - 2)) (both (sumOk (z .ws .now)) (entryOk (z .offices) (z .plots) (f .entry)))) (frame (c .before))
+    ∙ ap (both (leb (frameOf (z .ws .now) .hops) (z .offices - 2))) (both-swap (sumOk (z .ws .now)) (entryOk (z .offices) (z .plots) (frameOf (z .ws .now) .entry)))
 
 shape-ok-requires : tie.Need-shape-ok-requires
 shape-ok-requires c κs = ring-facts (c .before .args .offices) (c .before .args .plots) (c .before .pre) .high
@@ -89,37 +94,43 @@ blank-frame-requires-3 c κs = search needs
 returns-3 : tie.Need-returns-3
 returns-3 c = no-frame (c .before .before .before .before .before .before .before .before .before .args .offices) (c .before .before .before .before .before .before .before .before .before .args .plots) (c .before .before .before .before .before .before .before .before .before .args .ws .now) _ (ids-refused (c .before .before .before .before .before .before .before .before .before .args .offices) (c .before .before .before .before .before .before .before .before .before .args .plots) (c .before .before .before .before .before .before .before .before .before .args .ws .now) (c .before .before .before .before .before .before .before .before .before .pre) (shape (c .before .before .before .before .before .before)) (kinds (c .before .before .before .before)) (ap (ascends (c .before .before .before .before .before .before .before .before .before .args .offices) 0) (sym (between (c .before .before .before .before))) ∙ sym (c .before .before .ids-ascend .ensures) ∙ not-true _ (c .before .if3 .taken))) (c .blank-frame3 .ensures)
 
+clock-from-requires : tie.Need-clock-from-requires
+clock-from-requires c κs =
+    let z = c .before .before .before .before .before .before .before .before in
+    (ring-facts (z .args .offices) (z .args .plots) (z .pre) .high, omega (arith, whole (c .before .before .before .before .before) .exact))
+
 mul-ids-from : tie.Need-mul-ids-from
 mul-ids-from c = search needs
 
 sub-ids-from : tie.Need-sub-ids-from
-sub-ids-from c = omega (arith, whole (c .before .before .before .before .before) .exact)
+sub-ids-from c = omega (arith, whole (c .before .before .before .before .before .before) .exact)
 
 part-ids-from-start : tie.Need-part-ids-from-start
-part-ids-from-start c = let q : 3 + (c .before .before .before .before .before .before .before .before .args .offices) ≤ length (c .before .before .before .before .before .before .before .before .args .ws .now) - 1 = omega (arith, whole (c .before .before .before .before .before) .exact) in q
+part-ids-from-start c = let q : 3 + (c .before .before .before .before .before .before .before .before .before .args .offices) ≤ length (c .before .before .before .before .before .before .before .before .before .args .ws .now) - 1 = omega (arith, whole (c .before .before .before .before .before .before) .exact) in q
 
 part-ids-from-end : tie.Need-part-ids-from-end
 part-ids-from-end c = search needs
 
 ids-from-requires : tie.Need-ids-from-requires
-ids-from-requires c κs = ascends-wider (c .before .before .before .before .before .before .before .before .before .args .offices) 8 0 _ (ring-facts (c .before .before .before .before .before .before .before .before .before .args .offices) (c .before .before .before .before .before .before .before .before .before .args .plots) (c .before .before .before .before .before .before .before .before .before .pre) .high) (sym (c .before .before .ids-ascend .ensures) ∙ not-false _ (c .before .if3 .left))
+ids-from-requires c κs = ascends-wider (c .before .before .before .before .before .before .before .before .before .before .args .offices) 8 0 _ (ring-facts (c .before .before .before .before .before .before .before .before .before .before .args .offices) (c .before .before .before .before .before .before .before .before .before .before .args .plots) (c .before .before .before .before .before .before .before .before .before .before .pre) .high) (sym (c .before .before .before .ids-ascend .ensures) ∙ not-false _ (c .before .before .if3 .left))
 
 frame-of-requires : tie.Need-frame-of-requires
-frame-of-requires c κs = (ring-facts (c .before .before .before .before .before .before .before .before .before .before .args .offices) (c .before .before .before .before .before .before .before .before .before .before .args .plots) (c .before .before .before .before .before .before .before .before .before .before .pre) .high, omega (arith, whole (c .before .before .before .before .before .before .before) .exact))
+frame-of-requires c κs =
+    (omega (arith, whole (c .before .before .before .before .before .before .before .before) .exact), c .before .before .clock-from .ensures)
 
 content-ok-requires : tie.Need-content-ok-requires
 content-ok-requires c κs =
-    let g = ring-facts (c .before .before .before .before .before .before .before .before .before .before .before .args .offices) (c .before .before .before .before .before .before .before .before .before .before .before .args .plots) (c .before .before .before .before .before .before .before .before .before .before .before .pre) in
-    (g .low, g .high, omega (arith, whole (c .before .before .before .before .before .before .before .before) .exact), in-range (c .before .before .before .before .before .before .before .before .before .before .before .args .offices) (c .before .before .before .before .before .before .before .before .before .before .before .args .ws .now) (c .frame-of .result) (whole (c .before .before .before .before .before .before .before .before)) (up (c .before .before .before)) (frame c))
+    let g = ring-facts (c .before .before .before .before .before .before .before .before .before .before .before .before .args .offices) (c .before .before .before .before .before .before .before .before .before .before .before .before .args .plots) (c .before .before .before .before .before .before .before .before .before .before .before .before .pre) in
+    (g .low, g .high, omega (arith, whole (c .before .before .before .before .before .before .before .before .before) .exact), in-range (c .before .before .before .before .before .before .before .before .before .before .before .before .args .offices) (c .before .before .before .before .before .before .before .before .before .before .before .before .args .ws .now) (c .frame-of .result) (whole (c .before .before .before .before .before .before .before .before .before)) (up (c .before .before .before .before)) (frame c))
 
 blank-frame-requires-4 : tie.Need-blank-frame-requires-4
 blank-frame-requires-4 c κs = search needs
 
 returns-4 : tie.Need-returns-4
-returns-4 c = no-frame (c .before .before .before .before .before .before .before .before .before .before .before .before .before .before .args .offices) (c .before .before .before .before .before .before .before .before .before .before .before .before .before .before .args .plots) (c .before .before .before .before .before .before .before .before .before .before .before .before .before .before .args .ws .now) _ (content-refused (c .before .before .before .before .before .before .before .before .before .before .before .before .before .before .args .offices) (c .before .before .before .before .before .before .before .before .before .before .before .before .before .before .args .plots) (c .before .before .before .before .before .before .before .before .before .before .before .before .before .before .args .ws .now) (c .before .before .before .before .before .before .before .before .before .before .before .before .before .before .pre) (shape (c .before .before .before .before .before .before .before .before .before .before .before)) (kinds (c .before .before .before .before .before .before .before .before .before)) (up (c .before .before .before .before .before .before)) (sym (asked (c .before .before)) ∙ not-true _ (c .before .if4 .taken))) (c .blank-frame4 .ensures)
+returns-4 c = no-frame (c .before .before .before .before .before .before .before .before .before .before .before .before .before .before .before .args .offices) (c .before .before .before .before .before .before .before .before .before .before .before .before .before .before .before .args .plots) (c .before .before .before .before .before .before .before .before .before .before .before .before .before .before .before .args .ws .now) _ (content-refused (c .before .before .before .before .before .before .before .before .before .before .before .before .before .before .before .args .offices) (c .before .before .before .before .before .before .before .before .before .before .before .before .before .before .before .args .plots) (c .before .before .before .before .before .before .before .before .before .before .before .before .before .before .before .args .ws .now) (c .before .before .before .before .before .before .before .before .before .before .before .before .before .before .before .pre) (shape (c .before .before .before .before .before .before .before .before .before .before .before .before)) (kinds (c .before .before .before .before .before .before .before .before .before .before)) (up (c .before .before .before .before .before .before .before)) (sym (asked (c .before .before)) ∙ not-true _ (c .before .if4 .taken))) (c .blank-frame4 .ensures)
 
 returns-5 : tie.Need-returns-5
-returns-5 c = accepted (c .before .before .before .before .before .before .before .before .before .before .before .before .before .args .offices) (c .before .before .before .before .before .before .before .before .before .before .before .before .before .args .plots) (c .before .before .before .before .before .before .before .before .before .before .before .before .before .args .ws .now) (c .before .before .before .before .before .before .before .before .before .before .before .before .before .pre) (shape (c .before .before .before .before .before .before .before .before .before .before)) (kinds (c .before .before .before .before .before .before .before .before)) (up (c .before .before .before .before .before)) (sym (asked (c .before)) ∙ not-false _ (c .if4 .left)) _ (frame (c .before .before)) .1
+returns-5 c = accepted (c .before .before .before .before .before .before .before .before .before .before .before .before .before .before .args .offices) (c .before .before .before .before .before .before .before .before .before .before .before .before .before .before .args .plots) (c .before .before .before .before .before .before .before .before .before .before .before .before .before .before .args .ws .now) (c .before .before .before .before .before .before .before .before .before .before .before .before .before .before .pre) (shape (c .before .before .before .before .before .before .before .before .before .before .before)) (kinds (c .before .before .before .before .before .before .before .before .before)) (up (c .before .before .before .before .before .before)) (sym (asked (c .before)) ∙ not-false _ (c .if4 .left)) _ (frame (c .before .before)) .1
 
 pub frame-from-spec : {M : Type 1} → statement M
 frame-from-spec =
@@ -140,6 +151,7 @@ frame-from-spec =
     ids-ascend-requires
     blank-frame-requires-3
     returns-3
+    clock-from-requires
     mul-ids-from
     sub-ids-from
     part-ids-from-start

@@ -8,18 +8,16 @@ use Rattle.frame.proofs.reader.frame_of.Tie as tie
 shared-slice-read-head : tie.Need-shared-slice-read-head
 shared-slice-read-head c = search needs
 
-clock-from-requires : tie.Need-clock-from-requires
-clock-from-requires c κs = search needs
+shared-slice-read-t12 : tie.Need-shared-slice-read-t12
+shared-slice-read-t12 c = search needs
 
-shared-slice-read-t13 : tie.Need-shared-slice-read-t13
-shared-slice-read-t13 c = search needs
-
-shared-slice-read-t16 : tie.Need-shared-slice-read-t16
-shared-slice-read-t16 c = search needs
+shared-slice-read-t15 : tie.Need-shared-slice-read-t15
+shared-slice-read-t15 c = search needs
 
 returns : tie.Need-returns
 unfolding frameAt
-returns c = let z = c .before .before .before .before .before .args in
+returns c = let s = c .before .before .before in
+    let z = s .args in
     λ i.
     record {
       offices = z .n;
@@ -30,7 +28,7 @@ returns c = let z = c .before .before .before .before .before .args in
             serial = payAt (z .ws .now) 0 / 65536 % 256;
             plot = payAt (z .ws .now) 1;
             value = payAt (z .ws .now) 2;
-            clock = (c .before .before .clock-from .ensures) i;
+            clock = (s .pre .1) i;
             deps = z .deps;
           };
     }
@@ -40,7 +38,6 @@ frame-of-spec =
     tie.close
     (tie.spec
     shared-slice-read-head
-    clock-from-requires
-    shared-slice-read-t13
-    shared-slice-read-t16
+    shared-slice-read-t12
+    shared-slice-read-t15
     returns)
