@@ -1,17 +1,18 @@
 -- To reveal step by step shows the old visible set and just what is reached from the seeds, in as many steps as ids are new.
 -- A loop that takes these steps has `State` for its invariant: `start`, `step`, `done`. Assumes nothing.
 use Prim.Native.Nat.{ℕ, _*_, _+_, _-_, _<_, _≤_, suc, zero}
+use mathlib.Core.Bool.{true}
 use mathlib.Core.List.{List}
 use mathlib.Core.Logic.{_⊎_, inl, inr, ⊎-elim}
 use mathlib.Core.Path.{_∙_, _≡_, ap, refl, sym}
 use native.Mathlib.Nat.{suc-add}
 use native.Mathlib.Omega.{arith}
 use Rattle.causal.specs.Lists.{sumBelow}
-use Rattle.causal.specs.Sets.{IdSet, Within, has, inserted, lowestOf, minus, unite}
+use Rattle.causal.specs.Sets.{IdSet, Within, has, inserted, lowestOf, minus, subsetOf, unite}
 use Rattle.causal.specs.declared.set.Lowest.the-variants.{At, Empty}
 use Rattle.causal.specs.declared.set.Lowest.{Lowest}
 use Rattle.causal.proofs.Lists.{sum-le}
-use Rattle.causal.proofs.Sets.{has-in, has-inserted, has-lt, has-minus, ids-inserted, ids-minus, ids-unite, in-inserted, in-unite, inserted-old, lowest-of-at, lowest-of-none, same-words, unite-left, unite-right}
+use Rattle.causal.proofs.Sets.{has-in, has-inserted, has-lt, has-minus, ids-inserted, ids-minus, ids-unite, in-inserted, in-unite, inserted-old, lowest-of-at, lowest-of-none, same-words, subset-within, unite-left, unite-right}
 use Rattle.store.specs.Reveal.{Reached, dep, revealed, seed, steps}
 use Rattle.store.specs.declared.reveal.Revealed.{Revealed}
 use Rattle.store.proofs.Counts.{sum-more}
@@ -52,6 +53,16 @@ picked p v k wp wv e =
     let l = has-in (minus p v) k (omega (arith, w .eight)) h in
     let m : has p k - has v k ≡ 1 = sym (has-minus p v k l) ∙ h in
     record { below = l; pending = omega (arith, has-lt p k, has-lt v k); unseen = omega (arith, has-lt p k, has-lt v k) }
+
+-- seeds that are visible leave nothing to do
+pub all-shown : (p v : List ℕ) → IdSet p → IdSet v → subsetOf p v ≡ true → lowestOf (minus p v) ≡ Empty
+all-shown p v wp wv h = go (lowestOf (minus p v)) refl
+  where
+    go : (l : Lowest) → lowestOf (minus p v) ≡ l → l ≡ Empty
+    go Empty e = refl
+    go (At k) e =
+        let q = picked p v k wp wv e in
+        absurd (omega (arith, q .unseen, subset-within p v wp h k (q .pending)))
 
 pub emptied : (p v : List ℕ) → IdSet p → lowestOf (minus p v) ≡ Empty → Within p v
 emptied p v wp e k h =
