@@ -1,8 +1,9 @@
 -- The holds of a write and of a receive, on words: they leave the words of the office that Calls says. Assumes nothing.
-use Prim.Native.Nat.{ℕ, _+_, _≤_}
+use Prim.Native.Nat.{ℕ, zero, suc, _+_, _<_, _≤_}
 use mathlib.Core.Path.{_≡_, refl, sym, ap, _∙_}
 use mathlib.Core.Bool.{Bool, true, false, cond}
 use mathlib.Core.List.{List, List·Memᴰ, List·Memᴰ·head, List·Memᴰ·tail, [], _∷_, _++_}
+use native.Mathlib.Omega.{arith}
 use lib.ListN.{length}
 use Rattle.causal.specs.Lists.{tab}
 use Rattle.causal.specs.Sets.{IdSet, Within, inserted, isIn}
@@ -40,14 +41,20 @@ pub holds-start : (held : List ℕ) (own : List Entry) (ws : List ℕ) → ws �
 unfolding holdsIn tab
 holds-start held own ws = refl
 
-pub holds-none : (held ws : List ℕ) (own : List Entry) (n : ℕ) → n ≡ 0 → ws ≡ holdsIn held ws (ownTo own n)
-holds-none held ws own n z = holds-start held own ws ∙ ap (λ (i : ℕ). holdsIn held ws (ownTo own i)) (sym z)
-
 pub holds-more : (held : List ℕ) (own : List Entry) (ws o z : List ℕ) (i : ℕ) → o ≡ holdsIn held ws (ownTo own i)
     → z ≡ holdIf (isIn held (idOf (ownAt own i))) o (ownAt own i) → z ≡ holdsIn held ws (ownTo own (i + 1))
 holds-more held own ws o z i h e =
     e ∙ ap (λ (l : List ℕ). holdIf (isIn held (idOf (ownAt own i))) l (ownAt own i)) h
     ∙ sym (ap (holdsIn held ws) (tab-more i (ownAt own)) ∙ holds-snoc held (ownTo own i) (ownAt own i) ws)
+
+-- none of them is new
+pub holds-none : (held ws : List ℕ) (own : List Entry) (k : ℕ) → ((i : ℕ) → i < k → isIn held (idOf (ownAt own i)) ≡ true) → ws ≡ holdsIn held ws (ownTo own k)
+holds-none held ws own zero h = holds-start held own ws
+holds-none held ws own (suc k) h =
+    let e : suc k ≡ k + 1 = omega arith in
+    rw e
+    (holds-more held own ws ws ws k (holds-none held ws own k (λ i l. h i (omega arith)))
+    (ap (λ (b : Bool). holdIf b ws (ownAt own k)) (sym (h k (omega arith)))))
 
 -- ---- own writes, on words and on contents
 

@@ -34,7 +34,7 @@ use Rattle.store.proofs.Changes.{revealed-visible}
 use Rattle.store.proofs.SoundChanges.{reveal-store, reveal-held, reveal-ids, reveal-current}
 use Rattle.office.specs.Calls.{Result, refusal, given, worded, plotsOk, noneOver, allNoneOver, jointCode, jointOn, notedAll, threeWords, answerWords, readJoint}
 use Rattle.office.specs.Answers.{sessionIf, notedIn, notedAllIn, readJointSession}
-use Rattle.office.specs.Decide.{startCode, jointStart, jointRefusal, placeNumber, foundIn, foundAmong, Reaches, PlacesTo, Decides, ownOver, noneOverTo, overAll, wordsTo, notedSeen, seenOf, seenTo, withSeen}
+use Rattle.office.specs.Decide.{startCode, jointStart, jointRefusal, placeNumber, foundIn, foundAmong, AllReach, Reaches, PlacesTo, ownOver, noneOverTo, overAll, wordsTo, notedSeen, seenOf, seenTo, withSeen}
 use Rattle.office.specs.declared.note.Seen.{Seen}
 use Rattle.office.proofs.KeepCalls.{readAll}
 use Rattle.office.proofs.Numbers.{start-facts, few-own, number-current, found-at, found-none, noted-with, with-own}
@@ -285,12 +285,17 @@ pub starts-none : (ws : List ℕ) (s : Session) (plots : List ℕ) (room : ℕ) 
 unfolding jointRefusal
 starts-none ws s plots room h = starts ws s plots room (or-both (jointStart ws (contentOf s) plots room) _ h .0)
 
--- what `decide` has found out
+-- what a joint reading that is not refused has found out: the visible set to be, and what is current on each plot
+pub record Sighted (ws read plots visible ks : List ℕ) : Type 0 where
+  pub shown : visible ≡ reveal (officeOf ws) read .visible
+  pub found : (j : ℕ) → j < length plots → foundAmong ws ks j ≡ current (reveal (officeOf ws) read) (getD plots j 0)
+  pub reach : AllReach (length ws) (length plots) ks
+
 module _ (ws : List ℕ) (words : (i : ℕ) → getD ws i 0 < 2 ^ 32) (sound : soundStore ws ≡ true) (seeds : List ℕ) (w : IdSet seeds) (h : subsetOf seeds (part ws 3 8) ≡ true) where
-  pub decided : (r : Revealed) (e : r ≡ revealed (λ k. officeOf ws .entry k .deps) (getD ws 0 0) (part ws 11 8) seeds) (plots ks : List ℕ)
-      → PlacesTo ws (r .visible) plots (length plots) ks → Decides ws seeds plots (r .visible) ks
+  pub sighted : (r : Revealed) (e : r ≡ revealed (λ k. officeOf ws .entry k .deps) (getD ws 0 0) (part ws 11 8) seeds) (plots ks : List ℕ)
+      → PlacesTo ws (r .visible) plots (length plots) ks → Sighted ws seeds plots (r .visible) ks
   unfolding foundAmong
-  decided r e plots ks p =
+  sighted r e plots ks p =
       record {
         shown = revealed-visible ws seeds r e;
         found = λ j l. each j l .1 ∙ sym (reveal-current ws words sound seeds w h r e (getD plots j 0));
@@ -301,8 +306,8 @@ module _ (ws : List ℕ) (words : (i : ℕ) → getD ws i 0 < 2 ^ 32) (sound : s
       each j l =
           number-current ws (r .visible) (getD plots j 0) (getD ks j 0) sound (reveal-ids ws words sound seeds w h r e .eight) (reveal-held ws words sound seeds w h r e) (p j l)
 
-  pub show-decided : (plots v ks : List ℕ) → Decides ws seeds plots v ks → sets ws 11 v ≡ storeWords ws (reveal (officeOf ws) seeds)
-  show-decided plots v ks D =
+  pub show-sighted : (plots v ks : List ℕ) → Sighted ws seeds plots v ks → sets ws 11 v ≡ storeWords ws (reveal (officeOf ws) seeds)
+  show-sighted plots v ks D =
       let r = revealed (λ k. officeOf ws .entry k .deps) (getD ws 0 0) (part ws 11 8) seeds in
       ap (sets ws 11) (D .shown ∙ sym (revealed-visible ws seeds r refl)) ∙ reveal-store ws words sound seeds w h r refl
 
@@ -310,24 +315,20 @@ module _ (ws : List ℕ) (s : Session) (plots : List ℕ) where
   abbrev O : Office
   O = reveal (officeOf ws) (s .read)
 
-  pub over-is : (v ks : List ℕ) → Decides ws (s .read) plots v ks → overAll ws (s .own) (s .count) plots ks ≡ allNoneOver O (contentOf s) plots
+  pub over-is : (v ks : List ℕ) → Sighted ws (s .read) plots v ks → overAll ws (s .own) (s .count) plots ks ≡ allNoneOver O (contentOf s) plots
   unfolding overAll contentOf
   over-is v ks D = over-plots O (s .own) (s .count) (contentOf s) refl plots (foundAmong ws ks) (D .found)
 
-  -- the two ways out of `decide`
-  abbrev pub DecideSays : ℕ → ℕ → List ℕ → List ℕ → Type 0
-  DecideSays room c v ks = (c ≡ jointRefusal ws (contentOf s) plots room) × (c ≡ 0 → Decides ws (s .read) plots v ks)
-
   module _ (room c : ℕ) (e : c ≡ jointStart ws (contentOf s) plots room) where
-    pub decide-first : (v ks : List ℕ) → (c ≡ 0 → ⊥) → DecideSays room c v ks
+    pub start-refuses : (c ≡ 0 → ⊥) → c ≡ jointRefusal ws (contentOf s) plots room
     unfolding jointRefusal
-    decide-first v ks h = (or-stops c (jointStart ws (contentOf s) plots room) _ e h, λ z. absurd (h z))
+    start-refuses h = or-stops c (jointStart ws (contentOf s) plots room) _ e h
 
-    pub decide-last : (x : ℕ) (v ks : List ℕ) → c ≡ 0 → Decides ws (s .read) plots v ks → x ≡ check (overAll ws (s .own) (s .count) plots ks) 13 0 → DecideSays room x v ks
+    pub over-refuses : (x : ℕ) (v ks : List ℕ) → c ≡ 0 → Sighted ws (s .read) plots v ks → x ≡ check (overAll ws (s .own) (s .count) plots ks) 13 0
+        → x ≡ jointRefusal ws (contentOf s) plots room
     unfolding jointRefusal contentOf
-    decide-last x v ks z D q =
-        let over = q ∙ ap (λ (b : Bool). check b 13 0) (over-is v ks D) in
-        (or-goes x c (jointStart ws (contentOf s) plots room) _ e z over, λ y. D)
+    over-refuses x v ks z L q =
+        or-goes x c (jointStart ws (contentOf s) plots room) _ e z (q ∙ ap (λ (b : Bool). check b 13 0) (over-is v ks L))
 
   module _ (row : List ℕ) where
     abbrev R : Res
@@ -340,18 +341,19 @@ module _ (ws : List ℕ) (s : Session) (plots : List ℕ) where
     by-result : (c : ℕ) → c ≡ jointRefusal ws (contentOf s) plots (length row) → jointResult ws (contentOf s) plots row c ≡ R
     by-result c e = ap (jointResult ws (contentOf s) plots row) e ∙ sym (joint-is ws (contentOf s) plots row)
 
-    pub joint-refused : (c : ℕ) (status : Status) → c ≡ jointRefusal ws (contentOf s) plots (length row) → (c ≡ 0 → ⊥) → codeOf status ≡ c → JointSays status (seenOf s) ws row
+    pub joint-refused : (c : ℕ) (status : Status) (x : Seen) → c ≡ jointRefusal ws (contentOf s) plots (length row) → (c ≡ 0 → ⊥) → codeOf status ≡ c → x ≡ seenOf s
+        → JointSays status x ws row
     unfolding readJointSession sessionIf
-    joint-refused zero status q h k = absurd (h refl)
-    joint-refused (suc c) status q h k =
+    joint-refused zero status x q h k u = absurd (h refl)
+    joint-refused (suc c) status x q h k u =
         let r = by-result (suc c) q in (
           k ∙ ap (λ (x : Res). x .code) r,
-          with-own s ∙ ap (λ (x : Res). sessionIf (x .code) s (notedAllIn O plots s)) r,
+          ap (withSeen s) u ∙ with-own s ∙ ap (λ (x : Res). sessionIf (x .code) s (notedAllIn O plots s)) r,
           ap (λ (x : Res). x .store) r,
           ap (λ (x : Res). x .row) r,
         )
 
-    pub joint-accepted : (v ks : List ℕ) (status : Status) (seen : Seen) (left out : List ℕ) → jointRefusal ws (contentOf s) plots (length row) ≡ 0 → Decides ws (s .read) plots v ks → codeOf status ≡ 0
+    pub joint-accepted : (v ks : List ℕ) (status : Status) (seen : Seen) (left out : List ℕ) → jointRefusal ws (contentOf s) plots (length row) ≡ 0 → Sighted ws (s .read) plots v ks → codeOf status ≡ 0
         → seen ≡ seenTo (foundAmong ws ks) (length plots) (seenOf s) → left ≡ storeWords ws O → out ≡ sets row 0 (wordsTo (foundAmong ws ks) (length plots)) → JointSays status seen left out
     unfolding readJointSession sessionIf contentOf laid
     joint-accepted v ks status seen left out z D k a b d =

@@ -15,6 +15,7 @@ pub mod Readings
 pub mod JointReads
 pub mod OwnCodes
 pub mod Alone
+pub mod Starts
 pub mod Sends
 pub mod Forecasts
 pub mod Shape

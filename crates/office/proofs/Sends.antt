@@ -1,5 +1,5 @@
 -- The frames of a write in the out row: one behind the other, each in the rest of the row lent to the frame writer. Assumes nothing.
-use Prim.Native.Nat.{ℕ, zero, suc, _+_, _-_, _*_, _≤_}
+use Prim.Native.Nat.{ℕ, zero, suc, _+_, _-_, _*_, _<_, _≤_}
 use mathlib.Core.Path.{_≡_, refl, sym, ap, _∙_, subst}
 use mathlib.Core.Bool.{Bool, true, false, cond}
 use mathlib.Core.List.{List, [], _∷_, _++_, map, append-assoc, append-nil}
@@ -20,7 +20,7 @@ use Rattle.frame.proofs.Frames.{length-frame}
 use Rattle.frame.proofs.Tokens.{reads-le}
 use Rattle.store.specs.Offices.{Office}
 use Rattle.office.specs.Calls.{missing}
-use Rattle.office.specs.Steps.{ownAt, ownTo, started, frameIf, framesIn, allFrames}
+use Rattle.office.specs.Steps.{ownAt, ownTo, started, frameIf, framesIn, allFrames, AllHeld}
 
 -- ---- one own write
 
@@ -99,12 +99,22 @@ turn-sets o₀ o z a b ab at p q r s =
     ∙ sym (sets-append o₀ 0 a b)
     ∙ ap (λ (l : List ℕ). sets o₀ 0 l) (sym s)
 
--- ---- the new entry alone, where there are no own writes
+-- ---- the new entry alone, where no own write is new
 
-module _ (held : List ℕ) (n : ℕ) (own : List Entry) (k : ℕ) (e : Entry) (z : k ≡ 0) (f : Frame) (g : f ≡ started n e) where
+frames-none : (held : List ℕ) (n : ℕ) (own : List Entry) (k : ℕ) → ((i : ℕ) → i < k → isIn held (idOf (ownAt own i)) ≡ true) → framesIn held n (ownTo own k) ≡ []
+frames-none held n own zero h = frames-start held n own
+frames-none held n own (suc k) h =
+    let e : suc k ≡ k + 1 = omega arith in
+    rw e
+    (frames-more held n own k
+    ∙ ap (λ (b : Bool). framesIn held n (ownTo own k) ++ frameIf b n (ownAt own k)) (h k (omega arith))
+    ∙ append-nil (framesIn held n (ownTo own k))
+    ∙ frames-none held n own k (λ i l. h i (omega arith)))
+
+module _ (b : Bool) (held : List ℕ) (n : ℕ) (own : List Entry) (k : ℕ) (e : Entry) (h : AllHeld b held own k) (y : b ≡ true) (f : Frame) (g : f ≡ started n e) where
   pub alone : frameWords f ≡ allFrames held n (ownTo own k) e
-  unfolding allFrames framesIn tab
-  alone = ap frameWords g ∙ rw z refl
+  unfolding allFrames
+  alone = ap frameWords g ∙ ap (λ (l : List ℕ). l ++ frameWords (started n e)) (sym (frames-none held n own k (h y)))
 
   pub put-alone : (o y : List ℕ) (r : ℕ) → length (allFrames held n (ownTo own k) e) ≤ length o → r ≡ 0 + length (frameWords f) → y ≡ sets o 0 (frameWords f)
       → (r ≡ length (allFrames held n (ownTo own k) e)) × (y ≡ laid (allFrames held n (ownTo own k) e) o)

@@ -3,7 +3,7 @@ use Rattle.store.proofs.Rules.{laid as laid-of}
 use Prim.Native.Nat.{ℕ, zero, suc, _+_, _*_, _^_, _<_, _≤_}
 use mathlib.Core.Path.{_≡_, refl, sym, ap, ap₂, _∙_, subst}
 use mathlib.Core.Bool.{Bool, true, false}
-use mathlib.Core.List.{List}
+use mathlib.Core.List.{List, List·Memᴰ, Memᴰ·map}
 use native.Mathlib.Omega.{arith}
 use lib.Dec.{ltb}
 use lib.ListN.{length, getD}
@@ -13,7 +13,7 @@ use Rattle.causal.specs.Lists.{part, zeros}
 use Rattle.causal.specs.Sets.{Within, has, subsetOf}
 use Rattle.causal.proofs.Codes.{check-none, or-both, or-none, or-some}
 use Rattle.causal.proofs.Lists.{sum-le, tab-length}
-use Rattle.causal.proofs.Sets.{has-lt, subset-within}
+use Rattle.causal.proofs.Sets.{has-lt, is-in, subset-within}
 use Rattle.causal.proofs.Tests.{both-true}
 use Rattle.frame.specs.declared.entry.Entry.{Entry}
 use Rattle.frame.specs.declared.session.Session.{Session}
@@ -28,7 +28,7 @@ use Rattle.frame.specs.Tokens.{rowsOf}
 use Rattle.frame.specs.Calls.{laid}
 use Rattle.frame.proofs.Entries.{RingFacts, ring-facts, entry-facts, facts-frame, frame-wider}
 use Rattle.frame.proofs.Ids.{id-range}
-use Rattle.frame.proofs.Sessions.{SaneContent, session-facts, own-ok}
+use Rattle.frame.proofs.Sessions.{SaneContent, ids-new, ids-set, session-facts, own-ok}
 use Rattle.store.specs.Offices.{Office, need, slotAt, officeOf, storeWords, settingsOk, soundStore, made}
 use Rattle.store.specs.Slots.{holdWords}
 use Rattle.store.proofs.Bridge.{store-same}
@@ -37,12 +37,12 @@ use Rattle.store.proofs.Changes.{hold-words}
 use Rattle.office.specs.Calls.{Result, refusal, newEntry, sentOf, writeSends, writeCode, holdAll, missing, ownCode, writeOn, write}
 use Rattle.office.specs.Answers.{sessionIf, extendedBy, madeBy, withMade, writeSession}
 use Rattle.office.specs.Promises.{MakePromise, WritePromise}
-use Rattle.office.specs.Steps.{ownAt, ownTo, firstCodes, secondCodes, earlyCode, started, allFrames, Framed, holdsIn, Slots}
+use Rattle.office.specs.Steps.{ownAt, ownTo, firstCodes, secondCodes, earlyCode, started, allFrames, AllHeld, Framed, holdsIn, Slots}
 use Rattle.office.proofs.KeepCalls.{all-known}
 use Rattle.office.proofs.Along.{Along, hold-end, start-along}
 use Rattle.office.proofs.KeepWrite.{A, takes, e-ok}
 use Rattle.office.proofs.OwnCodes.{write-code}
-use Rattle.office.proofs.Shape.{own-each}
+use Rattle.office.proofs.Shape.{own-all, own-each}
 use Rattle.office.proofs.Sends.{all-frames}
 use Rattle.office.proofs.Holds.{holds-are}
 
@@ -121,6 +121,21 @@ module _ (ws : List ℕ) (s : Session) (sound : soundStore ws ≡ true) (session
 
   pub slots : Slots (s .own) (s .count) (length ws)
   slots i l = slot-of (officeOf ws .offices) (officeOf ws .plots) (length ws) (ownAt (s .own) i) long (own-entry i l)
+
+  own-small : (e : Entry) → List·Memᴰ e (contentOf s .own) → idOf e < 256
+  unfolding contentOf officeOf
+  own-small =
+      own-all (λ (e : Entry). idOf e < 256) (s .own) (s .count)
+      (λ i l. omega (arith, id-range (getD ws 0 0) (getD ws 2 0) (ownAt (s .own) i) (entry-facts (getD ws 0 0) (getD ws 2 0) (ownAt (s .own) i) (own-entry i l)), settings ws sound .high))
+
+  -- no own write is new to a set that has their ids
+  pub none-new : (own held : List ℕ) (b : Bool) → own ≡ idsOf (contentOf s .own) → b ≡ subsetOf own held → AllHeld b held (s .own) (s .count)
+  unfolding contentOf
+  none-new own held b o q y i l =
+      let es = ownTo (s .own) (s .count) in
+      is-in held (idOf (ownAt (s .own) i))
+      (subset-within (idsOf es) held (ids-set es own-small) (sym (q ∙ ap (λ (x : List ℕ). subsetOf x held) o) ∙ y) (idOf (ownAt (s .own) i))
+      (ids-new es own-small (idOf (ownAt (s .own) i)) (Memᴰ·map idOf (own-each (s .own) (s .count) i l))))
 
   pub frames : Framed (getD ws 0 0) (s .own) (s .count)
   unfolding officeOf

@@ -15,7 +15,7 @@ use Rattle.frame.specs.declared.entry.Entry.{Entry}
 use Rattle.frame.specs.declared.session.Session.{Session}
 use Rattle.frame.specs.Entries.{idOf, outranks, blankEntry}
 use Rattle.frame.specs.Sessions.{Content, nobody, sessionOk}
-use Rattle.store.specs.Offices.{slotAt, entryAt, officeOf, soundStore, reveal, current, Found, None, Some}
+use Rattle.store.specs.Offices.{slotAt, entryAt, officeOf, soundStore, reveal, Found, None, Some}
 use Rattle.store.specs.Current.{currentAt}
 use Rattle.store.specs.declared.current.Place.{Place}
 use Rattle.store.specs.declared.current.Place.the-variants.{At, Nowhere}
@@ -123,9 +123,3 @@ seenOf s = record { clock = s .clock; read = s .read }
 unfoldable pub seenTo : (ℕ → Found) → ℕ → Seen → Seen
 seenTo g zero x = x
 seenTo g (suc n) x = notedSeen (g n) (seenTo g n x)
-
--- what a joint reading that is not refused has found out: the visible set to be, and what is current on each plot
-pub record Decides (ws read plots visible ks : List ℕ) : Type 0 where
-  pub shown : visible ≡ reveal (officeOf ws) read .visible
-  pub found : (j : ℕ) → j < length plots → foundAmong ws ks j ≡ current (reveal (officeOf ws) read) (getD plots j 0)
-  pub reach : AllReach (length ws) (length plots) ks

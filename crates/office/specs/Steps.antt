@@ -37,6 +37,12 @@ unfoldable pub earlyCode : Office → Content → ℕ → ℕ → ℕ
 earlyCode O s plot value =
     orElse (firstCodes (O .offices) (O .plots) s plot value) (orElse (secondCodes O (length (s .own)) (s .read)) (ownCode O (s .own)))
 
+-- ---- own writes that are not new
+
+-- where b says so, a set has each of the first own writes
+abbrev pub AllHeld : Bool → List ℕ → List Entry → ℕ → Type 0
+AllHeld b held own count = b ≡ true → (i : ℕ) → i < count → isIn held (idOf (ownAt own i)) ≡ true
+
 -- ---- the frames of a write
 
 -- the frame in which an entry starts its way

@@ -23,38 +23,38 @@ pub fn status_of(code: u32) -> Status
     Status::Refused(refusal)
 }
 
-// 2: store unsound. 3: session unsound for it, asked in two steps: where it carries nothing, its own writes are not taken out.
-pub fn start_code(store: &[u32], s: Session) -> u32
-    ensures { λ r. ⌜ r ≡ startCode (now (store .entry)) (contentOf s) ⌝ }
+// 2: store unsound, which the caller has asked. 3: session unsound for it: one that carries nothing, by its fields.
+pub fn alone_code(store: &[u32], sound: bool, offices: u32, clock: [u32; 8], read: [u32; 8]) -> u32
+    requires { ⌜ sound ≡ soundStore (now store) ⌝ }
+    ensures { λ r. ⌜ r ≡ startCode (now (store .entry)) (bare offices clock read) ⌝ }
 {
-    if !store::sound::is_sound(store) {
+    if !sound {
         return 2;
     }
-    let count = s.count;
-    let clock = s.clock;
-    let read = s.read;
-    if !frame::session::head_ok(s.offices, count, clock, read, store[0]) {
-        return 3;
-    }
-    if count == 0 {
-        return 0;
-    }
-    let own = s.own;
-    if !frame::session::owns_ok(store[0], store[2], read, own, count) {
+    if !frame::session::head_ok(offices, 0, clock, read, store[0]) {
         return 3;
     }
     0
 }
 
-// start_code of a session that carries nothing, by its fields.
-pub fn alone_code(store: &[u32], offices: u32, clock: [u32; 8], read: [u32; 8]) -> u32
-    ensures { λ r. ⌜ r ≡ startCode (now (store .entry)) (bare offices clock read) ⌝ }
+// The same for any session, whose parts but for its own writes the caller has asked. They are taken out only where there are any.
+pub fn start_code(store: &[u32], head: u32, s: Session) -> u32
+    requires { ⌜ head ≡ startCode (now store) (bare (s .offices) (s .clock) (s .read)) ⌝ }
+    ensures { λ r. ⌜ r ≡ startCode (now (store .entry)) (contentOf s) ⌝ }
 {
-    let sound = store::sound::is_sound(store);
-    if !sound {
-        return 2;
+    if head != 0 {
+        return head;
     }
-    if !frame::session::head_ok(offices, 0, clock, read, store[0]) {
+    let count = s.count;
+    if count == 0 {
+        return 0;
+    }
+    if count > 16 {
+        return 3;
+    }
+    let read = s.read;
+    let own = s.own;
+    if !frame::session::owns_ok(store[0], store[2], read, own, count) {
         return 3;
     }
     0

@@ -17,7 +17,7 @@ ghost use Rattle.causal.specs.Sets.{subsetOf};
 ghost use Rattle.frame.specs.Sessions.{contentOf};
 ghost use Rattle.store.specs.Offices.{reveal, soundStore};
 ghost use Rattle.office.specs.Calls.{plotsOk, threeWords};
-ghost use Rattle.office.specs.Decide.{alone, bare, jointStart, jointRefusal, foundIn, Reaches, AllReach, PlacesTo, ownOver, noneOverTo, overAll, foundAmong, wordsTo, seenTo, withSeen, Decides};
+ghost use Rattle.office.specs.Decide.{alone, bare, jointStart, foundIn, Reaches, AllReach, PlacesTo, ownOver, noneOverTo, overAll, foundAmong, wordsTo, seenTo, withSeen};
 ghost use Rattle.office.specs.Promises.{JointPromise};
 ghost use Rattle.frame.specs.Refusals.{codeOf};
 
@@ -51,7 +51,11 @@ fn plots_ok(plots: &[u32], p: u32) -> bool
 fn joint_start(store: &[u32], s: Session, plots: &[u32], room: usize) -> u32
     ensures { λ r. ⌜ r ≡ jointStart (now (store .entry)) (contentOf s) (now (plots .entry)) room ⌝ }
 {
-    let start = crate::code::start_code(store, s);
+    let clock = s.clock;
+    let read = s.read;
+    let sound = store::sound::is_sound(store);
+    let head = crate::code::alone_code(store, sound, s.offices, clock, read);
+    let start = crate::code::start_code(store, head, s);
     if start != 0 {
         return start;
     }
@@ -61,7 +65,6 @@ fn joint_start(store: &[u32], s: Session, plots: &[u32], room: usize) -> u32
     if room < 3 * plots.len() {
         return 8;
     }
-    let read = s.read;
     if !crate::code::held_all(store, read) {
         return 12;
     }
@@ -144,39 +147,6 @@ fn over_code(store: &[u32], s: Session, plots: &[u32], places: [usize; 16]) -> u
     0
 }
 
-// The refusal number; where it is 0, the visible set to be and what is current on each plot.
-struct Decided {
-    code: u32,
-    visible: [u32; 8],
-    places: [usize; 16],
-}
-
-fn decide(store: &[u32], s: Session, plots: &[u32], room: usize) -> Decided
-    ensures { λ r. ⌜ (r .code ≡ jointRefusal (now (store .entry)) (contentOf s) (now (plots .entry)) room)
-        × (r .code ≡ 0 → Decides (now (store .entry)) (s .read) (now (plots .entry)) (r .visible) (r .places)) ⌝ }
-{
-    let code = joint_start(store, s, plots, room);
-    if code != 0 {
-        let visible = [0u32; 8];
-        let places = [256usize; 16];
-        return Decided {
-            code,
-            visible,
-            places,
-        };
-    }
-    let read = s.read;
-    let revealed = store::reveal::revealed_by(store, read);
-    let visible = revealed.visible;
-    let places = places_of(store, visible, plots);
-    let code = over_code(store, s, plots, places);
-    Decided {
-        code,
-        visible,
-        places,
-    }
-}
-
 // Three words from `at` on: 1, value and name payload of entry k, or zeros.
 fn put_three(store: &[u32], k: usize, answer: &mut [u32], at: usize)
     requires { ⌜ Reaches (length (now store)) k × (at + 3 ≤ length (now answer)) ⌝ }
@@ -216,24 +186,36 @@ fn note_all(store: &[u32], places: [usize; 16], n: usize, first: Seen) -> Seen
     seen
 }
 
+// What is refused: nothing more is seen.
+fn unseen(code: u32, first: Seen) -> JointSeen
+    requires { ⌜ code ≤ 13 ⌝ }
+    ensures { λ r. ⌜ (codeOf (r .status) ≡ code) × (r .seen ≡ first) ⌝ }
+{
+    let status = crate::code::status_of(code);
+    JointSeen {
+        status,
+        seen: first,
+    }
+}
+
 // read_joint, but for the parts of the session that a reading leaves as they were.
 pub fn see_joint(store: &mut [u32], s: Session, plots: &[u32], answer: &mut [u32]) -> JointSeen
     ensures { λ r. ⌜ JointPromise (now (store .entry)) s (now (plots .entry)) (now (answer .entry)) (codeOf (r .status)) (withSeen s (r .seen)) (now (store .exit)) (now (answer .exit)) ⌝ }
 {
-    let decided = decide(store, s, plots, answer.len());
-    let code = decided.code;
+    let start = joint_start(store, s, plots, answer.len());
     let clock = s.clock;
     let read = s.read;
     let first = Seen { clock, read };
-    if code != 0 {
-        let status = crate::code::status_of(code);
-        return JointSeen {
-            status,
-            seen: first,
-        };
+    if start != 0 {
+        return unseen(start, first);
     }
-    let visible = decided.visible;
-    let places = decided.places;
+    let revealed = store::reveal::revealed_by(store, read);
+    let visible = revealed.visible;
+    let places = places_of(store, visible, plots);
+    let over = over_code(store, s, plots, places);
+    if over != 0 {
+        return unseen(over, first);
+    }
     put_answers(store, places, plots.len(), &mut *answer);
     let seen = note_all(store, places, plots.len(), first);
     store::reveal::show(&mut *store, visible);
@@ -255,7 +237,8 @@ fn alone_start(
 ) -> u32
     ensures { λ r. ⌜ r ≡ jointStart (now (store .entry)) (bare offices clock read) (now (plots .entry)) room ⌝ }
 {
-    let start = crate::code::alone_code(store, offices, clock, read);
+    let sound = store::sound::is_sound(store);
+    let start = crate::code::alone_code(store, sound, offices, clock, read);
     if start != 0 {
         return start;
     }
@@ -272,37 +255,6 @@ fn alone_start(
 }
 
 // No own write is over what is current: there is none.
-fn decide_alone(
-    store: &[u32],
-    offices: u32,
-    clock: [u32; 8],
-    read: [u32; 8],
-    plots: &[u32],
-    room: usize,
-) -> Decided
-    ensures { λ r. ⌜ (r .code ≡ jointRefusal (now (store .entry)) (bare offices clock read) (now (plots .entry)) room)
-        × (r .code ≡ 0 → Decides (now (store .entry)) read (now (plots .entry)) (r .visible) (r .places)) ⌝ }
-{
-    let code = alone_start(store, offices, clock, read, plots, room);
-    if code != 0 {
-        let visible = [0u32; 8];
-        let places = [256usize; 16];
-        return Decided {
-            code,
-            visible,
-            places,
-        };
-    }
-    let revealed = store::reveal::revealed_by(store, read);
-    let visible = revealed.visible;
-    let places = places_of(store, visible, plots);
-    Decided {
-        code: 0,
-        visible,
-        places,
-    }
-}
-
 pub fn see_joint_alone(
     store: &mut [u32],
     offices: u32,
@@ -313,18 +265,14 @@ pub fn see_joint_alone(
 ) -> JointSeen
     ensures { λ r. ⌜ ((own : List Entry) → JointPromise (now (store .entry)) (alone offices clock read own) (now (plots .entry)) (now (answer .entry)) (codeOf (r .status)) (withSeen (alone offices clock read own) (r .seen)) (now (store .exit)) (now (answer .exit))) ⌝ }
 {
-    let decided = decide_alone(store, offices, clock, read, plots, answer.len());
-    let code = decided.code;
+    let start = alone_start(store, offices, clock, read, plots, answer.len());
     let first = Seen { clock, read };
-    if code != 0 {
-        let status = crate::code::status_of(code);
-        return JointSeen {
-            status,
-            seen: first,
-        };
+    if start != 0 {
+        return unseen(start, first);
     }
-    let visible = decided.visible;
-    let places = decided.places;
+    let revealed = store::reveal::revealed_by(store, read);
+    let visible = revealed.visible;
+    let places = places_of(store, visible, plots);
     put_answers(store, places, plots.len(), &mut *answer);
     let noted = note_all(store, places, plots.len(), first);
     store::reveal::show(&mut *store, visible);

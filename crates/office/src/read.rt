@@ -39,14 +39,17 @@ pub struct Best {
 fn read_code(store: &[u32], s: Session, plot: u32) -> u32
     ensures { λ r. ⌜ r ≡ readRefusal (now (store .entry)) (contentOf s) plot ⌝ }
 {
-    let start = crate::code::start_code(store, s);
+    let clock = s.clock;
+    let read = s.read;
+    let sound = store::sound::is_sound(store);
+    let head = crate::code::alone_code(store, sound, s.offices, clock, read);
+    let start = crate::code::start_code(store, head, s);
     if start != 0 {
         return start;
     }
     if plot >= store[2] {
         return 4;
     }
-    let read = s.read;
     if !crate::code::held_all(store, read) {
         return 12;
     }
@@ -164,7 +167,8 @@ pub fn see_plot(store: &mut [u32], s: Session, plot: u32) -> PlotSeen
 fn alone_code(store: &[u32], offices: u32, clock: [u32; 8], read: [u32; 8], plot: u32) -> u32
     ensures { λ r. ⌜ r ≡ readRefusal (now (store .entry)) (bare offices clock read) plot ⌝ }
 {
-    let start = crate::code::alone_code(store, offices, clock, read);
+    let sound = store::sound::is_sound(store);
+    let start = crate::code::alone_code(store, sound, offices, clock, read);
     if start != 0 {
         return start;
     }

@@ -12,7 +12,7 @@ ghost use Rattle.causal.specs.Sets.{isIn};
 ghost use Rattle.frame.specs.Entries.{idOf};
 ghost use Rattle.frame.specs.Frames.{frameOk, frameWords};
 ghost use Rattle.frame.specs.Calls.{laid};
-ghost use Rattle.office.specs.Steps.{ownTo, started as startedOf, frameIf, framesIn, allFrames, Framed};
+ghost use Rattle.office.specs.Steps.{ownTo, started as startedOf, frameIf, framesIn, allFrames, AllHeld, Framed};
 
 // The frame in which an entry starts its way: all offices but its own and the first receiver are still to hear it.
 fn started(n: u32, e: Entry) -> Frame
@@ -51,18 +51,17 @@ fn own_words(held: [u32; 8], n: u32, own: [Entry; 16], count: usize) -> usize
     words
 }
 
-// Here and in put_all: own writes are not looked at where there are none.
-pub fn all_words(held: [u32; 8], n: u32, s: Session, e: Entry) -> usize
-    requires { ⌜ (s .count ≤ 16) × (2 ≤ n) × (n ≤ 8) ⌝ }
+// Here and in put_all: own writes are not looked at where none of them is new.
+pub fn all_words(none: bool, held: [u32; 8], n: u32, s: Session, e: Entry) -> usize
+    requires { ⌜ (s .count ≤ 16) × (2 ≤ n) × (n ≤ 8) × AllHeld none held (s .own) (s .count) ⌝ }
     ensures { λ r. ⌜ r ≡ length (allFrames held n (ownTo (s .own) (s .count)) e) ⌝ }
 {
     let last = frame::writer::words_of(started(n, e));
-    let count = s.count;
-    if count == 0 {
+    if none {
         return last;
     }
     let own = s.own;
-    own_words(held, n, own, count) + last
+    own_words(held, n, own, s.count) + last
 }
 
 // The words of the new entry's frame alone.
@@ -99,17 +98,16 @@ fn put_own(held: [u32; 8], n: u32, own: [Entry; 16], count: usize, out: &mut [u3
 }
 
 // Each next frame right behind the one before; gives the number of words.
-pub fn put_all(held: [u32; 8], n: u32, s: Session, e: Entry, out: &mut [u32]) -> usize
-    requires { ⌜ (s .count ≤ 16) × Framed n (s .own) (s .count) × (frameOk n 64 (startedOf n e) ≡ true) × (length (allFrames held n (ownTo (s .own) (s .count)) e) ≤ length (now out)) ⌝ }
+pub fn put_all(none: bool, held: [u32; 8], n: u32, s: Session, e: Entry, out: &mut [u32]) -> usize
+    requires { ⌜ (s .count ≤ 16) × Framed n (s .own) (s .count) × AllHeld none held (s .own) (s .count) × (frameOk n 64 (startedOf n e) ≡ true) × (length (allFrames held n (ownTo (s .own) (s .count)) e) ≤ length (now out)) ⌝ }
     ensures { λ r. ⌜ (r ≡ length (allFrames held n (ownTo (s .own) (s .count)) e)) × (now (out .exit) ≡ laid (allFrames held n (ownTo (s .own) (s .count)) e) (now (out .entry))) ⌝ }
 {
     let last = started(n, e);
-    let count = s.count;
-    if count == 0 {
+    if none {
         return put_frame(last, &mut *out, 0);
     }
     let own = s.own;
-    let at = put_own(held, n, own, count, &mut *out);
+    let at = put_own(held, n, own, s.count, &mut *out);
     put_frame(last, &mut *out, at)
 }
 

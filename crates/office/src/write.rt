@@ -16,7 +16,7 @@ ghost use Rattle.store.specs.Offices.{slotAt, officeOf, soundStore};
 ghost use Rattle.store.specs.Slots.{Laid, holdWords};
 ghost use Rattle.office.specs.Calls.{newEntry};
 ghost use Rattle.office.specs.Answers.{extendedBy};
-ghost use Rattle.office.specs.Steps.{ownTo, firstCodes, secondCodes, earlyCode, holdsIn, Slots};
+ghost use Rattle.office.specs.Steps.{ownTo, firstCodes, secondCodes, earlyCode, holdsIn, AllHeld, Slots};
 ghost use Rattle.office.specs.Decide.{alone, bare};
 ghost use Rattle.office.specs.Promises.{MakePromise, WritePromise};
 ghost use Rattle.frame.specs.Refusals.{replyOf};
@@ -49,7 +49,11 @@ fn not_made(refusal: Refusal) -> Made
 fn first_codes(store: &[u32], s: Session, plot: u32, value: u32) -> u32
     ensures { λ r. ⌜ r ≡ check (soundStore (now (store .entry))) 2 (firstCodes (getD (now (store .entry)) 0 0) (getD (now (store .entry)) 2 0) (contentOf s) plot value) ⌝ }
 {
-    let start = crate::code::start_code(store, s);
+    let clock = s.clock;
+    let read = s.read;
+    let sound = store::sound::is_sound(store);
+    let head = crate::code::alone_code(store, sound, s.offices, clock, read);
+    let start = crate::code::start_code(store, head, s);
     if start != 0 {
         return start;
     }
@@ -100,7 +104,7 @@ pub fn early_code(store: &[u32], s: Session, plot: u32, value: u32) -> u32
     crate::entries::own_code(store, held, store[1], own, count)
 }
 
-// ---- what a write makes and leaves: own writes are not looked at where there are none
+// ---- what a write makes and leaves: own writes are not looked at again where none of them is new here
 
 // From the clock, the read ids and the ids of own writes of a session.
 fn entry_by(
@@ -131,28 +135,17 @@ fn entry_by(
     }
 }
 
-fn new_entry(store: &[u32], s: Session, plot: u32, value: u32) -> Entry
-    requires { ⌜ (soundStore (now store) ≡ true) × (s .count ≤ 16) ⌝ }
-    ensures { λ r. ⌜ r ≡ newEntry (officeOf (now (store .entry))) (contentOf s) plot value ⌝ }
-{
-    let known = s.clock;
-    let read = s.read;
-    let own = frame::session::own_ids(s);
-    entry_by(store, known, read, own, plot, value)
-}
-
 // The own writes that are not held, then the new entry.
-fn hold_all(store: &mut [u32], held: [u32; 8], s: Session, e: Entry)
-    requires { ⌜ (s .count ≤ 16) × Slots (s .own) (s .count) (length (now store)) × (slotAt (idOf e) + 18 ≤ length (now store)) ⌝ }
+fn hold_all(store: &mut [u32], none: bool, held: [u32; 8], s: Session, e: Entry)
+    requires { ⌜ (s .count ≤ 16) × Slots (s .own) (s .count) (length (now store)) × AllHeld none held (s .own) (s .count) × (slotAt (idOf e) + 18 ≤ length (now store)) ⌝ }
     ensures { λ _. ⌜ now (store .exit) ≡ holdWords (holdsIn held (now (store .entry)) (ownTo (s .own) (s .count))) e ⌝ }
 {
-    let count = s.count;
-    if count == 0 {
+    if none {
         store::hold::hold(&mut *store, e);
         return;
     }
     let own = s.own;
-    crate::entries::hold_own(&mut *store, held, own, count);
+    crate::entries::hold_own(&mut *store, held, own, s.count);
     store::hold::hold(&mut *store, e);
 }
 
@@ -180,14 +173,18 @@ pub fn make(store: &mut [u32], s: Session, plot: u32, value: u32, out: &mut [u32
     if code != 0 {
         return not_made(frame::refusal::refusal_of(code));
     }
-    let e = new_entry(store, s, plot, value);
+    let known = s.clock;
+    let read = s.read;
+    let own = frame::session::own_ids(s);
+    let e = entry_by(store, known, read, own, plot, value);
     let n = store[0];
     let held = store::layout::set_at(store, 3);
-    if crate::send::all_words(held, n, s, e) > out.len() {
+    let none = causal::set::subset(own, held);
+    if crate::send::all_words(none, held, n, s, e) > out.len() {
         return not_made(Refusal::Room);
     }
-    let words = crate::send::put_all(held, n, s, e, out);
-    hold_all(&mut *store, held, s, e);
+    let words = crate::send::put_all(none, held, n, s, e, out);
+    hold_all(&mut *store, none, held, s, e);
     Made {
         written: Written::Words(words),
         entry: e,
@@ -206,7 +203,8 @@ fn alone_first(
 ) -> u32
     ensures { λ r. ⌜ r ≡ check (soundStore (now (store .entry))) 2 (firstCodes (getD (now (store .entry)) 0 0) (getD (now (store .entry)) 2 0) (bare offices clock read) plot value) ⌝ }
 {
-    let start = crate::code::alone_code(store, offices, clock, read);
+    let sound = store::sound::is_sound(store);
+    let start = crate::code::alone_code(store, sound, offices, clock, read);
     if start != 0 {
         return start;
     }
@@ -270,7 +268,13 @@ pub fn make_alone(
 pub fn write(store: &mut [u32], s: Session, plot: u32, value: u32, out: &mut [u32]) -> Wrote
     ensures { λ r. ⌜ WritePromise (now (store .entry)) s plot value (now (out .entry)) (replyOf (r .written)) (r .session) (now (store .exit)) (now (out .exit)) ⌝ }
 {
-    let made = make(store, s, plot, value, out);
+    let clock = s.clock;
+    let read = s.read;
+    let made = if s.count == 0 {
+        make_alone(store, s.offices, clock, read, plot, value, out)
+    } else {
+        make(store, s, plot, value, out)
+    };
     let written = made.written;
     match written {
         Written::NotWritten(_) => Wrote {

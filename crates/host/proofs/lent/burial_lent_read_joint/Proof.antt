@@ -46,7 +46,7 @@ use denote.Signature.{plain}
 use Rattle.office.specs.Decide.{alone, withSeen}
 use Rattle.office.specs.Promises.{JointPromise}
 use Rattle.frame.specs.declared.entry.Entry.{Entry}
-use Rattle.host.proofs.Alone.{is-alone}
+use Rattle.office.proofs.Alone.{is-alone}
 use Rattle.host.proofs.Fields.{Held, clock-is, clock-val, read-is, read-val}
 use Rattle.frame.specs.declared.session.Session.{Session}
 use Rattle.frame.proofs.session.Session as T-Session

@@ -47,7 +47,7 @@ use Rattle.office.specs.Decide.{alone, withSeen}
 use Rattle.office.specs.Promises.{ReadPromise}
 use Rattle.frame.specs.declared.entry.Entry.{Entry}
 use Rattle.host.specs.Flags.{isSet}
-use Rattle.host.proofs.Alone.{is-alone}
+use Rattle.office.proofs.Alone.{is-alone}
 use Rattle.host.proofs.Fields.{Held, clock-is, clock-val, read-is, read-val}
 use Rattle.frame.specs.declared.session.Session.{Session}
 use Rattle.frame.proofs.session.Session as T-Session

@@ -49,7 +49,7 @@ use Rattle.office.specs.Promises.{WritePromise}
 use Rattle.frame.specs.Sessions.{nobody}
 use Rattle.frame.specs.declared.entry.Entry.{Entry}
 use Rattle.host.specs.Left.{leftIn}
-use Rattle.host.proofs.Alone.{is-alone}
+use Rattle.office.proofs.Alone.{is-alone}
 use Rattle.host.proofs.Cells.{elem, unraw}
 use Rattle.host.proofs.Fields.{Held, clock-is, clock-val, read-is, read-val, own-vals, own-length, in-row, first-is, own-set, own-set-is}
 use Rattle.frame.proofs.entry.Entry as T-Entry

@@ -8,15 +8,18 @@ use borrow.Author.Needs.{needs}
 use Rattle.office.proofs.joint.alone_start.Statement.{statement}
 use Rattle.office.proofs.joint.alone_start.Tie as tie
 
+is-sound-requires : tie.Need-is-sound-requires
+is-sound-requires c κs = search needs
+
 alone-code-requires : tie.Need-alone-code-requires
-alone-code-requires c κs = search needs
+alone-code-requires c κs = c .is-sound .ensures
 
 returns : tie.Need-returns
 unfolding jointStart
 returns c = search (codes, arith) depth 9
 
 shared-slice-read-plots-ok : tie.Need-shared-slice-read-plots-ok
-shared-slice-read-plots-ok c = omega (arith, laid (c .before .before .before .before .before .args .store .now) (start-facts _ _ (sym (c .before .before .alone-code .ensures) ∙ c .before .if1 .left) .0) .long)
+shared-slice-read-plots-ok c = omega (arith, laid (c .before .before .before .before .before .before .args .store .now) (start-facts _ _ (sym (c .before .before .alone-code .ensures) ∙ c .before .if1 .left) .0) .long)
 
 plots-ok-requires : tie.Need-plots-ok-requires
 plots-ok-requires c κs = search needs
@@ -47,6 +50,7 @@ pub alone-start-spec : {M : Type 1} → statement M
 alone-start-spec =
     tie.close
     (tie.spec
+    is-sound-requires
     alone-code-requires
     returns
     shared-slice-read-plots-ok

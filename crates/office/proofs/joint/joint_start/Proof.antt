@@ -9,15 +9,21 @@ use borrow.Author.Needs.{needs}
 use Rattle.office.proofs.joint.joint_start.Statement.{statement}
 use Rattle.office.proofs.joint.joint_start.Tie as tie
 
+is-sound-requires : tie.Need-is-sound-requires
+is-sound-requires c κs = search needs
+
+alone-code-requires : tie.Need-alone-code-requires
+alone-code-requires c κs = c .is-sound .ensures
+
 start-code-requires : tie.Need-start-code-requires
-start-code-requires c κs = search needs
+start-code-requires c κs = c .alone-code .ensures
 
 returns : tie.Need-returns
 unfolding jointStart contentOf
 returns c = search (codes, arith) depth 9
 
 shared-slice-read-plots-ok : tie.Need-shared-slice-read-plots-ok
-shared-slice-read-plots-ok c = omega (arith, laid (c .before .before .before .before .before .args .store .now) (start-facts _ _ (sym (c .before .before .start-code .ensures) ∙ c .before .if1 .left) .0) .long)
+shared-slice-read-plots-ok c = omega (arith, laid (c .before .before .before .before .before .before .before .before .before .args .store .now) (start-facts _ _ (sym (c .before .before .start-code .ensures) ∙ c .before .if1 .left) .0) .long)
 
 plots-ok-requires : tie.Need-plots-ok-requires
 plots-ok-requires c κs = search needs
@@ -34,7 +40,7 @@ unfolding jointStart contentOf
 returns-3 c = search (codes, arith) depth 9
 
 held-all-requires : tie.Need-held-all-requires
-held-all-requires c κs = start-facts _ _ (sym (c .before .before .before .before .before .before .start-code .ensures) ∙ c .before .before .before .before .before .if1 .left) .0
+held-all-requires c κs = start-facts _ _ (sym (c .before .before .before .before .before .start-code .ensures) ∙ c .before .before .before .before .if1 .left) .0
 
 returns-4 : tie.Need-returns-4
 unfolding jointStart contentOf
@@ -48,6 +54,8 @@ pub joint-start-spec : {M : Type 1} → statement M
 joint-start-spec =
     tie.close
     (tie.spec
+    is-sound-requires
+    alone-code-requires
     start-code-requires
     returns
     shared-slice-read-plots-ok

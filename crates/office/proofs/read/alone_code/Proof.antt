@@ -8,15 +8,18 @@ use borrow.Author.Needs.{needs}
 use Rattle.office.proofs.read.alone_code.Statement.{statement}
 use Rattle.office.proofs.read.alone_code.Tie as tie
 
+is-sound-requires : tie.Need-is-sound-requires
+is-sound-requires c κs = search needs
+
 alone-code-requires : tie.Need-alone-code-requires
-alone-code-requires c κs = search needs
+alone-code-requires c κs = c .is-sound .ensures
 
 returns : tie.Need-returns
 unfolding readRefusal
 returns c = search (codes, arith) depth 9
 
 shared-slice-read-if2 : tie.Need-shared-slice-read-if2
-shared-slice-read-if2 c = omega (arith, laid (c .before .before .before .before .args .store .now) (start-facts _ _ (sym (c .before .before .alone-code .ensures) ∙ c .before .if1 .left) .0) .long)
+shared-slice-read-if2 c = omega (arith, laid (c .before .before .before .before .before .args .store .now) (start-facts _ _ (sym (c .before .before .alone-code .ensures) ∙ c .before .if1 .left) .0) .long)
 
 returns-2 : tie.Need-returns-2
 unfolding readRefusal
@@ -37,6 +40,7 @@ pub alone-code-spec : {M : Type 1} → statement M
 alone-code-spec =
     tie.close
     (tie.spec
+    is-sound-requires
     alone-code-requires
     returns
     shared-slice-read-if2

@@ -25,7 +25,7 @@ returns c =
     let w = c .before in
     let z = w .before .before in
     w .words-of .ensures
-    ∙ ap length (alone (z .args .held) (z .args .n) (z .args .s .own) (z .args .s .count) (z .args .e) (c .if1 .taken) (w .before .started .result) (w .before .started .ensures))
+    ∙ ap length (alone (z .args .none) (z .args .held) (z .args .n) (z .args .s .own) (z .args .s .count) (z .args .e) (z .pre .3) (c .if1 .taken) (w .before .started .result) (w .before .started .ensures))
 
 own-words-requires : tie.Need-own-words-requires
 own-words-requires c κs = search needs

@@ -19,15 +19,15 @@ use Rattle.office.proofs.send.put_all.Tie as tie
 
 started-requires : tie.Need-started-requires
 started-requires c κs =
-    let z = c .before in frame-facts (z .args .n) 64 (started (z .args .n) (z .args .e)) (z .pre .2) .low
+    let z = c .before in frame-facts (z .args .n) 64 (started (z .args .n) (z .args .e)) (z .pre .3) .low
 
 put-frame-requires : tie.Need-put-frame-requires
 put-frame-requires c κs =
     let f = c .before .before in
     let z = f .before .before in
     let g = f .started .ensures in
-    let w = alone (z .args .held) (z .args .n) (z .args .s .own) (z .args .s .count) (z .args .e) (c .before .if1 .taken) (f .started .result) g in
-    (subst (λ (x : Frame). frameOk (x .offices) 64 x ≡ true) (sym g) (z .pre .2), omega (arith, ap length w, z .pre .3))
+    let w = alone (z .args .none) (z .args .held) (z .args .n) (z .args .s .own) (z .args .s .count) (z .args .e) (z .pre .2) (c .before .if1 .taken) (f .started .result) g in
+    (subst (λ (x : Frame). frameOk (x .offices) 64 x ≡ true) (sym g) (z .pre .3), omega (arith, ap length w, z .pre .4))
 
 same-length : tie.Need-same-length
 same-length c = search needs
@@ -38,14 +38,14 @@ returns c =
     let f = t .before in
     let z = f .before .before in
     let said = c .before .before .put-frame .ensures in
-    put-alone (z .args .held) (z .args .n) (z .args .s .own) (z .args .s .count) (z .args .e) (t .if1 .taken) (f .started .result) (f .started .ensures) (z .args .out .now) _ _ (z .pre .3) (said .0) (said .1)
+    put-alone (z .args .none) (z .args .held) (z .args .n) (z .args .s .own) (z .args .s .count) (z .args .e) (z .pre .2) (t .if1 .taken) (f .started .result) (f .started .ensures) (z .args .out .now) _ _ (z .pre .4) (said .0) (said .1)
 
 put-own-requires : tie.Need-put-own-requires
 unfolding allFrames
 put-own-requires c κs =
     let z = c .before .before .before .before .before in
     let fs = framesIn (z .args .held) (z .args .n) (ownTo (z .args .s .own) (z .args .s .count)) in
-    (z .pre .0, z .pre .1, omega (arith, z .pre .3, length-append fs (frameWords (started (z .args .n) (z .args .e)))))
+    (z .pre .0, z .pre .1, omega (arith, z .pre .4, length-append fs (frameWords (started (z .args .n) (z .args .e)))))
 
 put-frame-requires-2 : tie.Need-put-frame-requires-2
 unfolding allFrames
@@ -59,7 +59,7 @@ put-frame-requires-2 c κs =
     let fw = frameWords (started (z .args .n) (z .args .e)) in
     let w : length (frameWords (f .started .result)) ≡ length fw = ap (λ (x : Frame). length (frameWords x)) g in
     let k : length (a .put-own .last .1 .1 .1 .1 .0) ≡ length (z .args .out .now) = ap length (said .1) ∙ simp length-sets in
-    (subst (λ (x : Frame). frameOk (x .offices) 64 x ≡ true) (sym g) (z .pre .2), omega (arith, said .0, z .pre .3, length-append fs fw))
+    (subst (λ (x : Frame). frameOk (x .offices) 64 x ≡ true) (sym g) (z .pre .3), omega (arith, said .0, z .pre .4, length-append fs fw))
 
 same-length-2 : tie.Need-same-length-2
 same-length-2 c = search needs
@@ -78,7 +78,7 @@ returns-2 c =
     let w = ap frameWords (f .started .ensures) in
     let put = y .1 ∙ ap (sets (a .put-own .last .1 .1 .1 .1 .0) (a .put-own .result)) w in (
       omega (arith, y .0, own .0, ap length w, length-append fs fw),
-      turn-sets out _ _ fs fw (fs ++ fw) _ (own .0) (own .1) put refl ∙ sets-front out (fs ++ fw) (z .pre .3),
+      turn-sets out _ _ fs fw (fs ++ fw) _ (own .0) (own .1) put refl ∙ sets-front out (fs ++ fw) (z .pre .4),
     )
 
 pub put-all-spec : {M : Type 1} → statement M

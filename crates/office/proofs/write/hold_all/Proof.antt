@@ -20,7 +20,7 @@ returns : tie.Need-returns
 returns c =
     let t = c .before .before .before .before in
     let z = t .before .before in
-    let none = holds-none (z .args .held) (z .args .store .now) (z .args .s .own) (z .args .s .count) (t .if1 .taken) in
+    let none = holds-none (z .args .held) (z .args .store .now) (z .args .s .own) (z .args .s .count) (z .pre .2 (t .if1 .taken)) in
     c .before .before .hold .ensures ∙ ap (λ (x : List ℕ). holdWords x (z .args .e)) none
 
 hold-own-requires : tie.Need-hold-own-requires
@@ -30,7 +30,7 @@ hold-requires-2 : tie.Need-hold-requires-2
 hold-requires-2 c κs =
     let a = c .before .before .before in
     let z = a .before .before .before .before .before in
-    let k = a .hold-own .kept .0 in omega (arith, z .pre .2)
+    let k = a .hold-own .kept .0 in omega (arith, z .pre .3)
 
 same-length-2 : tie.Need-same-length-2
 same-length-2 c = search needs
