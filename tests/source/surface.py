@@ -18,6 +18,7 @@ TIE = re.compile(r"^use Rattle·(\w+)·proofs\.proofs\.(\w+)\.(\w+) as ", re.MUL
 COMMENT = re.compile(r"//[^\n]*|/\*.*?\*/", re.DOTALL)
 FUNCTION = re.compile(r'^[ \t]*pub\s+(extern\s+"C"\s+)?fn\s+([a-z0-9_]+)\b', re.MULTILINE)
 CLAUSE = re.compile(r"\b(requires|ensures)\s*\{|[{};]")
+ARRAY = re.compile(r"\[[^\[\]{};]*;[^\[\]{};]*\]")
 
 PUBLIC = "a listed call is a public function"
 ASKS = "a listed call requires nothing"
@@ -39,9 +40,14 @@ def line_of(text, at):
     return text.count("\n", 0, at) + 1
 
 
+def blanked(pattern, text):
+    """The text with blanks for what the pattern finds, so that places stay."""
+    return pattern.sub(lambda m: re.sub(r"[^\n]", " ", m.group()), text)
+
+
 def uncommented(text):
-    """The text with blanks for comments, so that places stay."""
-    return COMMENT.sub(lambda m: re.sub(r"[^\n]", " ", m.group()), text)
+    """The text without comments, and without the types of arrays, which have a semicolon in them."""
+    return blanked(ARRAY, blanked(COMMENT, text))
 
 
 def clauses_of(text, at):
@@ -171,6 +177,7 @@ TRIALS = [
     ("a `requires`", contract(REQUIRES + ENSURES), [(ASKS, f"{SOURCE}:3:")]),
     ("a `requires` behind the `ensures`", contract(ENSURES + REQUIRES), [(ASKS, f"{SOURCE}:4:")]),
     ("a `requires` in a comment", contract("    // requires { nothing }\n" + ENSURES), []),
+    ("an array among the parameters", small(GOOD.replace("n: u32", "n: [u32; 8]")), []),
     ("a `requires` of another function", small(GOOD + OTHER), []),
     ("no `ensures`", contract(""), [(SAYS, f"{SOURCE}:2:")]),
     ("a private function", small(GOOD.replace('#[no_mangle]\npub extern "C" ', "")), [(PUBLIC, f"{LIST}:7:")]),
