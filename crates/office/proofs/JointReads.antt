@@ -18,7 +18,7 @@ use Rattle.causal.specs.Rank.{ranksAbove}
 use Rattle.causal.proofs.Codes.{check-none, or-both, or-stops, or-goes}
 use Rattle.causal.proofs.Lists.{sets-append, sets-front}
 use Rattle.causal.proofs.Chain.{le-passes}
-use Rattle.causal.proofs.Tests.{all-more, all-fails, both-true, split, turn-done, both-one, both-assoc, all-front, all-intro}
+use Rattle.causal.proofs.Tests.{all-more, all-fails, both-true, split, turn-done, both-one, both-assoc, all-at, all-front, all-intro}
 use Rattle.frame.specs.declared.entry.Entry.{Entry}
 use Rattle.frame.specs.declared.session.Session.{Session}
 use Rattle.frame.specs.declared.refusal.Status.{Status}
@@ -34,7 +34,7 @@ use Rattle.store.proofs.Changes.{revealed-visible}
 use Rattle.store.proofs.SoundChanges.{reveal-store, reveal-held, reveal-ids, reveal-current}
 use Rattle.office.specs.Calls.{Result, refusal, given, worded, plotsOk, noneOver, allNoneOver, jointCode, jointOn, notedAll, threeWords, answerWords, readJoint}
 use Rattle.office.specs.Answers.{sessionIf, notedIn, notedAllIn, readJointSession}
-use Rattle.office.specs.Decide.{startCode, jointStart, jointRefusal, placeNumber, foundIn, foundAmong, AllReach, Reaches, PlacesTo, ownOver, noneOverTo, overAll, wordsTo, notedSeen, seenOf, seenTo, withSeen}
+use Rattle.office.specs.Decide.{startCode, jointStart, jointRefusal, placeNumber, foundIn, foundAmong, AllReach, Reaches, PlacesTo, ownOver, overNoneTo, overAll, wordsTo, notedSeen, seenOf, seenTo, withSeen}
 use Rattle.office.specs.declared.note.Seen.{Seen}
 use Rattle.office.proofs.KeepCalls.{readAll}
 use Rattle.office.proofs.Numbers.{start-facts, few-own, number-current, found-at, found-none, noted-with, with-own}
@@ -80,30 +80,48 @@ unfolding ownOver outranks entryAt
 over-some ws e k c r h q x =
     x ∙ ap (λ (y : List ℕ). ranksAbove (e .clock) (e .office) y (k / 32)) q ∙ sym (ap (λ (f : Found). ownOver f e) (found-at ws k h))
 
-module _ (own : List Entry) (plot : ℕ) (f : Found) where
+module _ (g : ℕ → Found) (plots : List ℕ) (e : Entry) where
   abbrev Under : ℕ → Bool
-  Under i = not (both (eqb (getD own i nobody .plot) plot) (ownOver f (getD own i nobody)))
+  Under j = not (both (eqb (e .plot) (getD plots j 0)) (ownOver (g j) e))
 
-  pub over-start : noneOverTo own plot f 0 ≡ true
-  unfolding noneOverTo allBelow
+  pub over-start : overNoneTo g plots e 0 ≡ true
+  unfolding overNoneTo allBelow
   over-start = refl
 
-  pub over-skip : (i : ℕ) → noneOverTo own plot f i ≡ true → (getD own i nobody .plot ≡ plot → ⊥) → noneOverTo own plot f (i + 1) ≡ true
-  unfolding noneOverTo both
-  over-skip i e h = all-more Under i e (rw (ne-eqb (getD own i nobody .plot) plot h) refl)
+  pub over-skip : (i : ℕ) → overNoneTo g plots e i ≡ true → (e .plot ≡ getD plots i 0 → ⊥) → overNoneTo g plots e (i + 1) ≡ true
+  unfolding overNoneTo both
+  over-skip i q h = all-more Under i q (rw (ne-eqb (e .plot) (getD plots i 0) h) refl)
 
-  pub over-more : (i : ℕ) (r : Bool) → noneOverTo own plot f i ≡ true → getD own i nobody .plot ≡ plot → r ≡ ownOver f (getD own i nobody) → r ≡ false → noneOverTo own plot f (i + 1) ≡ true
-  unfolding noneOverTo both
-  over-more i r e h q t = all-more Under i e (rw (eq-eqb (getD own i nobody .plot) plot h, sym q ∙ t) refl)
+  pub over-more : (i : ℕ) (r : Bool) → overNoneTo g plots e i ≡ true → e .plot ≡ getD plots i 0 → r ≡ ownOver (g i) e → r ≡ false → overNoneTo g plots e (i + 1) ≡ true
+  unfolding overNoneTo both
+  over-more i r q h x t = all-more Under i q (rw (eq-eqb (e .plot) (getD plots i 0) h, sym x ∙ t) refl)
 
-  pub over-fails : (n i : ℕ) (r : Bool) → i < n → getD own i nobody .plot ≡ plot → r ≡ ownOver f (getD own i nobody) → r ≡ true → false ≡ noneOverTo own plot f n
-  unfolding noneOverTo both
-  over-fails n i r l h q t = sym (all-fails Under n i l (rw (eq-eqb (getD own i nobody .plot) plot h, sym q ∙ t) refl))
+  pub over-fails : (n i : ℕ) (r : Bool) → i < n → e .plot ≡ getD plots i 0 → r ≡ ownOver (g i) e → r ≡ true → false ≡ overNoneTo g plots e n
+  unfolding overNoneTo both
+  over-fails n i r l h x t = sym (all-fails Under n i l (rw (eq-eqb (e .plot) (getD plots i 0) h, sym x ∙ t) refl))
 
-  pub over-done : (n i : ℕ) → noneOverTo own plot f i ≡ true → i ≤ n → n ≤ i → true ≡ noneOverTo own plot f n
-  unfolding noneOverTo
+  pub over-done : (n i : ℕ) → overNoneTo g plots e i ≡ true → i ≤ n → n ≤ i → true ≡ overNoneTo g plots e n
+  unfolding overNoneTo
   over-done n i h a b = turn-done Under n i h a b
 
+-- plot by plot, as the paper has it
+same-bool : (a b : Bool) → (a ≡ true → b ≡ true) → (b ≡ true → a ≡ true) → a ≡ b
+same-bool true true f h = refl
+same-bool false false f h = refl
+same-bool true false f h = sym (f refl)
+same-bool false true f h = h refl
+
+all-swap : (p : ℕ → ℕ → Bool) (m n : ℕ) → allBelow m (λ i. allBelow n (λ j. p i j)) ≡ allBelow n (λ j. allBelow m (λ i. p i j))
+all-swap p m n =
+    same-bool _ _
+    (λ h. all-intro (λ j. allBelow m (λ i. p i j)) n (λ j l. all-intro (λ i. p i j) m (λ i k. all-at (λ j. p i j) n (all-at (λ i. allBelow n (λ j. p i j)) m h i k) j l)))
+    (λ h. all-intro (λ i. allBelow n (λ j. p i j)) m (λ i k. all-intro (λ j. p i j) n (λ j l. all-at (λ i. p i j) m (all-at (λ j. allBelow m (λ i. p i j)) n h j l) i k)))
+
+-- none of the first n own writes that are on the plot is over what is current there
+unfoldable pub noneOverTo : List Entry → ℕ → Found → ℕ → Bool
+noneOverTo own plot f n = allBelow n (λ i. not (both (eqb (getD own i nobody .plot) plot) (ownOver f (getD own i nobody))))
+
+module _ (own : List Entry) (plot : ℕ) (f : Found) where
   -- on lists
   over-last : (e : Entry) (es : List Entry) → noneOver plot f (es ++ (e ∷ [])) ≡ both (noneOver plot f es) (not (both (eqb (e .plot) plot) (ownOver f e)))
   unfolding noneOver ownOver both
@@ -124,7 +142,7 @@ module _ (own : List Entry) (plot : ℕ) (f : Found) where
   unfolding noneOverTo allBelow tab noneOver
   over-list zero = refl
   over-list (suc n) =
-      ap (λ (b : Bool). both b (Under n)) (over-list n) ∙ sym (over-last (getD own n nobody) (tab n (λ i. getD own i nobody)))
+      ap (λ (b : Bool). both b (not (both (eqb (getD own n nobody .plot) plot) (ownOver f (getD own n nobody))))) (over-list n) ∙ sym (over-last (getD own n nobody) (tab n (λ i. getD own i nobody)))
 
 -- ---- all plots, with what is current on each
 
@@ -169,7 +187,7 @@ module _ (O : Office) where
 pub over-all-none : (ws : List ℕ) (own : List Entry) (n : ℕ) (plots ks : List ℕ) → n ≡ 0 → 0 ≡ check (overAll ws own n plots ks) 13 0
 unfolding overAll check
 over-all-none ws own n plots ks z =
-    let over : overAll ws own n plots ks ≡ true = all-intro _ (length plots) (λ j l. ap (noneOverTo own (getD plots j 0) (foundAmong ws ks j)) z ∙ over-start own (getD plots j 0) (foundAmong ws ks j)) in
+    let over : overAll ws own n plots ks ≡ true = all-intro _ n (λ i l. absurd (omega (arith, z))) in
     sym (ap (λ (b : Bool). check b 13 0) over)
 
 -- ---- turns of the loops
@@ -316,8 +334,10 @@ module _ (ws : List ℕ) (s : Session) (plots : List ℕ) where
   O = reveal (officeOf ws) (s .read)
 
   pub over-is : (v ks : List ℕ) → Sighted ws (s .read) plots v ks → overAll ws (s .own) (s .count) plots ks ≡ allNoneOver O (contentOf s) plots
-  unfolding overAll contentOf
-  over-is v ks D = over-plots O (s .own) (s .count) (contentOf s) refl plots (foundAmong ws ks) (D .found)
+  unfolding overAll overNoneTo noneOverTo contentOf
+  over-is v ks D =
+      all-swap (λ i j. not (both (eqb (getD (s .own) i nobody .plot) (getD plots j 0)) (ownOver (foundAmong ws ks j) (getD (s .own) i nobody)))) (s .count) (length plots)
+      ∙ over-plots O (s .own) (s .count) (contentOf s) refl plots (foundAmong ws ks) (D .found)
 
   module _ (room c : ℕ) (e : c ≡ jointStart ws (contentOf s) plots room) where
     pub start-refuses : (c ≡ 0 → ⊥) → c ≡ jointRefusal ws (contentOf s) plots room

@@ -106,12 +106,12 @@ unfoldable pub ownOver : Found → Entry → Bool
 ownOver None e = true
 ownOver (Some b) e = outranks e b
 
--- none of the first n own writes that are on the plot
-unfoldable pub noneOverTo : List Entry → ℕ → Found → ℕ → Bool
-noneOverTo own plot f n = allBelow n (λ i. not (both (eqb (getD own i nobody .plot) plot) (ownOver f (getD own i nobody))))
+-- over what is current on none of the first n plots
+unfoldable pub overNoneTo : (ℕ → Found) → List ℕ → Entry → ℕ → Bool
+overNoneTo g plots e n = allBelow n (λ j. not (both (eqb (e .plot) (getD plots j 0)) (ownOver (g j) e)))
 
 unfoldable pub overAll : List ℕ → List Entry → ℕ → List ℕ → List ℕ → Bool
-overAll ws own count plots ks = allBelow (length plots) (λ j. noneOverTo own (getD plots j 0) (foundAmong ws ks j) count)
+overAll ws own count plots ks = allBelow count (λ i. overNoneTo (foundAmong ws ks) plots (getD own i nobody) (length plots))
 
 unfoldable pub wordsTo : (ℕ → Found) → ℕ → List ℕ
 wordsTo g zero = []

@@ -17,7 +17,7 @@ ghost use Rattle.causal.specs.Sets.{subsetOf};
 ghost use Rattle.frame.specs.Sessions.{contentOf};
 ghost use Rattle.store.specs.Offices.{reveal, soundStore};
 ghost use Rattle.office.specs.Calls.{plotsOk, threeWords};
-ghost use Rattle.office.specs.Decide.{alone, bare, jointStart, foundIn, Reaches, AllReach, PlacesTo, ownOver, noneOverTo, overAll, foundAmong, wordsTo, seenTo, withSeen};
+ghost use Rattle.office.specs.Decide.{alone, bare, jointStart, foundIn, Reaches, AllReach, PlacesTo, ownOver, overNoneTo, overAll, foundAmong, wordsTo, seenTo, withSeen};
 ghost use Rattle.office.specs.Promises.{JointPromise};
 ghost use Rattle.frame.specs.Refusals.{codeOf};
 
@@ -97,14 +97,14 @@ fn own_over(store: &[u32], e: Entry, k: usize) -> bool
     causal::rank::outranks(c, e.office, d, (k / 32) as u32)
 }
 
-// Is no own write on the plot over entry k?
-fn none_over(store: &[u32], own: [Entry; 16], count: usize, plot: u32, k: usize) -> bool
-    requires { ⌜ (count ≤ 16) × Reaches (length (now store)) k ⌝ }
-    ensures { λ r. ⌜ r ≡ noneOverTo own plot (foundIn (now (store .entry)) k) count ⌝ }
+// Is the own write e over what is current on none of the plots? Each plot but its own is passed.
+fn over_none(store: &[u32], e: Entry, plots: &[u32], places: [usize; 16]) -> bool
+    requires { ⌜ (length (now plots) ≤ 16) × AllReach (length (now store)) (length (now plots)) places ⌝ }
+    ensures { λ r. ⌜ r ≡ overNoneTo (foundAmong (now (store .entry)) places) (now (plots .entry)) e (length (now (plots .entry))) ⌝ }
 {
-    for i in 0..count {
-        if own[i].plot == plot {
-            if own_over(store, own[i], k) {
+    for i in 0..plots.len() {
+        if e.plot == plots[i] {
+            if own_over(store, e, places[i]) {
                 return false;
             }
         }
@@ -112,7 +112,7 @@ fn none_over(store: &[u32], own: [Entry; 16], count: usize, plot: u32, k: usize)
     true
 }
 
-// The same for each plot and the entry that is current there.
+// The same for each own write.
 fn none_over_any(
     store: &[u32],
     own: [Entry; 16],
@@ -123,8 +123,8 @@ fn none_over_any(
     requires { ⌜ (count ≤ 16) × (length (now plots) ≤ 16) × AllReach (length (now store)) (length (now plots)) places ⌝ }
     ensures { λ r. ⌜ r ≡ overAll (now (store .entry)) own count (now (plots .entry)) places ⌝ }
 {
-    for i in 0..plots.len() {
-        if !none_over(store, own, count, plots[i], places[i]) {
+    for i in 0..count {
+        if !over_none(store, own[i], plots, places) {
             return false;
         }
     }
