@@ -23,6 +23,10 @@ shapeOk n ws =
 unfoldable pub clockKinds : List ℕ → ℕ → ℕ → Bool
 clockKinds ws i n = allBelow n (λ j. kindIs 5 (getD ws (i + j) 0))
 
+-- the same, and their numbers are up to 32
+unfoldable pub clocksIn : List ℕ → ℕ → ℕ → Bool
+clocksIn ws i n = allBelow n (λ j. both (kindIs 5 (getD ws (i + j) 0)) (leb (payAt ws (i + j)) 32))
+
 -- a word of kind 6 that names an office below n and a serial of 1 to 32, above the payload before it
 unfoldable pub idOk : ℕ → ℕ → ℕ → Bool
 idOk n last w =

@@ -84,10 +84,10 @@ fn frame_of(ws: &[u32], n: u32, clock: [u32; 8], deps: [u32; 8]) -> Frame
     }
 }
 
-// Are the words behind the head of their kinds, up to the dependencies?
+// Are the words behind the head of their kinds, up to the dependencies, and the numbers of the clock in range?
 fn kinds_ok(ws: &[u32], n: u32) -> bool
     requires { ⌜ (n ≤ 8) × (3 + n ≤ length (now ws)) ⌝ }
-    ensures { λ r. ⌜ r ≡ kindsOk n (now (ws .entry)) ⌝ }
+    ensures { λ r. ⌜ r ≡ both (kindsOk n (now (ws .entry))) (clockOk n (clockFrom (now (ws .entry)) 3 n)) ⌝ }
 {
     if !crate::word::kind_is(3, ws[1]) {
         return false;
@@ -95,26 +95,23 @@ fn kinds_ok(ws: &[u32], n: u32) -> bool
     if !crate::word::kind_is(4, ws[2]) {
         return false;
     }
-    crate::word::clock_kinds(ws, 3, n as usize)
+    crate::word::clock_words(ws, 3, n as usize)
 }
 
-// The rules of clock and dependencies, but for the range of the dependencies, which was seen as they were read.
-fn past_ok(n: usize, office: usize, serial: u32, clock: [u32; 8], deps: [u32; 8]) -> bool
+// The rules of clock and dependencies, but for their ranges, which were seen as they were read.
+fn past_ok(office: usize, serial: u32, clock: [u32; 8], deps: [u32; 8]) -> bool
     requires { ⌜ (office < 8) × (1 ≤ serial) × (serial ≤ 32) ⌝ }
-    ensures { λ r. ⌜ r ≡ both (eqb (getD clock office 0) serial) (both (not (isIn deps (32 * office + (serial - 1)))) (clockOk n clock)) ⌝ }
+    ensures { λ r. ⌜ r ≡ both (eqb (getD clock office 0) serial) (not (isIn deps (32 * office + (serial - 1)))) ⌝ }
 {
     if clock[office] != serial {
         return false;
     }
-    if crate::entry::in_word(deps[office], serial) {
-        return false;
-    }
-    crate::entry::clock_ok(n, clock)
+    !crate::entry::in_word(deps[office], serial)
 }
 
-// The entry rules, where the dependencies are in range. Not by `entry_ok`, which would copy the entry.
+// The entry rules, where clock and dependencies are in range. Not by `entry_ok`, which would copy the entry.
 fn rules_ok(n: u32, p: u32, e: Entry) -> bool
-    requires { ⌜ (n ≤ 8) × (idsOk n (e .deps) ≡ true) ⌝ }
+    requires { ⌜ (n ≤ 8) × (clockOk n (e .clock) ≡ true) × (idsOk n (e .deps) ≡ true) ⌝ }
     ensures { λ r. ⌜ r ≡ entryOk n p e ⌝ }
 {
     if !crate::entry::bounds_ok(n, p, e.office, e.serial, e.plot, e.value) {
@@ -122,12 +119,12 @@ fn rules_ok(n: u32, p: u32, e: Entry) -> bool
     }
     let clock = e.clock;
     let deps = e.deps;
-    past_ok(n as usize, e.office as usize, e.serial, clock, deps)
+    past_ok(e.office as usize, e.serial, clock, deps)
 }
 
 // May the frame say what it says, and is the check word right?
 fn content_ok(ws: &[u32], n: u32, p: u32, f: Frame) -> bool
-    requires { ⌜ (2 ≤ n) × (n ≤ 8) × (1 ≤ length (now ws)) × (idsOk n (f .entry .deps) ≡ true) ⌝ }
+    requires { ⌜ (2 ≤ n) × (n ≤ 8) × (1 ≤ length (now ws)) × (clockOk n (f .entry .clock) ≡ true) × (idsOk n (f .entry .deps) ≡ true) ⌝ }
     ensures { λ r. ⌜ r ≡ both (leb (f .hops) (n - 2)) (both (sumOk (now (ws .entry))) (entryOk n p (f .entry))) ⌝ }
 {
     if f.hops > n - 2 {

@@ -2,12 +2,13 @@
 ghost use mathlib.Core.Path.{_≡_};
 ghost use Prim.Native.Nat.{ℕ, _+_, _/_, _%_, _<_, _≤_};
 ghost use mathlib.Core.Bool.{true};
-ghost use lib.Dec.{eqb};
+ghost use lib.Dec.{leb, eqb};
 ghost use lib.ListN.{length, getD, set, take};
 ghost use lib.Seq.{sets};
 ghost use Rattle.causal.specs.Lists.{tab};
-ghost use Rattle.frame.specs.Words.{kindIs, total, clockWords, clockFrom, idWordsIn, idWords, idsFrom, sumWord};
-ghost use Rattle.frame.specs.Reading.{clockKinds, nextOk, ascends, bitIn, eightBits, fourBits, sumOk};
+ghost use Rattle.causal.specs.Tests.{both};
+ghost use Rattle.frame.specs.Words.{payload, kindIs, total, clockWords, clockFrom, idWordsIn, idWords, idsFrom, sumWord};
+ghost use Rattle.frame.specs.Reading.{clockKinds, clocksIn, nextOk, ascends, bitIn, eightBits, fourBits, sumOk};
 
 pub const LOW: u32 = 0x1000_0000;
 
@@ -150,6 +151,29 @@ pub fn clock_kinds(ws: &[u32], at: usize, n: usize) -> bool
 {
     for j in 0..n {
         if !kind_is(5, ws[at + j]) {
+            return false;
+        }
+    }
+    true
+}
+
+// Is w a word of a clock, with a number up to 32?
+fn clock_word(w: u32) -> bool
+    ensures { λ r. ⌜ r ≡ both (kindIs 5 w) (leb (payload w) 32) ⌝ }
+{
+    if !kind_is(5, w) {
+        return false;
+    }
+    w % LOW <= 32
+}
+
+// The same for the n words from at on.
+pub fn clock_words(ws: &[u32], at: usize, n: usize) -> bool
+    requires { ⌜ at + n ≤ length (now ws) ⌝ }
+    ensures { λ r. ⌜ r ≡ clocksIn (now (ws .entry)) at n ⌝ }
+{
+    for j in 0..n {
+        if !clock_word(ws[at + j]) {
             return false;
         }
     }

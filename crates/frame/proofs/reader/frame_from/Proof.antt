@@ -3,16 +3,16 @@ use mathlib.Core.Bool.{true}
 use lib.ListN.{length, take, drop}
 use borrow.Author.Tests.{not-true, not-false}
 use Rattle.causal.specs.Tests.{both}
-use Rattle.causal.proofs.Tests.{both-swap}
+use Rattle.causal.proofs.Tests.{both-swap, both-true}
 use Rattle.frame.specs.declared.entry.Frame.{Frame}
-use Rattle.frame.specs.Entries.{entryOk}
+use Rattle.frame.specs.Entries.{clockOk, entryOk}
 use Rattle.causal.specs.Lists.{part}
-use Rattle.frame.specs.Words.{idsFrom}
+use Rattle.frame.specs.Words.{clockFrom, idsFrom}
 use Rattle.frame.specs.Frames.{countIn, frameOf}
 use Rattle.frame.proofs.Ascents.{ascends-wider}
 use Rattle.frame.specs.Reading.{ascends, sumOk, shapeOk, kindsOk}
 use Rattle.frame.proofs.Entries.{ring-facts}
-use Rattle.frame.proofs.Reading.{Shape, in-range, shape-facts, deps-between, frame-at, no-frame, shape-refused, kinds-refused, ids-refused, content-refused, accepted}
+use Rattle.frame.proofs.Reading.{Shape, clock-in-range, in-range, shape-facts, deps-between, frame-at, no-frame, shape-refused, clock-refused, ids-refused, content-refused, accepted}
 use native.Mathlib.Omega.{arith}
 use Prim.Native.Nat.{_+_, _-_, _≤_}
 use mathlib.Core.Path.{_≡_, sym, ap, _∙_}
@@ -27,8 +27,14 @@ shape c = sym (c .before .shape-ok .ensures) ∙ not-false _ (c .if1 .left)
 whole : (c : tie.Else1) → Shape (c .before .before .before .args .offices) (c .before .before .before .args .ws .now)
 whole c = shape-facts (c .before .before .before .args .offices) (c .before .before .before .args .ws .now) (shape c)
 
+both-kinds : (c : tie.Else2) → both (kindsOk (c .before .before .before .before .before .args .offices) (c .before .before .before .before .before .args .ws .now)) (clockOk (c .before .before .before .before .before .args .offices) (clockFrom (c .before .before .before .before .before .args .ws .now) 3 (c .before .before .before .before .before .args .offices))) ≡ true
+both-kinds c = sym (c .before .kinds-ok .ensures) ∙ not-false _ (c .if2 .left)
+
 kinds : (c : tie.Else2) → kindsOk (c .before .before .before .before .before .args .offices) (c .before .before .before .before .before .args .ws .now) ≡ true
-kinds c = sym (c .before .kinds-ok .ensures) ∙ not-false _ (c .if2 .left)
+kinds c = both-true (kindsOk (c .before .before .before .before .before .args .offices) (c .before .before .before .before .before .args .ws .now)) _ (both-kinds c) .0
+
+clock-fits : (c : tie.Else2) → clockOk (c .before .before .before .before .before .args .offices) (clockFrom (c .before .before .before .before .before .args .ws .now) 3 (c .before .before .before .before .before .args .offices)) ≡ true
+clock-fits c = both-true (kindsOk (c .before .before .before .before .before .args .offices) (c .before .before .before .before .before .args .ws .now)) _ (both-kinds c) .1
 
 between : (c : tie.Else2) → take (length (c .before .before .before .before .before .args .ws .now) - 1 - (3 + (c .before .before .before .before .before .args .offices))) (drop (3 + (c .before .before .before .before .before .args .offices)) (c .before .before .before .before .before .args .ws .now)) ≡ part (c .before .before .before .before .before .args .ws .now) (3 + (c .before .before .before .before .before .args .offices)) (countIn (c .before .before .before .before .before .args .ws .now))
 between c = deps-between (c .before .before .before .before .before .args .offices) (c .before .before .before .before .before .args .plots) (c .before .before .before .before .before .args .ws .now) (whole (c .before .before))
@@ -65,7 +71,7 @@ blank-frame-requires-2 : tie.Need-blank-frame-requires-2
 blank-frame-requires-2 c κs = search needs
 
 returns-2 : tie.Need-returns-2
-returns-2 c = no-frame (c .before .before .before .before .before .before .args .offices) (c .before .before .before .before .before .before .args .plots) (c .before .before .before .before .before .before .args .ws .now) _ (kinds-refused (c .before .before .before .before .before .before .args .offices) (c .before .before .before .before .before .before .args .plots) (c .before .before .before .before .before .before .args .ws .now) (c .before .before .before .before .before .before .pre) (shape (c .before .before .before)) (sym (c .before .before .kinds-ok .ensures) ∙ not-true _ (c .before .if2 .taken))) (c .blank-frame2 .ensures)
+returns-2 c = no-frame (c .before .before .before .before .before .before .args .offices) (c .before .before .before .before .before .before .args .plots) (c .before .before .before .before .before .before .args .ws .now) _ (clock-refused (c .before .before .before .before .before .before .args .offices) (c .before .before .before .before .before .before .args .plots) (c .before .before .before .before .before .before .args .ws .now) (c .before .before .before .before .before .before .pre) (shape (c .before .before .before)) (sym (c .before .before .kinds-ok .ensures) ∙ not-true _ (c .before .if2 .taken))) (c .blank-frame2 .ensures)
 
 add-from : tie.Need-add-from
 add-from c = search needs
@@ -121,7 +127,7 @@ frame-of-requires c κs =
 content-ok-requires : tie.Need-content-ok-requires
 content-ok-requires c κs =
     let g = ring-facts (c .before .before .before .before .before .before .before .before .before .before .before .before .args .offices) (c .before .before .before .before .before .before .before .before .before .before .before .before .args .plots) (c .before .before .before .before .before .before .before .before .before .before .before .before .pre) in
-    (g .low, g .high, omega (arith, whole (c .before .before .before .before .before .before .before .before .before) .exact), in-range (c .before .before .before .before .before .before .before .before .before .before .before .before .args .offices) (c .before .before .before .before .before .before .before .before .before .before .before .before .args .ws .now) (c .frame-of .result) (whole (c .before .before .before .before .before .before .before .before .before)) (up (c .before .before .before .before)) (frame c))
+    (g .low, g .high, omega (arith, whole (c .before .before .before .before .before .before .before .before .before) .exact), clock-in-range (c .before .before .before .before .before .before .before .before .before .before .before .before .args .offices) (c .before .before .before .before .before .before .before .before .before .before .before .before .args .ws .now) (c .frame-of .result) (whole (c .before .before .before .before .before .before .before .before .before)) (clock-fits (c .before .before .before .before .before .before .before)) (frame c), in-range (c .before .before .before .before .before .before .before .before .before .before .before .before .args .offices) (c .before .before .before .before .before .before .before .before .before .before .before .before .args .ws .now) (c .frame-of .result) (whole (c .before .before .before .before .before .before .before .before .before)) (up (c .before .before .before .before)) (frame c))
 
 blank-frame-requires-4 : tie.Need-blank-frame-requires-4
 blank-frame-requires-4 c κs = search needs

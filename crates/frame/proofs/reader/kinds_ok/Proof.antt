@@ -1,6 +1,12 @@
 use native.Mathlib.Omega.{arith}
+use mathlib.Core.Path.{_≡_, _∙_}
+use mathlib.Core.Bool.{false}
+use lib.ListN.{getD}
+use Rattle.causal.specs.Tests.{both}
 use Rattle.causal.proofs.Chain.{chain}
-use Rattle.frame.specs.Reading.{kindsOk}
+use Rattle.frame.specs.Words.{kindIs}
+use Rattle.frame.specs.Reading.{clocksIn}
+use Rattle.frame.proofs.Reading.{kinds-parts}
 use borrow.Author.Needs.{needs}
 use Rattle.frame.proofs.reader.kinds_ok.Statement.{statement}
 use Rattle.frame.proofs.reader.kinds_ok.Tie as tie
@@ -12,8 +18,11 @@ kind-is-requires : tie.Need-kind-is-requires
 kind-is-requires c κs = search needs
 
 returns : tie.Need-returns
-unfolding kindsOk
-returns c = search (chain, arith) depth 9
+returns c =
+    let z = c .before .before .before .before in
+    let ws = z .args .ws .now in
+    let e : false ≡ both (kindIs 3 (getD ws 1 0)) (both (kindIs 4 (getD ws 2 0)) (clocksIn ws 3 (z .args .n))) = search (chain, arith) depth 9 in
+    e ∙ kinds-parts (z .args .n) ws (z .pre .0)
 
 shared-slice-read-kind-is-2 : tie.Need-shared-slice-read-kind-is-2
 shared-slice-read-kind-is-2 c = search needs
@@ -22,15 +31,21 @@ kind-is-requires-2 : tie.Need-kind-is-requires-2
 kind-is-requires-2 c κs = search needs
 
 returns-2 : tie.Need-returns-2
-unfolding kindsOk
-returns-2 c = search (chain, arith) depth 9
+returns-2 c =
+    let z = c .before .before .before .before .before .before .before in
+    let ws = z .args .ws .now in
+    let e : false ≡ both (kindIs 3 (getD ws 1 0)) (both (kindIs 4 (getD ws 2 0)) (clocksIn ws 3 (z .args .n))) = search (chain, arith) depth 9 in
+    e ∙ kinds-parts (z .args .n) ws (z .pre .0)
 
-clock-kinds-requires : tie.Need-clock-kinds-requires
-clock-kinds-requires c κs = search needs
+clock-words-requires : tie.Need-clock-words-requires
+clock-words-requires c κs = search needs
 
 returns-3 : tie.Need-returns-3
-unfolding kindsOk
-returns-3 c = search (chain, arith) depth 9
+returns-3 c =
+    let z = c .before .before .before .before .before .before .before .before in
+    let ws = z .args .ws .now in
+    let e : c .clock-words .result ≡ both (kindIs 3 (getD ws 1 0)) (both (kindIs 4 (getD ws 2 0)) (clocksIn ws 3 (z .args .n))) = search (chain, arith) depth 9 in
+    e ∙ kinds-parts (z .args .n) ws (z .pre .0)
 
 pub kinds-ok-spec : {M : Type 1} → statement M
 kinds-ok-spec =
@@ -42,5 +57,5 @@ kinds-ok-spec =
     shared-slice-read-kind-is-2
     kind-is-requires-2
     returns-2
-    clock-kinds-requires
+    clock-words-requires
     returns-3)

@@ -1,5 +1,7 @@
 use native.Mathlib.Omega.{arith}
-use Rattle.causal.proofs.Chain.{chain}
+use mathlib.Core.Path.{ap}
+use mathlib.Core.Bool.{not}
+use Rattle.causal.proofs.Chain.{chain, eq-passes}
 use Rattle.frame.proofs.Words.{in-serial}
 use borrow.Author.Needs.{needs}
 use Rattle.frame.proofs.reader.past_ok.Statement.{statement}
@@ -24,13 +26,10 @@ in-word-requires : tie.Need-in-word-requires
 in-word-requires c κs = search needs
 
 returns-2 : tie.Need-returns-2
-returns-2 c = let h = in-serial (c .before .before .before .args .t5) (c .before .before .before .args .office) (c .before .before .before .args .serial) (omega arith) (omega arith) (c .before .in-word .ensures) in search (chain, arith) depth 9
-
-clock-ok-requires : tie.Need-clock-ok-requires
-clock-ok-requires c κs = search needs
-
-returns-3 : tie.Need-returns-3
-returns-3 c = let h = in-serial (c .before .before .before .before .args .t5) (c .before .before .before .before .args .office) (c .before .before .before .before .args .serial) (omega arith) (omega arith) (c .before .before .in-word .ensures) in search (chain, arith) depth 9
+returns-2 c =
+    let z = c .before .before .args in
+    let h = in-serial (z .t4) (z .office) (z .serial) (omega arith) (omega arith) (c .in-word .ensures) in
+    eq-passes _ _ _ _ (c .before .if1 .left) (ap not h)
 
 pub past-ok-spec : {M : Type 1} → statement M
 past-ok-spec =
@@ -42,6 +41,4 @@ past-ok-spec =
     mul-in-word
     array-read-in-word
     in-word-requires
-    returns-2
-    clock-ok-requires
-    returns-3)
+    returns-2)
