@@ -1,7 +1,7 @@
 -- A session that carries nothing: its content, and when it is sound. Assumes nothing.
 use Prim.Native.Nat.{ℕ, zero, suc}
 use mathlib.Core.Path.{_≡_, refl, ap, sym, _∙_, subst}
-use mathlib.Core.Bool.{Bool, true, false}
+use mathlib.Core.Bool.{Bool}
 use mathlib.Core.List.{List, [], List·Memᴰ·not-nil}
 use native.Mathlib.Omega.{arith}
 use lib.ListN.{length}
@@ -9,6 +9,7 @@ use Rattle.causal.specs.Codes.{check}
 use Rattle.causal.specs.Lists.{tab}
 use Rattle.causal.specs.Tests.{both}
 use Rattle.causal.specs.Sets.{IdSet}
+use Rattle.causal.proofs.Tests.{both-one}
 use Rattle.frame.specs.declared.entry.Entry.{Entry}
 use Rattle.frame.specs.declared.session.Session.{Session}
 use Rattle.frame.specs.Sessions.{contentOf, headOk, sessionOk}
@@ -34,18 +35,13 @@ is-alone s e = λ i. record { offices = s .offices; clock = s .clock; read = s .
 pub by-alone : (P : Session → Type 0) (s : Session) → s .count ≡ 0 → ((own : List Entry) → P (alone (s .offices) (s .clock) (s .read) own)) → P s
 by-alone P s e h = subst P (is-alone s e) (h (s .own))
 
-both-yes : (b : Bool) → both b true ≡ b
-unfolding both
-both-yes true = refl
-both-yes false = refl
-
 -- it is sound where all but its own writes is
 pub bare-head : (n p offices : ℕ) (clock read : List ℕ) → sessionOk n p (bare offices clock read) ≡ headOk n offices 0 clock read
 bare-head n p offices clock read =
     ap (sessionOk n p) (sym (bare-is offices clock read []))
     ∙ sym (T.session-parts n p (alone offices clock read []))
     ∙ ap (both (headOk n offices 0 clock read)) (sym (T.none-ok n p read (T.ownsOf []) 0 refl))
-    ∙ both-yes (headOk n offices 0 clock read)
+    ∙ both-one (headOk n offices 0 clock read)
 
 -- the refusals of a write but for the room
 pub early-bare : (b : Bool) (O : Office) (n : ℕ) (clock read : List ℕ) (plot value x : ℕ)

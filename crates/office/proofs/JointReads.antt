@@ -18,7 +18,7 @@ use Rattle.causal.specs.Rank.{ranksAbove}
 use Rattle.causal.proofs.Codes.{check-none, or-both, or-stops, or-goes}
 use Rattle.causal.proofs.Lists.{sets-append, sets-front}
 use Rattle.causal.proofs.Chain.{le-passes}
-use Rattle.causal.proofs.Tests.{all-more, all-fails, both-true, split, turn-done, both-one, both-assoc, all-at, all-front, all-intro}
+use Rattle.causal.proofs.Tests.{all-more, all-fails, both-true, split, turn-done, both-one, both-assoc, all-at, all-front, all-intro, same-test}
 use Rattle.frame.specs.declared.entry.Entry.{Entry}
 use Rattle.frame.specs.declared.session.Session.{Session}
 use Rattle.frame.specs.declared.refusal.Status.{Status}
@@ -105,15 +105,9 @@ module _ (g : ℕ → Found) (plots : List ℕ) (e : Entry) where
   over-done n i h a b = turn-done Under n i h a b
 
 -- plot by plot, as the paper has it
-same-bool : (a b : Bool) → (a ≡ true → b ≡ true) → (b ≡ true → a ≡ true) → a ≡ b
-same-bool true true f h = refl
-same-bool false false f h = refl
-same-bool true false f h = sym (f refl)
-same-bool false true f h = h refl
-
 all-swap : (p : ℕ → ℕ → Bool) (m n : ℕ) → allBelow m (λ i. allBelow n (λ j. p i j)) ≡ allBelow n (λ j. allBelow m (λ i. p i j))
 all-swap p m n =
-    same-bool _ _
+    same-test _ _
     (λ h. all-intro (λ j. allBelow m (λ i. p i j)) n (λ j l. all-intro (λ i. p i j) m (λ i k. all-at (λ j. p i j) n (all-at (λ i. allBelow n (λ j. p i j)) m h i k) j l)))
     (λ h. all-intro (λ i. allBelow n (λ j. p i j)) m (λ i k. all-intro (λ j. p i j) n (λ j l. all-at (λ i. p i j) m (all-at (λ j. allBelow m (λ i. p i j)) n h j l) i k)))
 
