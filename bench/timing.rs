@@ -42,8 +42,8 @@ pub fn best<const N: usize>(
 ) -> [f64; N] {
     compare(name, ways, case);
     let mut copies = vec![case.lent.clone(); COPIES];
-    // What a call changes, it gets once in a round.
-    let passes = if changes { 1 } else { 4 };
+    // What a call changes, it gets once in a round; what it leaves as it was, often: the start weighs less.
+    let passes = if changes { 1 } else { 32 };
     let mut best = [f64::MAX; N];
     let (began, mut rounds) = (Instant::now(), 0);
     while rounds < ROUNDS || began.elapsed() < budget {
