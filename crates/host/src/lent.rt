@@ -51,7 +51,7 @@ struct WriteDone {
 
 // ---- a reading of one plot
 
-fn plot_done(done: office::read::PlotSeen) -> PlotDone
+fn plot_done(done: reading::read::PlotSeen) -> PlotDone
     ensures { λ r. ⌜ (r .answer .found ≤ 1) × (r .answer .refusal ≡ codeOf (done .status)) × (isSet (r .answer .found) ≡ done .found) × (r .answer .entry ≡ done .entry) × (record { clock = r .clock; read = r .read } ≡ done .seen) ⌝ }
 {
     let status = done.status;
@@ -77,7 +77,7 @@ fn plot_done(done: office::read::PlotSeen) -> PlotDone
 fn plot_by_value(store: &mut [u32], s: Session, plot: u32) -> PlotDone
     ensures { λ r. ⌜ (r .answer .found ≤ 1) × ReadPromise (now (store .entry)) s plot (r .answer .refusal) (isSet (r .answer .found)) (r .answer .entry) (withSeen s (record { clock = r .clock; read = r .read })) (now (store .exit)) ⌝ }
 {
-    let done = office::read::see_plot(store, s, plot);
+    let done = reading::read::see_plot(store, s, plot);
     plot_done(done)
 }
 
@@ -91,7 +91,7 @@ fn plot_alone(
 ) -> PlotDone
     ensures { λ r. ⌜ (r .answer .found ≤ 1) × ((own : List Entry) → ReadPromise (now (store .entry)) (alone offices clock read own) plot (r .answer .refusal) (isSet (r .answer .found)) (r .answer .entry) (withSeen (alone offices clock read own) (record { clock = r .clock; read = r .read })) (now (store .exit))) ⌝ }
 {
-    let done = office::read::see_alone(store, offices, clock, read, plot);
+    let done = reading::read::see_alone(store, offices, clock, read, plot);
     plot_done(done)
 }
 
@@ -112,7 +112,7 @@ pub extern "C" fn burial_lent_read_plot(store: &mut [u32], s: &mut Session, plot
 
 // ---- a joint reading
 
-fn joint_done(done: office::joint::JointSeen) -> JointDone
+fn joint_done(done: reading::joint::JointSeen) -> JointDone
     ensures { λ r. ⌜ (r .refusal ≡ codeOf (done .status)) × (record { clock = r .clock; read = r .read } ≡ done .seen) ⌝ }
 {
     let status = done.status;
@@ -131,7 +131,7 @@ fn joint_done(done: office::joint::JointSeen) -> JointDone
 fn joint_by_value(store: &mut [u32], s: Session, plots: &[u32], answer: &mut [u32]) -> JointDone
     ensures { λ r. ⌜ JointPromise (now (store .entry)) s (now (plots .entry)) (now (answer .entry)) (r .refusal) (withSeen s (record { clock = r .clock; read = r .read })) (now (store .exit)) (now (answer .exit)) ⌝ }
 {
-    let done = office::joint::see_joint(store, s, plots, answer);
+    let done = reading::joint::see_joint(store, s, plots, answer);
     joint_done(done)
 }
 
@@ -146,7 +146,7 @@ fn joint_alone(
 ) -> JointDone
     ensures { λ r. ⌜ ((own : List Entry) → JointPromise (now (store .entry)) (alone offices clock read own) (now (plots .entry)) (now (answer .entry)) (r .refusal) (withSeen (alone offices clock read own) (record { clock = r .clock; read = r .read })) (now (store .exit)) (now (answer .exit))) ⌝ }
 {
-    let done = office::joint::see_joint_alone(store, offices, clock, read, plots, answer);
+    let done = reading::joint::see_joint_alone(store, offices, clock, read, plots, answer);
     joint_done(done)
 }
 
@@ -173,7 +173,7 @@ pub extern "C" fn burial_lent_read_joint(
 // ---- a write
 
 // What a write that made this leaves, by the clock and the count as they were and the first entry of the row.
-fn write_done(made: office::write::Made, clock: [u32; 8], count: usize, first: Entry) -> WriteDone
+fn write_done(made: writing::write::Made, clock: [u32; 8], count: usize, first: Entry) -> WriteDone
     requires { ⌜ ((n : ℕ) → made .written ≡ Words n → count < 16) ⌝ }
     ensures { λ r. ⌜ (r .place < 16) × (record { code = r .answer .refusal; words = r .answer .words } ≡ replyOf (made .written))
         × ((s : Session) → s .clock ≡ clock → s .count ≡ count → getD (s .own) 0 nobody ≡ first → leftIn s (r .clock) (r .count) (r .place) (r .entry) ≡ withMade s (made .written) (made .entry)) ⌝ }
@@ -213,7 +213,7 @@ fn write_by_value(
 ) -> WriteDone
     ensures { λ r. ⌜ (r .place < 16) × WritePromise (now (store .entry)) s plot value (now (out .entry)) (record { code = r .answer .refusal; words = r .answer .words }) (leftIn s (r .clock) (r .count) (r .place) (r .entry)) (now (store .exit)) (now (out .exit)) ⌝ }
 {
-    let made = office::write::make(store, s, plot, value, out);
+    let made = writing::write::make(store, s, plot, value, out);
     let clock = s.clock;
     let first = s.own[0];
     write_done(made, clock, s.count, first)
@@ -232,7 +232,7 @@ fn write_alone(
 ) -> WriteDone
     ensures { λ r. ⌜ (r .place < 16) × ((own : List Entry) → getD own 0 nobody ≡ first → WritePromise (now (store .entry)) (alone offices clock read own) plot value (now (out .entry)) (record { code = r .answer .refusal; words = r .answer .words }) (leftIn (alone offices clock read own) (r .clock) (r .count) (r .place) (r .entry)) (now (store .exit)) (now (out .exit))) ⌝ }
 {
-    let made = office::write::make_alone(store, offices, clock, read, plot, value, out);
+    let made = writing::write::make_alone(store, offices, clock, read, plot, value, out);
     write_done(made, clock, 0, first)
 }
 

@@ -54,7 +54,7 @@ pub fn flag(b: bool) -> u32
 pub extern "C" fn burial_read_plot(store: &mut [u32], session: Session, plot: u32) -> PlotAnswer
     ensures { λ r. ⌜ (r .found ≤ 1) × ReadPromise (now (store .entry)) session plot (r .refusal) (isSet (r .found)) (r .entry) (r .session) (now (store .exit)) ⌝ }
 {
-    let read = office::read::read_plot(store, session, plot);
+    let read = reading::read::read_plot(store, session, plot);
     let status = read.status;
     let refusal = frame::refusal::code_of(status);
     let found = flag(read.found);
@@ -78,7 +78,7 @@ pub extern "C" fn burial_read_joint(
 ) -> SessionAnswer
     ensures { λ r. ⌜ JointPromise (now (store .entry)) session (now (plots .entry)) (now (answer .entry)) (r .refusal) (r .session) (now (store .exit)) (now (answer .exit)) ⌝ }
 {
-    let read = office::joint::read_joint(store, session, plots, answer);
+    let read = reading::joint::read_joint(store, session, plots, answer);
     let status = read.status;
     let refusal = frame::refusal::code_of(status);
     let left = read.session;
@@ -99,7 +99,7 @@ pub extern "C" fn burial_write(
 ) -> WroteAnswer
     ensures { λ r. ⌜ WritePromise (now (store .entry)) session plot value (now (out .entry)) (record { code = r .refusal; words = r .words }) (r .session) (now (store .exit)) (now (out .exit)) ⌝ }
 {
-    let wrote = office::write::write(store, session, plot, value, out);
+    let wrote = writing::write::write(store, session, plot, value, out);
     let written = wrote.written;
     let answer = crate::answer::words_answer(written);
     let left = wrote.session;
@@ -115,6 +115,6 @@ pub extern "C" fn burial_write(
 pub extern "C" fn burial_receive(store: &mut [u32], frame: &[u32], out: &mut [u32]) -> WordsAnswer
     ensures { λ r. ⌜ ReceivePromise (now (store .entry)) (now (frame .entry)) (now (out .entry)) (record { code = r .refusal; words = r .words }) (now (store .exit)) (now (out .exit)) ⌝ }
 {
-    let written = office::receive::receive(store, frame, out);
+    let written = hearing::receive::receive(store, frame, out);
     crate::answer::words_answer(written)
 }

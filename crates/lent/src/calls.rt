@@ -19,7 +19,7 @@ pub fn read_plot(store: &mut [u32], s: &mut Session, plot: u32) -> PlotAnswer
 pub fn read_joint(store: &mut [u32], s: &mut Session, plots: &[u32], answer: &mut [u32]) -> Status
     ensures { λ r. ⌜ JointPromise (now (store .entry)) (now (s .entry)) (now (plots .entry)) (now (answer .entry)) (codeOf r) (now (s .exit)) (now (store .exit)) (now (answer .exit)) ⌝ }
 {
-    let done = office::joint::read_joint(store, *s, plots, answer);
+    let done = reading::joint::read_joint(store, *s, plots, answer);
     *s = done.session;
     done.status
 }
@@ -28,7 +28,7 @@ pub fn read_joint(store: &mut [u32], s: &mut Session, plots: &[u32], answer: &mu
 pub fn write(store: &mut [u32], s: &mut Session, plot: u32, value: u32, out: &mut [u32]) -> Written
     ensures { λ r. ⌜ WritePromise (now (store .entry)) (now (s .entry)) plot value (now (out .entry)) (replyOf r) (now (s .exit)) (now (store .exit)) (now (out .exit)) ⌝ }
 {
-    let done = office::write::write(store, *s, plot, value, out);
+    let done = writing::write::write(store, *s, plot, value, out);
     *s = done.session;
     done.written
 }

@@ -17,11 +17,11 @@ pub struct PlotDone {
     pub session: Session,
 }
 
-// office::read::read_plot, with the answer apart from the session.
+// reading::read::read_plot, with the answer apart from the session.
 pub fn read_plot_by_value(store: &mut [u32], s: Session, plot: u32) -> PlotDone
     ensures { λ r. ⌜ ReadPromise (now (store .entry)) s plot (codeOf (r .answer .status)) (r .answer .found) (r .answer .entry) (r .session) (now (store .exit)) ⌝ }
 {
-    let read = office::read::read_plot(store, s, plot);
+    let read = reading::read::read_plot(store, s, plot);
     let status = read.status;
     let entry = read.entry;
     let session = read.session;

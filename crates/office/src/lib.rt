@@ -1,12 +1,6 @@
-// The calls of one office.
-mod code;
-mod entries;
-pub mod forecast;
-pub mod joint;
+// What the calls of one office share, and those that ask for no entry: need, open, fresh.
+pub mod code;
+pub mod entries;
 pub mod need;
 pub mod note;
 pub mod open;
-pub mod read;
-pub mod receive;
-mod send;
-pub mod write;

@@ -20,8 +20,8 @@ use Rattle.frame.specs.Words.{summed}
 use Rattle.frame.specs.declared.session.Session.{Session}
 use Rattle.store.specs.Offices.{officeOf, soundStore}
 use Rattle.office.specs.Calls.{newEntry, onward, receive, receiveSends, write, writeSends}
-use Rattle.office.specs.Steps.{earlyCode}
-use Rattle.office.proofs.Writes.{row-left, write-done, write-early, write-late}
+use Rattle.writing.specs.Writes.{earlyCode}
+use Rattle.writing.proofs.Writes.{row-left, write-done, write-early, write-late}
 use Rattle.player.specs.declared.ahead.Ahead.the-variants.{Full, Goes, Refused}
 use Rattle.player.specs.Desks.{hopsAt}
 use Rattle.player.specs.Steps.{Foretells}

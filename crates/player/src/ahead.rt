@@ -37,7 +37,7 @@ pub fn write_ahead(
     }
     let from = 1747 * office;
     let end = from + 1747;
-    let forecast = office::forecast::write_forecast(&stores[from..end], s, plot, value);
+    let forecast = writing::forecast::write_forecast(&stores[from..end], s, plot, value);
     let code = forecast.code;
     if code != 0 {
         return Ahead::Refused(code);
@@ -70,7 +70,7 @@ pub fn receive_ahead(
     let end = from + lines[slot] as usize;
     let a = 1747 * office;
     let b = a + 1747;
-    let code = office::forecast::receive_forecast(&stores[a..b], &lines[from..end], 1751);
+    let code = hearing::forecast::receive_forecast(&stores[a..b], &lines[from..end], 1751);
     if code != 0 {
         return Ahead::Refused(code);
     }

@@ -32,10 +32,10 @@ use frame::refusal::Status;
 use frame::refusal::Written;
 use frame::refusal::number_of;
 use frame::session::Session;
-use office::read::PlotSeen;
-use office::write::Made;
+use reading::read::PlotSeen;
 use script::line::Line;
 use script::reply::Reply;
+use writing::write::Made;
 
 // The frames that a call left in the first words of `out` go to the line of the next office, which has room for them.
 pub fn deliver(board: Board, next: usize, words: usize, lines: &mut [u32], out: &[u32]) -> Board
@@ -65,7 +65,7 @@ pub fn write_at(
 {
     let from = 1747 * office;
     let end = from + 1747;
-    office::write::make(&mut stores[from..end], s, plot, value, out)
+    writing::write::make(&mut stores[from..end], s, plot, value, out)
 }
 
 // A write that was not done: the board and the session stay.
@@ -135,7 +135,7 @@ pub fn read_at(stores: &mut [u32], office: usize, s: Session, plot: u32) -> Plot
 {
     let from = 1747 * office;
     let end = from + 1747;
-    office::read::see_plot(&mut stores[from..end], s, plot)
+    reading::read::see_plot(&mut stores[from..end], s, plot)
 }
 
 pub fn reply_of(found: bool, e: Entry) -> Reply
@@ -212,7 +212,7 @@ pub fn receive_at(
     let end = from + lines[slot] as usize;
     let a = 1747 * office;
     let b = a + 1747;
-    office::receive::receive(&mut stores[a..b], &lines[from..end], out)
+    hearing::receive::receive(&mut stores[a..b], &lines[from..end], out)
 }
 
 // `H`: an office, below 3, receives its oldest waiting frame. `out` is left with any words, as by `write_line`.

@@ -1,6 +1,9 @@
 -- THE THEOREM of the third demand (specs/Demand.antt). Assumes nothing.
 use Rattle.frame.proofs.Contract.{frame-contracts}
 use Rattle.office.proofs.Contract.{office-contracts}
+use Rattle.reading.proofs.Contract.{reading-contracts}
+use Rattle.writing.proofs.Contract.{writing-contracts}
+use Rattle.hearing.proofs.Contract.{hearing-contracts}
 use Rattle.lent.proofs.Contract.{lent-contracts}
 use Rattle.host.proofs.Contract.{host-contracts}
 use Rattle.ring.specs.Demand.{ThirdDemand}
@@ -13,6 +16,9 @@ third-demand =
     record {
       frame = λ M 𝓤 H A mem run. frame-contracts 𝓤 H A mem run;
       office = λ M 𝓤 H A mem run. office-contracts 𝓤 H A mem run;
+      reading = λ M 𝓤 H A mem run. reading-contracts 𝓤 H A mem run;
+      writing = λ M 𝓤 H A mem run. writing-contracts 𝓤 H A mem run;
+      hearing = λ M 𝓤 H A mem run. hearing-contracts 𝓤 H A mem run;
       lent = λ M 𝓤 H A mem run. lent-contracts 𝓤 H A mem run;
       host = λ M 𝓤 H A mem run. host-contracts 𝓤 H A mem run;
       claim = claim;

@@ -23,7 +23,8 @@ use Rattle.store.specs.Offices.{Found, None, Office, Some, current, officeOf, r
 use Rattle.office.specs.Answers.{anyFound, entryFound, freshBy}
 use Rattle.office.specs.Calls.{Result, answerWords, freshCode, given, handed, holdAll, jointCode, jointOn, noted, notedAll, openOffice, parsed, readCode, readJoint, readOn, readPlot, receive, receiveCode, receiveOn, receiveSends, receivedBy, sentOf, threeWords, worded, write, writeCode, writeOn, writeSends, wroteSession}
 use Rattle.office.specs.Promises.{FreshPromise, JointPromise, OpenPromise, ReadPromise, ReceivePromise, WritePromise}
-use Rattle.office.proofs.Answers.{joint-content, read-content, write-content}
+use Rattle.reading.proofs.Answers.{joint-content, read-content}
+use Rattle.writing.proofs.Answers.{write-content}
 use Rattle.ring.specs.Answers.{ReadAnswer, SessionAnswer, WriteAnswer, handedBack}
 use Rattle.ring.specs.Run.{onWords}
 

@@ -1,8 +1,8 @@
 -- THE THIRD DEMAND, as one statement: code → contract → promise → run → Holds. Its one theorem is `third-demand`, proofs/Demand.antt. The links meet
 -- in the promises, which contracts and claim cite by name.
---   code → contract → promise   `frame`, `office`, `lent`, `host`: the code of each call, lent call and export meets its contract; that asks for
---                               nothing, and ensures the promise (frame/specs/Promises.antt, office/specs/Promises.antt; the links are in
---                               Contract.antt, in the proofs of each of these crates)
+--   code → contract → promise   `frame`, `office`, `reading`, `writing`, `hearing`, `lent`, `host`: the code of each call, lent call and export
+--                               meets its contract; that asks for nothing, and ensures the promise (frame/specs/Promises.antt,
+--                               office/specs/Promises.antt; the links are in Contract.antt, in the proofs of each of these crates)
 --   promise → run               `claim`, `answered`: whatever the answers, if they keep the promises, a list of calls leads to its run; and
 --                               every list of calls has such answers (specs/Claim.antt; what is read off an answer: specs/Answers.antt)
 --   run → Holds                 in `claim` too; given apart, since the program stands on them: `opens`, `demand3`: openings in range are accepted, and
@@ -17,6 +17,9 @@ use prog.Routine.{Routine}
 use prog.Wp.{Heap}
 use Rattle.frame.proofs.Contract.{FrameContracts}
 use Rattle.office.proofs.Contract.{OfficeContracts}
+use Rattle.reading.proofs.Contract.{ReadingContracts}
+use Rattle.writing.proofs.Contract.{WritingContracts}
+use Rattle.hearing.proofs.Contract.{HearingContracts}
 use Rattle.lent.proofs.Contract.{LentContracts}
 use Rattle.host.proofs.Contract.{HostContracts}
 use Rattle.ring.specs.Claim.{Answered, Claim}
@@ -29,6 +32,9 @@ Everywhere C = (M : Type 1) (𝓤 : URA M) (H : Heap 𝓤) (A : Atoms 𝓤) (mem
 pub record ThirdDemand : Type 2 where
   pub frame : Everywhere (λ M 𝓤 H A mem run. FrameContracts 𝓤 H A mem run)
   pub office : Everywhere (λ M 𝓤 H A mem run. OfficeContracts 𝓤 H A mem run)
+  pub reading : Everywhere (λ M 𝓤 H A mem run. ReadingContracts 𝓤 H A mem run)
+  pub writing : Everywhere (λ M 𝓤 H A mem run. WritingContracts 𝓤 H A mem run)
+  pub hearing : Everywhere (λ M 𝓤 H A mem run. HearingContracts 𝓤 H A mem run)
   pub lent : Everywhere (λ M 𝓤 H A mem run. LentContracts 𝓤 H A mem run)
   pub host : Everywhere (λ M 𝓤 H A mem run. HostContracts 𝓤 H A mem run)
   pub claim : Claim

@@ -11,7 +11,6 @@ ghost use mathlib.Core.Bool.{true};
 ghost use Rattle.ring_program.specs.Fed.{Finishes, Follows, Leads, Staged, deskOf, fed};
 use frame::session::Session;
 use office::note::with_seen;
-use office::write::extended;
 use player::board::Board;
 use player::play::play_other;
 use player::play::read_line;
@@ -23,6 +22,7 @@ use script::pending::nothing;
 use script::pending::parse;
 use script::pending::take;
 use script::reply::put_reply;
+use writing::write::extended;
 
 // Between two bytes: the sessions and the board, the line whose end has not come, how many bytes of text there are, and whether every write so far
 // took its text: no line is played after a write that did not.

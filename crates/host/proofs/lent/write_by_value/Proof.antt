@@ -1,5 +1,5 @@
 use mathlib.Core.Path.{refl, _∙_}
-use Rattle.office.proofs.Writes.{wrote-few}
+use Rattle.writing.proofs.Writes.{wrote-few}
 use borrow.Author.Needs.{needs}
 use Rattle.host.proofs.lent.write_by_value.Statement.{statement}
 use Rattle.host.proofs.lent.write_by_value.Tie as tie

@@ -44,15 +44,15 @@ use Rattle.office.specs.Promises.{JointPromise}
 use Rattle.frame.specs.declared.session.Session.{Session}
 use Rattle.frame.proofs.session.Session as T-Session
 use Rattle.frame.proofs.session.Session.Laws as T-Session′
-use Rattle.office.specs.declared.joint.JointRead.{JointRead}
-use Rattle.office.proofs.joint.JointRead as T-JointRead
-use Rattle.office.proofs.joint.JointRead.Laws as T-JointRead′
+use Rattle.reading.specs.declared.joint.JointRead.{JointRead}
+use Rattle.reading.proofs.joint.JointRead as T-JointRead
+use Rattle.reading.proofs.joint.JointRead.Laws as T-JointRead′
 use Rattle.frame.proofs.refusal.Status as T-Status
 use Rattle.frame.proofs.refusal.Status.Laws as T-Status′
-use Rattle.office.proofs.joint.read_joint as core
-use Rattle.office.proofs.joint.read_joint.Symbol as core-def
-use Rattle.office.proofs.joint.read_joint.Symbol.{name as #office·read-joint}
-use Rattle.office.proofs.joint.read_joint.Met as core-thm
+use Rattle.reading.proofs.joint.read_joint as core
+use Rattle.reading.proofs.joint.read_joint.Symbol as core-def
+use Rattle.reading.proofs.joint.read_joint.Symbol.{name as #reading·read-joint}
+use Rattle.reading.proofs.joint.read_joint.Met as core-thm
 use Rattle.lent.proofs.calls.read_joint.Key.{name as #lent·read-joint}
 use Rattle.lent.proofs.calls.read_joint as f
 use Rattle.lent.proofs.calls.read_joint.Statement as stated
@@ -112,7 +112,7 @@ module _ {M : Type 1} (𝓤 : URA M) (H : Heap 𝓤) (A : Atoms 𝓤) (W : Given
       qed W (‵ (finally u32 γ-store z-store) ∷ ‵ (fobs γ-s (T-Session.the-row .coded .code (r .session))) ∷ ‵ (fbor κ-s (Body (mem T-Session.the-row) b-s o-s γ-s)) ∷ ‵ (ShrSlice (named 2) κ-plots u32 .own ref-plots (sliceVal (b-plots, o-plots) (length x-plots) ∷ [])) ∷ ‵ (finally u32 γ-answer z-answer) ∷ ‵ (flft κ-store q-store) ∷ ‵ (flft κ-s q-s) ∷ ‵ (flft κ-plots q-plots) ∷ ‵ (flft κ-answer q-answer) ∷ []) ∵ suffices ! _ (ends-at 𝓤 H A f.ended stayed (f.clauses 𝓤 H A at-mem run) W (((κ-store, (κ-s, (κ-plots, (κ-answer, tt)))), (q-store, (q-s, (q-plots, (q-answer, tt)))), tt, a, vals), tt) (EL.val T-Status.the-type T-Status′.the-laws (r .status)) (r .status) (z-store, ((r .session), (tt, (z-answer, tt)))) (l-store, (tt, (tt, (l-answer, tt))))) $ says ! e $
       nothing ! $ move ! (9 ∷ 0 ∷ []) $ join ! $ move ! (8 ∷ 0 ∷ []) $ join ! $ move ! (7 ∷ 0 ∷ []) $ join ! $ move ! (6 ∷ 0 ∷ []) $ join ! $ frame ! $ nothing ! $ move ! (5 ∷ 0 ∷ []) $ fjoin ! $ move ! (4 ∷ 0 ∷ []) $ fjoin ! $ move ! (2 ∷ 3 ∷ []) $ feqI ! (List Val) (vptr b-s o-s ∷ []) (vptr b-s o-s ∷ []) refl $ fjoin3 ! $ fjoin ! $ move ! (1 ∷ 0 ∷ []) $ fjoin ! $ owned ! T-Status.the-row (Is T-Status.the-row) (EL.makes T-Status.the-type T-Status′.the-plain 𝓤 H A) (r .status) _ (result-is r w is) $ move ! (1 ∷ 0 ∷ []) $ done !
 
-  module _ (C : Calls 𝓤 H) (Λ : Loops 𝓤 H) (fm : FmC 𝓤 H (W .laws) C) (known : Triple 𝓤 (C #office·read-joint) (Core 𝓤 H A at-mem run)) where
+  module _ (C : Calls 𝓤 H) (Λ : Loops 𝓤 H) (fm : FmC 𝓤 H (W .laws) C) (known : Triple 𝓤 (C #reading·read-joint) (Core 𝓤 H A at-mem run)) where
     walk : ent 𝓤 (onEntry 𝓤 H A f.signature (κ-store, (κ-s, (κ-plots, (κ-answer, tt)))) (q-store, (q-s, (q-plots, (q-answer, tt)))) a vals) (WpFn 𝓤 H C Λ code.function (sliceVal (b-store, o-store) (length x-store) ∷ vptr b-s o-s ∷ sliceVal (b-plots, o-plots) (length x-plots) ∷ sliceVal (b-answer, o-answer) (length x-answer) ∷ []) Post)
     walk =
         qed W ((‵ (flft κ-store q-store) ⊛ (‵ (flft κ-s q-s) ⊛ (‵ (flft κ-plots q-plots) ⊛ (‵ (flft κ-answer q-answer) ⊛ ‵ ftrue)))) ∷ ‵ (owns (MutSlice (named 0) κ-store u32 ∷ MutRef (named 1) κ-s T-Session.the-row ∷ ShrSlice (named 2) κ-plots u32 ∷ MutSlice (named 3) κ-answer u32 ∷ []) a vals) ∷ []) ∵ enter ! C Λ code.function (sliceVal (b-store, o-store) (length x-store) ∷ vptr b-s o-s ∷ sliceVal (b-plots, o-plots) (length x-plots) ∷ sliceVal (b-answer, o-answer) (length x-answer) ∷ []) _ $
@@ -131,14 +131,14 @@ module _ {M : Type 1} (𝓤 : URA M) (H : Heap 𝓤) (A : Atoms 𝓤) (W : Given
         returns ! (look ! 36 refl) $ forget ! 16 refl $ forget ! 18 refl $ forget ! 20 refl $ forget ! 22 refl $ forget ! 24 refl $ forget ! 26 refl $ forget ! 28 refl $ forget ! 30 refl $ forget ! 32 refl $ forget ! 34 refl $ forget ! 36 refl $ move ! (36 ∷ 37 ∷ []) $ free1 ! $ move ! (34 ∷ 35 ∷ []) $ free1 ! $ move ! (32 ∷ 33 ∷ []) $ free1 ! $ move ! (30 ∷ 31 ∷ []) $ free1 ! $ move ! (28 ∷ 29 ∷ []) $ free1 ! $ move ! (26 ∷ 27 ∷ []) $ free1 ! $ move ! (24 ∷ 25 ∷ []) $ free1 ! $ move ! (22 ∷ 23 ∷ []) $ free1 ! $ move ! (20 ∷ 21 ∷ []) $ free1 ! $ move ! (18 ∷ 19 ∷ []) $ free1 ! $ move ! (16 ∷ 17 ∷ []) $ free1 ! $ free0 ! $ keep ! (12 ∷ 4 ∷ 5 ∷ 13 ∷ 8 ∷ 3 ∷ 6 ∷ 2 ∷ 0 ∷ []) $ by ! (exits r w (zs .0) (zs .1 .1 .1 .0) g-s e l-store l-answer is)))))))))))))))))))))
 
 module _ {M : Type 1} (𝓤 : URA M) (H : Heap 𝓤) (A : Atoms 𝓤) (W : Given 𝓤 H A) (at-mem : Memory → SProp 𝓤) (run : Routine → Fun 𝓤) where
-  walks : (C : Calls 𝓤 H) (Λ : Loops 𝓤 H) → FmC 𝓤 H (W .laws) C → Triple 𝓤 (C #office·read-joint) (Core 𝓤 H A at-mem run) → Walks 𝓤 H A f.ended stayed (WpFn 𝓤 H C Λ code.function) (f.clauses 𝓤 H A at-mem run)
+  walks : (C : Calls 𝓤 H) (Λ : Loops 𝓤 H) → FmC 𝓤 H (W .laws) C → Triple 𝓤 (C #reading·read-joint) (Core 𝓤 H A at-mem run) → Walks 𝓤 H A f.ended stayed (WpFn 𝓤 H C Λ code.function) (f.clauses 𝓤 H A at-mem run)
   walks C Λ fm known = walked 𝓤 H A f.ended stayed (f.clauses 𝓤 H A at-mem run) (WpFn 𝓤 H C Λ code.function) (λ κs. (slice-vals, (ptr-vals, (slice-vals, (slice-vals, tt))))) (λ κs. (mut-slice-tells (named 0) (κs .0) u32, (mut-tells (named 1) (κs .1 .0) T-Session.the-row, (shr-slice-tells (named 2) (κs .1 .1 .0) u32, (mut-slice-tells (named 3) (κs .1 .1 .1 .0) u32, tt)))))
       (λ κs qs bounds a g are. via 𝓤 _ (fst∗ 𝓤 _ (emp 𝓤)) (walk 𝓤 H A W at-mem run (κs .0) (qs .0) (a .0 .ptr .0) (a .0 .ptr .1) (a .0 .name) (a .0 .now) (are .0 .0 .1) (κs .1 .0) (qs .1 .0) (a .1 .0 .ptr .0) (a .1 .0 .ptr .1) (a .1 .0 .name) (a .1 .0 .now) (κs .1 .1 .0) (qs .1 .1 .0) (a .1 .1 .0 .ptr .0) (a .1 .1 .0 .ptr .1) (a .1 .1 .0 .name) (a .1 .1 .0 .now) (are .1 .1 .0 .0 .1) (κs .1 .1 .1 .0) (qs .1 .1 .1 .0) (a .1 .1 .1 .0 .ptr .0) (a .1 .1 .1 .0 .ptr .1) (a .1 .1 .1 .0 .name) (a .1 .1 .1 .0 .now) (are .1 .1 .1 .0 .0 .1) C Λ fm known))
 
   all-go : AllGo 𝓤 H A W 4 (f.signature .params) (f.ended .kept) stayed
   all-go = (goes-gave-slice 𝓤 H A W 4 0 tt (plain (λ _. u32)), (goes-ref 𝓤 H A W 4 1 tt (plain (λ _. T-Session.the-row)), (goes-none-slice 𝓤 H A W 4 (2 ∷ []) tt (plain (λ _. u32)) yes, (goes-gave-slice 𝓤 H A W 4 3 tt (plain (λ _. u32)), tt))))
 
-meets : {M : Type 1} (𝓤 : URA M) (H : Heap 𝓤) (A : Atoms 𝓤) → Given 𝓤 H A → (at-mem : Memory → SProp 𝓤) (run : Routine → Fun 𝓤) (𝓣 : Tables 𝓤 H) → Triple 𝓤 (𝓣 .C #office·read-joint) (Core 𝓤 H A at-mem run)
+meets : {M : Type 1} (𝓤 : URA M) (H : Heap 𝓤) (A : Atoms 𝓤) → Given 𝓤 H A → (at-mem : Memory → SProp 𝓤) (run : Routine → Fun 𝓤) (𝓣 : Tables 𝓤 H) → Triple 𝓤 (𝓣 .C #reading·read-joint) (Core 𝓤 H A at-mem run)
     → Meets 𝓤 H A f.signature (WpFn 𝓤 H (𝓣 .C) (𝓣 .Λ) code.function) (f.spec 𝓤 H A at-mem run)
 meets 𝓤 H A W at-mem run 𝓣 known =
     walk-meets 𝓤 H A f.ended stayed W (all-go 𝓤 H A W at-mem run) (f.clauses 𝓤 H A at-mem run)
@@ -150,4 +150,4 @@ read-joint-spec 𝓤 H 𝓜 𝓖 𝓡 =
     entered 𝓤 H (tripleOf 𝓤 H (𝓖 .A) f.signature (f.spec 𝓤 H (𝓖 .A) (𝓜 .mem) (𝓡 .run)))
     (tables 𝓤 H 𝓜 𝓡 code.env .C) (tables 𝓤 H 𝓜 𝓡 code.env .Λ) #lent·read-joint code.function (code.unfolded 𝓤 H 𝓜 𝓡)
     (meets 𝓤 H (𝓖 .A) (givenOf 𝓤 H 𝓜 𝓖) (𝓜 .mem) (𝓡 .run) (tablesOf 𝓤 H 𝓜 (tables 𝓤 H 𝓜 𝓡 code.env))
-    (cited 𝓤 H (Core 𝓤 H (𝓖 .A) (𝓜 .mem) (𝓡 .run)) 𝓜 𝓡 code.env #office·read-joint core-def.routine code.calls-office·joint·read-joint (core-thm.met 𝓤 H 𝓜 𝓖 𝓡)))
+    (cited 𝓤 H (Core 𝓤 H (𝓖 .A) (𝓜 .mem) (𝓡 .run)) 𝓜 𝓡 code.env #reading·read-joint core-def.routine code.calls-reading·joint·read-joint (core-thm.met 𝓤 H 𝓜 𝓖 𝓡)))

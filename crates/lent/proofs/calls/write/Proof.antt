@@ -45,15 +45,15 @@ use Rattle.office.specs.Promises.{WritePromise}
 use Rattle.frame.specs.declared.session.Session.{Session}
 use Rattle.frame.proofs.session.Session as T-Session
 use Rattle.frame.proofs.session.Session.Laws as T-Session′
-use Rattle.office.specs.declared.write.Wrote.{Wrote}
-use Rattle.office.proofs.write.Wrote as T-Wrote
-use Rattle.office.proofs.write.Wrote.Laws as T-Wrote′
+use Rattle.writing.specs.declared.write.Wrote.{Wrote}
+use Rattle.writing.proofs.write.Wrote as T-Wrote
+use Rattle.writing.proofs.write.Wrote.Laws as T-Wrote′
 use Rattle.frame.proofs.refusal.Written as T-Written
 use Rattle.frame.proofs.refusal.Written.Laws as T-Written′
-use Rattle.office.proofs.write.write as core
-use Rattle.office.proofs.write.write.Symbol as core-def
-use Rattle.office.proofs.write.write.Symbol.{name as #office·write}
-use Rattle.office.proofs.write.write.Met as core-thm
+use Rattle.writing.proofs.write.write as core
+use Rattle.writing.proofs.write.write.Symbol as core-def
+use Rattle.writing.proofs.write.write.Symbol.{name as #writing·write}
+use Rattle.writing.proofs.write.write.Met as core-thm
 use Rattle.lent.proofs.calls.write.Key.{name as #lent·write}
 use Rattle.lent.proofs.calls.write as f
 use Rattle.lent.proofs.calls.write.Statement as stated
@@ -110,7 +110,7 @@ module _ {M : Type 1} (𝓤 : URA M) (H : Heap 𝓤) (A : Atoms 𝓤) (W : Given
       qed W (‵ (finally u32 γ-store z-store) ∷ ‵ (fobs γ-s (T-Session.the-row .coded .code (r .session))) ∷ ‵ (fbor κ-s (Body (mem T-Session.the-row) b-s o-s γ-s)) ∷ ‵ (finally u32 γ-out z-out) ∷ ‵ (flft κ-store q-store) ∷ ‵ (flft κ-s q-s) ∷ ‵ (flft κ-out q-out) ∷ []) ∵ suffices ! _ (ends-at 𝓤 H A f.ended stayed (f.clauses 𝓤 H A at-mem run) W (((κ-store, (κ-s, (κ-out, tt))), (q-store, (q-s, (q-out, tt))), tt, a, vals), tt) (EL.val T-Written.the-type T-Written′.the-laws (r .written)) (r .written) (z-store, ((r .session), (tt, (tt, (z-out, tt))))) (l-store, (tt, (tt, (tt, (l-out, tt)))))) $ says ! e $
       nothing ! $ move ! (7 ∷ 0 ∷ []) $ join ! $ move ! (6 ∷ 0 ∷ []) $ join ! $ move ! (5 ∷ 0 ∷ []) $ join ! $ frame ! $ nothing ! $ move ! (4 ∷ 0 ∷ []) $ fjoin ! $ owned ! u32 (Is u32) (uint-makes 𝓤 H A W w32) x-value _ (refl, fits-value) $ fjoin ! $ owned ! u32 (Is u32) (uint-makes 𝓤 H A W w32) x-plot _ (refl, fits-plot) $ fjoin ! $ move ! (2 ∷ 3 ∷ []) $ feqI ! (List Val) (vptr b-s o-s ∷ []) (vptr b-s o-s ∷ []) refl $ fjoin3 ! $ fjoin ! $ move ! (1 ∷ 0 ∷ []) $ fjoin ! $ owned ! T-Written.the-row (Is T-Written.the-row) (EL.makes T-Written.the-type T-Written′.the-plain 𝓤 H A) (r .written) _ (result-is r w is) $ move ! (1 ∷ 0 ∷ []) $ done !
 
-  module _ (C : Calls 𝓤 H) (Λ : Loops 𝓤 H) (fm : FmC 𝓤 H (W .laws) C) (known : Triple 𝓤 (C #office·write) (Core 𝓤 H A at-mem run)) where
+  module _ (C : Calls 𝓤 H) (Λ : Loops 𝓤 H) (fm : FmC 𝓤 H (W .laws) C) (known : Triple 𝓤 (C #writing·write) (Core 𝓤 H A at-mem run)) where
     walk : x-plot < 2 ^ 32 → x-value < 2 ^ 32 → ent 𝓤 (onEntry 𝓤 H A f.signature (κ-store, (κ-s, (κ-out, tt))) (q-store, (q-s, (q-out, tt))) a vals) (WpFn 𝓤 H C Λ code.function (sliceVal (b-store, o-store) (length x-store) ∷ vptr b-s o-s ∷ vint w32 x-plot ∷ vint w32 x-value ∷ sliceVal (b-out, o-out) (length x-out) ∷ []) Post)
     walk fits-plot fits-value =
         qed W ((‵ (flft κ-store q-store) ⊛ (‵ (flft κ-s q-s) ⊛ (‵ (flft κ-out q-out) ⊛ ‵ ftrue))) ∷ ‵ (owns (MutSlice (named 0) κ-store u32 ∷ MutRef (named 1) κ-s T-Session.the-row ∷ u32 ∷ u32 ∷ MutSlice (named 2) κ-out u32 ∷ []) a vals) ∷ []) ∵ enter ! C Λ code.function (sliceVal (b-store, o-store) (length x-store) ∷ vptr b-s o-s ∷ vint w32 x-plot ∷ vint w32 x-value ∷ sliceVal (b-out, o-out) (length x-out) ∷ []) _ $
@@ -129,14 +129,14 @@ module _ {M : Type 1} (𝓤 : URA M) (H : Heap 𝓤) (A : Atoms 𝓤) (W : Given
         returns ! (look ! 39 refl) $ forget ! 17 refl $ forget ! 19 refl $ forget ! 21 refl $ forget ! 23 refl $ forget ! 25 refl $ forget ! 27 refl $ forget ! 29 refl $ forget ! 31 refl $ forget ! 33 refl $ forget ! 35 refl $ forget ! 37 refl $ forget ! 39 refl $ move ! (39 ∷ 40 ∷ []) $ free1 ! $ move ! (37 ∷ 38 ∷ []) $ free1 ! $ move ! (35 ∷ 36 ∷ []) $ free1 ! $ move ! (33 ∷ 34 ∷ []) $ free1 ! $ move ! (31 ∷ 32 ∷ []) $ free1 ! $ move ! (29 ∷ 30 ∷ []) $ free1 ! $ move ! (27 ∷ 28 ∷ []) $ free1 ! $ move ! (25 ∷ 26 ∷ []) $ free1 ! $ move ! (23 ∷ 24 ∷ []) $ free1 ! $ move ! (21 ∷ 22 ∷ []) $ free1 ! $ move ! (19 ∷ 20 ∷ []) $ free1 ! $ move ! (17 ∷ 18 ∷ []) $ free1 ! $ free0 ! $ keep ! (12 ∷ 3 ∷ 4 ∷ 7 ∷ 2 ∷ 5 ∷ 0 ∷ []) $ by ! (exits r w (zs .0) (zs .1 .1 .1 .1 .0) fits-plot fits-value g-s e l-store l-out is))))))))))))))))))))))
 
 module _ {M : Type 1} (𝓤 : URA M) (H : Heap 𝓤) (A : Atoms 𝓤) (W : Given 𝓤 H A) (at-mem : Memory → SProp 𝓤) (run : Routine → Fun 𝓤) where
-  walks : (C : Calls 𝓤 H) (Λ : Loops 𝓤 H) → FmC 𝓤 H (W .laws) C → Triple 𝓤 (C #office·write) (Core 𝓤 H A at-mem run) → Walks 𝓤 H A f.ended stayed (WpFn 𝓤 H C Λ code.function) (f.clauses 𝓤 H A at-mem run)
+  walks : (C : Calls 𝓤 H) (Λ : Loops 𝓤 H) → FmC 𝓤 H (W .laws) C → Triple 𝓤 (C #writing·write) (Core 𝓤 H A at-mem run) → Walks 𝓤 H A f.ended stayed (WpFn 𝓤 H C Λ code.function) (f.clauses 𝓤 H A at-mem run)
   walks C Λ fm known = walked 𝓤 H A f.ended stayed (f.clauses 𝓤 H A at-mem run) (WpFn 𝓤 H C Λ code.function) (λ κs. (slice-vals, (ptr-vals, ((uint-vals w32), ((uint-vals w32), (slice-vals, tt)))))) (λ κs. (mut-slice-tells (named 0) (κs .0) u32, (mut-tells (named 1) (κs .1 .0) T-Session.the-row, ((uint-tells w32), ((uint-tells w32), (mut-slice-tells (named 2) (κs .1 .1 .0) u32, tt))))))
       (λ κs qs bounds a g are. via 𝓤 _ (fst∗ 𝓤 _ (emp 𝓤)) (walk 𝓤 H A W at-mem run (κs .0) (qs .0) (a .0 .ptr .0) (a .0 .ptr .1) (a .0 .name) (a .0 .now) (are .0 .0 .1) (κs .1 .0) (qs .1 .0) (a .1 .0 .ptr .0) (a .1 .0 .ptr .1) (a .1 .0 .name) (a .1 .0 .now) (a .1 .1 .0) (a .1 .1 .1 .0) (κs .1 .1 .0) (qs .1 .1 .0) (a .1 .1 .1 .1 .0 .ptr .0) (a .1 .1 .1 .1 .0 .ptr .1) (a .1 .1 .1 .1 .0 .name) (a .1 .1 .1 .1 .0 .now) (are .1 .1 .1 .1 .0 .0 .1) C Λ fm known (are .1 .1 .0 .1) (are .1 .1 .1 .0 .1)))
 
   all-go : AllGo 𝓤 H A W 3 (f.signature .params) (f.ended .kept) stayed
   all-go = (goes-gave-slice 𝓤 H A W 3 0 tt (plain (λ _. u32)), (goes-ref 𝓤 H A W 3 1 tt (plain (λ _. T-Session.the-row)), (goes-none 𝓤 H A W 3 (λ _. u32) yes (λ κs x f. refl), (goes-none 𝓤 H A W 3 (λ _. u32) yes (λ κs x f. refl), (goes-gave-slice 𝓤 H A W 3 2 tt (plain (λ _. u32)), tt)))))
 
-meets : {M : Type 1} (𝓤 : URA M) (H : Heap 𝓤) (A : Atoms 𝓤) → Given 𝓤 H A → (at-mem : Memory → SProp 𝓤) (run : Routine → Fun 𝓤) (𝓣 : Tables 𝓤 H) → Triple 𝓤 (𝓣 .C #office·write) (Core 𝓤 H A at-mem run)
+meets : {M : Type 1} (𝓤 : URA M) (H : Heap 𝓤) (A : Atoms 𝓤) → Given 𝓤 H A → (at-mem : Memory → SProp 𝓤) (run : Routine → Fun 𝓤) (𝓣 : Tables 𝓤 H) → Triple 𝓤 (𝓣 .C #writing·write) (Core 𝓤 H A at-mem run)
     → Meets 𝓤 H A f.signature (WpFn 𝓤 H (𝓣 .C) (𝓣 .Λ) code.function) (f.spec 𝓤 H A at-mem run)
 meets 𝓤 H A W at-mem run 𝓣 known =
     walk-meets 𝓤 H A f.ended stayed W (all-go 𝓤 H A W at-mem run) (f.clauses 𝓤 H A at-mem run)
@@ -148,4 +148,4 @@ write-spec 𝓤 H 𝓜 𝓖 𝓡 =
     entered 𝓤 H (tripleOf 𝓤 H (𝓖 .A) f.signature (f.spec 𝓤 H (𝓖 .A) (𝓜 .mem) (𝓡 .run)))
     (tables 𝓤 H 𝓜 𝓡 code.env .C) (tables 𝓤 H 𝓜 𝓡 code.env .Λ) #lent·write code.function (code.unfolded 𝓤 H 𝓜 𝓡)
     (meets 𝓤 H (𝓖 .A) (givenOf 𝓤 H 𝓜 𝓖) (𝓜 .mem) (𝓡 .run) (tablesOf 𝓤 H 𝓜 (tables 𝓤 H 𝓜 𝓡 code.env))
-    (cited 𝓤 H (Core 𝓤 H (𝓖 .A) (𝓜 .mem) (𝓡 .run)) 𝓜 𝓡 code.env #office·write core-def.routine code.calls-office·write·write (core-thm.met 𝓤 H 𝓜 𝓖 𝓡)))
+    (cited 𝓤 H (Core 𝓤 H (𝓖 .A) (𝓜 .mem) (𝓡 .run)) 𝓜 𝓡 code.env #writing·write core-def.routine code.calls-writing·write·write (core-thm.met 𝓤 H 𝓜 𝓖 𝓡)))

@@ -1,0 +1,3 @@
+pub mod Receives
+pub mod Forecasts
+pub mod Contract

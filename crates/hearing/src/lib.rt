@@ -1,0 +1,3 @@
+// The call of one office that hears a frame, and what it would say.
+pub mod forecast;
+pub mod receive;

@@ -1,0 +1,4 @@
+pub mod Readings
+pub mod JointReads
+pub mod Answers
+pub mod Contract
