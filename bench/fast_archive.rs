@@ -39,6 +39,10 @@ pub mod office {
         reply(office::store_need(offices, own, plots))
     }
 
+    pub fn store_settings(store: &[u32]) -> (u32, [u32; 3]) {
+        reply(office::store_settings(&mut store.to_vec()))
+    }
+
     pub fn receive(store: &mut [u32], frame: &[u32], out: &mut [u32]) -> (u32, usize) {
         reply(office::receive(store, frame, out))
     }

@@ -48,6 +48,7 @@ const SEED: u64 = 0xFA57_2026_0101_5EED;
 /// Each way in which a call can end; a run that misses one has not tested it.
 const OUTCOMES: &[(&str, &[u32])] = &[
     ("store_need", &[1]),
+    ("store_settings", &[2]),
     ("open_office", &[1, 2]),
     ("fresh_session", &[1]),
     ("read_plot", &[2, 3, 4, 12]),
@@ -63,6 +64,7 @@ const OUTCOMES: &[(&str, &[u32])] = &[
 /// How the calls that are accepted end.
 const ACCEPTED: &[&str] = &[
     "store_need: accepted",
+    "store_settings: accepted",
     "open_office: accepted",
     "fresh_session: accepted",
     "read_plot: none",

@@ -3,7 +3,7 @@
 
 use crate::archive::frames::{FrameRead, Written};
 use crate::archive::lent::PlotFound;
-use crate::archive::office::{JointRead, Need, PlotRead, Wrote};
+use crate::archive::office::{JointRead, Need, PlotRead, Settings, Wrote};
 use crate::archive::tokens::TokenRead;
 use crate::fast::entry::reply;
 use crate::fast::{frame, office, token};
@@ -16,6 +16,13 @@ use std::slice::{from_raw_parts, from_raw_parts_mut};
 pub unsafe extern "C" fn store_need(offices: u32, own: u32, plots: u32) -> Need {
     let (refusal, words) = reply(office::store_need(offices, own, plots));
     Need { refusal, words }
+}
+
+#[inline(never)]
+pub unsafe extern "C" fn store_settings(store: *const u32, len: usize) -> Settings {
+    let (refusal, [offices, own, plots]) =
+        reply(office::store_settings(from_raw_parts_mut(store.cast_mut(), len)));
+    Settings { refusal, offices, own, plots }
 }
 
 #[inline(never)]

@@ -12,14 +12,15 @@ mod sides;
 mod timing;
 
 use office_calls::{
-    Timed, JOINT, JOINT_BY_VALUE, LAST_HOP, MIDDLE, NEED, NO_STORE, PLOT, PLOT_BY_VALUE, READ_TOKEN, WRITE,
-    WRITE_BY_VALUE, WRITE_TOKEN,
+    Timed, JOINT, JOINT_BY_VALUE, LAST_HOP, MIDDLE, NEED, NO_STORE, PLOT, PLOT_BY_VALUE, READ_TOKEN,
+    SETTINGS, WRITE, WRITE_BY_VALUE, WRITE_TOKEN,
 };
 use office_cases::{empty, full, Case};
 use std::time::Duration;
 
-const CALLS: [Timed; 12] = [
+const CALLS: [Timed; 13] = [
     NEED,
+    SETTINGS,
     NO_STORE,
     PLOT,
     PLOT_BY_VALUE,

@@ -53,6 +53,17 @@ fn model_need(_: &Side, case: &Case, _: &mut Lent) {
     assert!(black_box(&need).is_ok());
 }
 
+fn settings(side: &Side, case: &Case, lent: &mut Lent) {
+    // Writable, though it is read only: the fast version asks for that.
+    let store = black_box(&mut lent.store);
+    let said = unsafe { (side.store_settings)(store.as_mut_ptr(), store.len()) };
+    assert_eq!(black_box(&said).offices, case.offices);
+}
+
+fn model_settings(_: &Side, case: &Case, lent: &mut Lent) {
+    assert_eq!(model::store_settings(black_box(&lent.store)), Ok([case.offices, OWN, 64]));
+}
+
 /// No store at all: what is left is the way into the call and back.
 fn refused(side: &Side, _: &Case, lent: &mut Lent) {
     let read =
@@ -220,6 +231,7 @@ const fn receiving(name: &'static str, spare: fn(u32) -> Option<(u32, u32)>, hop
 }
 
 pub const NEED: Timed = reading("store_need", need, model_need);
+pub const SETTINGS: Timed = reading("store_settings", settings, model_settings);
 pub const NO_STORE: Timed = reading("read_plot no store", refused, model_refused);
 pub const PLOT: Timed = reading("read_plot", plot, model_plot);
 pub const PLOT_BY_VALUE: Timed = reading("  by value", plot_by_value, model_plot);

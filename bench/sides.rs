@@ -5,7 +5,7 @@
 
 use crate::archive::frames::{self, FrameRead, Written};
 use crate::archive::lent::{self, PlotFound};
-use crate::archive::office::{self, JointRead, Need, PlotRead, Wrote};
+use crate::archive::office::{self, JointRead, Need, PlotRead, Settings, Wrote};
 use crate::archive::tokens::{self, TokenRead};
 use crate::fast_exports as fast;
 use crate::model::codec::Frame;
@@ -13,6 +13,7 @@ use crate::model::session::Session;
 
 pub struct Side {
     pub store_need: unsafe extern "C" fn(u32, u32, u32) -> Need,
+    pub store_settings: unsafe extern "C" fn(*const u32, usize) -> Settings,
     pub lent_read_plot: unsafe extern "C" fn(*mut u32, usize, *mut Session, u32) -> PlotFound,
     pub read_plot: unsafe extern "C" fn(*mut u32, usize, Session, u32) -> PlotRead,
     pub lent_read_joint:
@@ -31,6 +32,7 @@ pub struct Side {
 
 pub static ARCHIVE: Side = Side {
     store_need: office::burial_store_need,
+    store_settings: office::burial_store_settings,
     lent_read_plot: lent::burial_lent_read_plot,
     read_plot: office::burial_read_plot,
     lent_read_joint: lent::burial_lent_read_joint,
@@ -46,6 +48,7 @@ pub static ARCHIVE: Side = Side {
 
 pub static FAST: Side = Side {
     store_need: fast::store_need,
+    store_settings: fast::store_settings,
     lent_read_plot: fast::lent_read_plot,
     read_plot: fast::read_plot,
     lent_read_joint: fast::lent_read_joint,

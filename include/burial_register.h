@@ -1,28 +1,118 @@
-/* The roaming burial register: the calls that a host program in C can make.
+/* The roaming burial register, for host programs in C (C99 or later) and C++ (C++11 or later).
  *
- * Terms: an id is an entry's name (office, serial); hops are the offices
- * still to hear a frame after its receiver; a session is an errand,
- * a token a slip.
+ * Two to eight offices of one house form a ring. Each holds its own copy of the register in a row
+ * of words, its store, and answers from that copy alone, whether or not its lines are up. What it
+ * writes goes round the ring in frames. A person who goes from office to office carries a
+ * session, and is never shown less than that session has read or written. The host program owns
+ * memory, files and lines; this library has the calls in between. Each call is proved to
+ * do what paper 01 of the project says, whatever words it is given.
  *
- * Memory. The caller owns all of it. A call reads and writes only what it is
- * lent, keeps no pointer, allocates nothing and has no state of its own, so
- * calls on different memory may run at the same time.
+ * CONTENTS
+ *   1 What is seen, where and when      7 Hearing
+ *   2 A whole program                   8 Reading
+ *   3 The rules for a host              9 Tokens
+ *   4 Bounds, version, refusals        10 Frames
+ *   5 Opening                          11 The calls with the session by value
+ *   6 Sessions, and writing            12 Layout
  *
- * Rows. A row crosses as a pointer and a count of elements (not of bytes). The
- * pointer is aligned for its element and never null, even with a count of 0. A
- * row that a call writes overlaps no other row of that call.
  *
- * Words. A row of uint32_t holds words as numbers, in the machine's own order.
- * Only burial_check_frame takes bytes: each word is four bytes, lowest first.
+ * 1 WHAT IS SEEN, WHERE AND WHEN
  *
- * Sessions. A session crosses by value and is handed back as the call leaves it;
- * or it is lent (burial_lent_*) and holds its new state afterwards. The pointer to
- * a lent session is aligned, never null, and what it points to overlaps no row.
+ * An entry says a value of a plot. An office holds entries, each hidden or shown. A reading hands
+ * back the highest-ranked shown entry of the plot: one whose writer knew of another ranks above
+ * it.
  *
- * Refusals. A call that is refused changes nothing: every lent row keeps each
- * of its words, and a session is handed back as it came. A call that is not refused writes the words that it names and
- * leaves the rest of the row. Of several reasons, the one that the call lists
- * first is given.
+ *   - A new entry is held hidden at the office where it is written. Its frame goes to the next
+ *     office, which holds the entry hidden and sends the frame on, and so round the ring.
+ *   - The last office to hear the frame (the one before the office that sent it first) SHOWS the
+ *     entry, together with everything that it depends on, that is, all that its writer had read
+ *     or written. By then every office holds it.
+ *   - Every other office shows it later: when a session that has read it reads there, or when an
+ *     entry that depends on it is shown there. Until then it stays hidden there, so two offices
+ *     may hand back different entries of one plot though every frame has been heard.
+ *   - A session sees its own entries at once, and at every office, hidden or not: a reading hands
+ *     back the higher-ranked of the shown entry and the session's own.
+ *
+ *
+ * 2 A WHOLE PROGRAM
+ *
+ * Two offices in one process, and no files. It prints 'plot 5: 709 by 0.1'.
+ *
+ *     #include "burial_register.h"
+ *     #include <stdio.h>
+ *
+ *     enum { RING = 2, PLOTS = 64, STORE = BURIAL_STORE_WORDS, ROW = BURIAL_WRITE_WORDS };
+ *     static uint32_t store[RING][STORE], row[ROW];
+ *
+ *     int main(void)
+ *     {
+ *         for (uint32_t own = 0; own < RING; own++)
+ *             if (burial_open_office(RING, own, PLOTS, store[own], STORE) != BURIAL_OK)
+ *                 return 1;
+ *         struct burial_session writer = burial_fresh_session(RING).session, visitor = writer;
+ *         struct burial_written w = burial_lent_write(store[0], STORE, &writer, 5, 709, row, ROW);
+ *         if (w.refusal != BURIAL_OK)
+ *             return fprintf(stderr, "%s\n", burial_refusal_text(w.refusal)), 1;
+ *         // A host keeps store[0] and the frames here, before it sends any (section 3).
+ *         size_t at, len;
+ *         for (at = 0; (len = burial_frame_length(row + at, w.words - at, RING)) != 0; at += len)
+ *             if (burial_receive(store[1], STORE, row + at, len, NULL, 0).refusal != BURIAL_OK)
+ *                 return 1;  // in a ring of two a frame does not go on: no row for it is needed
+ *         struct burial_plot_found f = burial_lent_read_plot(store[1], STORE, &visitor, 5);
+ *         printf("plot 5: %u by %u.%u\n", f.entry.value, f.entry.office, f.entry.serial);
+ *         return f.found != 1;
+ *     }
+ *
+ * The project's examples/c is a host with files, lines and crashes; examples/rust and
+ * examples/python wrap the calls for those languages.
+ *
+ *
+ * 3 THE RULES FOR A HOST
+ *
+ * Life of an office. Once: burial_store_need (or a row of BURIAL_STORE_WORDS),
+ * burial_open_office, and keep the store. Each number of a ring is opened once, and all offices
+ * of a ring have the same ring size and plots. At each start: take the store from where it is
+ * kept, and ask burial_store_settings whether it is this office's. Then, for each call that
+ * changes anything,
+ *   call; KEEP what it changed; SEND the frames; tell the clerk.
+ *
+ * Keep before send. A call changes memory only. Before a frame goes out or a reply is told, keep
+ * store, session and the frames to send where a crash or a power cut leaves them: written beside
+ * the old ones, synced, renamed, and the folder synced. An office that sent an entry and forgot
+ * it makes another one of the same name, and the ring refuses that for ever
+ * (BURIAL_DIFFERENT). A reading changes store and session too. Keep these as well; if only they
+ * are lost the ring stays sound, but the session may be shown less than it was. A refused call
+ * has changed nothing, so there is nothing to keep.
+ *
+ * A store may be moved, copied, saved and loaded: it has no pointers. Save its words as they are,
+ * in the machine's own order, and all of them or at least its need. NEVER SET IT BACK: an office
+ * that has sent anything goes on from its latest store, not from a backup or a copy of yesterday.
+ * A store that is lost takes the office's number with it: the ring needs a new beginning.
+ *
+ * Lines. The next office of office k is k + 1, of the last one 0; frames go to the next office
+ * only. They are to be heard in the order in which the office before wrote them, and none may get
+ * lost: keep a frame until the next office has kept what hearing it changed. A frame that comes
+ * twice does no harm; hearing it again changes nothing, and gives the frame to send on once more.
+ * A line may be down for any time: nothing waits for it but what it carries.
+ *
+ * Memory. The caller owns all of it. A call reads and writes only what it is lent, keeps no
+ * pointer, allocates nothing and has no state of its own. Calls on different memory may run at
+ * the same time; never two at a time on one store, session or row. A call needs less than 16 KiB
+ * of stack.
+ *
+ * Rows. A row crosses as a pointer and a count of elements (not of bytes), and is aligned for its
+ * element. With a count of 0 the pointer may be NULL. A row that a call writes (store, out,
+ * answer) overlaps no other row of that call: a frame is not sent on from the row in which it is
+ * heard.
+ *
+ * Words. A row of uint32_t holds words as numbers, in the machine's own order. Only
+ * burial_check_frame takes bytes: each word is four bytes, lowest first, the order for a line
+ * between different machines.
+ *
+ * Refused. A call that is refused changes nothing: every lent row keeps each of its words, a lent
+ * session stays as it was, and one by value is handed back as it came. A call that is not refused
+ * writes the words that it names and leaves the rest of the row. Of several reasons, the one that
+ * the call lists first is given.
  */
 #ifndef BURIAL_REGISTER_H
 #define BURIAL_REGISTER_H
@@ -34,38 +124,114 @@
 extern "C" {
 #endif
 
-/* Bounds. */
-#define BURIAL_MIN_OFFICES 2u
-#define BURIAL_MAX_OFFICES 8u
-#define BURIAL_MAX_PLOTS   64u         /* plots are numbered from 0 */
-#define BURIAL_MAX_VALUE   0xFFFFFFFu  /* 2^28 - 1 */
-#define BURIAL_MAX_SERIAL  32u         /* serials are numbered from 1 */
-#define BURIAL_FRAME_WORDS 267u        /* the longest frame: 8 offices, 255 dependencies */
-#define BURIAL_TOKEN_WORDS 4538u       /* the longest token: 8 offices, all read, 16 own entries */
-#define BURIAL_CARRIED     16u         /* own entries that a session carries at most */
-#define BURIAL_JOINT       16u         /* plots in one joint reading at most */
+/* ---- 4 Bounds, version, refusals */
 
-/* Refusals. */
+#define BURIAL_MIN_OFFICES  2u
+#define BURIAL_MAX_OFFICES  8u
+#define BURIAL_MAX_PLOTS    64u         /* plots are numbered from 0 */
+#define BURIAL_MAX_VALUE    0xFFFFFFFu  /* 2^28 - 1 */
+#define BURIAL_MAX_SERIAL   32u         /* from 1: an office makes 32 entries, ever */
+#define BURIAL_CARRIED      16u         /* own entries that a session carries at most */
+#define BURIAL_JOINT        16u         /* plots in one joint reading at most */
+
+/* Rows that are long enough for anything. */
+#define BURIAL_STORE_WORDS  4627u       /* a store, of a ring of 8 */
+#define BURIAL_WRITE_WORDS  4272u       /* what one write sends: 16 frames */
+#define BURIAL_FRAME_WORDS  267u        /* a frame: 8 offices, 255 dependencies */
+#define BURIAL_ANSWER_WORDS 48u         /* the answer of a joint reading of 16 plots */
+#define BURIAL_TOKEN_WORDS  4538u       /* a token: 8 offices, all read, 16 own entries */
+
+/* 65536 * major + 256 * minor + patch. Another major version has other calls, or words of stores,
+ * frames or tokens that this one does not read: keep the number beside what is kept. */
+#define BURIAL_VERSION      0x010000u
+
+/* The version of the archive that is linked; a host that starts compares it with BURIAL_VERSION.
+ * */
+uint32_t burial_version(void);
+
 #define BURIAL_OK            0u
-#define BURIAL_BAD_SETTINGS  1u   /* ring size, own office or plots out of range */
-#define BURIAL_BAD_STORE     2u   /* the store is not sound, or too short to be opened */
-#define BURIAL_BAD_CONTENT   3u   /* a session that is not sound for the store, or content that no frame or token has */
-#define BURIAL_BAD_PLOT      4u   /* a plot out of range, or more than 16 plots */
-#define BURIAL_BAD_VALUE     5u   /* a value above BURIAL_MAX_VALUE */
-#define BURIAL_OFFICE_FULL   6u   /* the office has made 32 entries */
-#define BURIAL_SESSION_FULL  7u   /* the session carries 16 entries */
-#define BURIAL_NO_ROOM       8u   /* a row is too short */
-#define BURIAL_NOT_A_FRAME   9u   /* the words or bytes are no frame or token */
-#define BURIAL_UNMADE       10u   /* an entry names this office and was not made here */
-#define BURIAL_DIFFERENT    11u   /* an entry is held with other content */
-#define BURIAL_MISSING      12u   /* a read id or a dependency is not held */
-#define BURIAL_OWN_ENTRY    13u   /* an own entry stands above what a joint reading would present */
+/* The settings are out of range: a mistake in the program. */
+#define BURIAL_BAD_SETTINGS  1u
+/* The words are no sound store, or the row is too short. Load the store again as it was kept
+ * last; do not open the office anew. */
+#define BURIAL_BAD_STORE     2u
+/* The session is not sound for the store (another ring, or made by hand), or no frame or token
+ * has this content. Take sessions from burial_fresh_session and burial_read_token. */
+#define BURIAL_BAD_CONTENT   3u
+/* A plot out of range, or more than 16 plots: tell the user. */
+#define BURIAL_BAD_PLOT      4u
+/* A value above BURIAL_MAX_VALUE: tell the user. */
+#define BURIAL_BAD_VALUE     5u
+/* The office has made its 32 entries. It goes on to hear, send on and read; new entries are
+ * written at other offices. */
+#define BURIAL_OFFICE_FULL   6u
+/* The session carries 16 entries. It goes on to read; to write, begin a fresh session, which sees
+ * the entries of the old one where they are shown. */
+#define BURIAL_SESSION_FULL  7u
+/* A row is too short: call again with a longer one (the constants above). */
+#define BURIAL_NO_ROOM       8u
+/* The words are no frame or token of this ring and these plots: damaged on the way, or another
+ * ring's. Have it sent again; do not pass over it. */
+#define BURIAL_NOT_A_FRAME   9u
+/* An entry names this office and was not made here. In a ring whose stores were kept as section 3
+ * says neither this nor the next two come from frames in order and sessions of the ring: a store
+ * was set back, two offices have one number, or words were made up. Stop the line and look; the
+ * office still reads and writes. */
+#define BURIAL_UNMADE       10u
+/* An entry is held with other content. As above. */
+#define BURIAL_DIFFERENT    11u
+/* A read id or a dependency is not held. Of a frame: one before it is missing; hear that one
+ * first, and then this one again. Of a session: as above. */
+#define BURIAL_MISSING      12u
+/* A joint reading only: an own entry of the session stands above what it would present on a plot.
+ * Read these plots one by one. */
+#define BURIAL_OWN_ENTRY    13u
 
-/* A set of ids: id (office, serial) is bit serial - 1 of word office. */
+/* A refusal in words, for people. */
+static inline const char *burial_refusal_text(uint32_t refusal)
+{
+    switch (refusal) {
+    case BURIAL_OK:           return "not refused";
+    case BURIAL_BAD_SETTINGS: return "ring size, own office or plots out of range";
+    case BURIAL_BAD_STORE:    return "the store is not sound, or too short";
+    case BURIAL_BAD_CONTENT:  return "the session is not sound for this office, or no frame or token "
+                                     "has this content";
+    case BURIAL_BAD_PLOT:     return "a plot is out of range, or there are more than 16";
+    case BURIAL_BAD_VALUE:    return "the value is too great";
+    case BURIAL_OFFICE_FULL:  return "the office has made its 32 entries";
+    case BURIAL_SESSION_FULL: return "the session carries 16 entries";
+    case BURIAL_NO_ROOM:      return "a row is too short";
+    case BURIAL_NOT_A_FRAME:  return "the words are no frame or token of this ring";
+    case BURIAL_UNMADE:       return "an entry names this office and was not made here";
+    case BURIAL_DIFFERENT:    return "an entry is held with other content";
+    case BURIAL_MISSING:      return "an entry that was read or is depended on is not held";
+    case BURIAL_OWN_ENTRY:    return "an own entry stands above what would be presented";
+    default:                  return "no refusal of this library";
+    }
+}
 
-/* An entry. Its clock has a number from 0 to 32 for each office of the ring and
- * 0 for the others; the number of its own office is its serial. It depends on
- * ids of the ring only, and not on itself. */
+/* An entry's name is its id: the office that made it and its serial there. As one word, in the
+ * answer of a joint reading, it is 256 * office + serial. */
+static inline uint32_t burial_id(uint32_t office, uint32_t serial)
+{
+    return 256u * office + serial;
+}
+
+static inline uint32_t burial_id_office(uint32_t id)
+{
+    return id / 256u;
+}
+
+static inline uint32_t burial_id_serial(uint32_t id)
+{
+    return id % 256u;
+}
+
+/* A set of ids is eight words: id (office, serial) is bit serial - 1 of word office. */
+
+/* An entry. Its clock has a number from 0 to 32 for each office of the ring and 0 for the others;
+ * the number of its own office is its serial. It depends on ids of the ring only, and not on
+ * itself. */
 struct burial_entry {
     uint32_t office;
     uint32_t serial;   /* 1 to 32 */
@@ -75,10 +241,169 @@ struct burial_entry {
     uint32_t deps[8];  /* a set of ids */
 };
 
+/* ---- 5 Opening
+ *
+ * A store is a row of words that the host keeps and lends to each call. Its words are the
+ * library's: no one else writes them. Every call asks first whether the store is sound. */
+
+/* On refusal words is 0. */
+struct burial_need {
+    uint32_t refusal;
+    size_t words;
+};
+
+/* How many words the store of an office needs: 19 + 576 * offices. A longer row serves as well;
+ * its words past the need stay as they are.
+ * Refusals: BURIAL_BAD_SETTINGS (offices not 2 to 8, plots not 1 to 64, own not below offices).
+ * */
+struct burial_need burial_store_need(uint32_t offices, uint32_t own, uint32_t plots);
+
+/* Makes the row the store of an office that holds nothing: once in the life of an office.
+ * Store: its first 19 words are written.
+ * Refusals: BURIAL_BAD_SETTINGS as above, BURIAL_BAD_STORE (too short). */
+uint32_t burial_open_office(uint32_t offices, uint32_t own, uint32_t plots,
+                            uint32_t *store, size_t store_len);
+
+/* On refusal all are 0. */
+struct burial_settings {
+    uint32_t refusal;
+    uint32_t offices;
+    uint32_t own;
+    uint32_t plots;
+};
+
+/* What a store was opened with: ask it of a store that comes from a file. Store: nothing is
+ * written.
+ * Refusals: BURIAL_BAD_STORE. */
+struct burial_settings burial_store_settings(const uint32_t *store, size_t store_len);
+
+/* ---- 6 Sessions, and writing */
+
+/* A session: what one person has read and written, carried from office to office. own[0] to
+ * own[count - 1] are its entries in writing order; the others mean nothing, and a call leaves
+ * them as they are. Take it from burial_fresh_session or burial_read_token, so that no word of it
+ * is uninitialised. It may be copied: each copy goes on with its own history. It has padding
+ * before count: compare sessions field by field, never by memcmp. */
+struct burial_session {
+    uint32_t offices;  /* ring size */
+    uint32_t clock[8];
+    uint32_t read[8];  /* a set of ids */
+    size_t count;      /* at most BURIAL_CARRIED */
+    struct burial_entry own[16];
+};
+
+/* On refusal the session is all zeros, which every office refuses. */
+struct burial_token_read {
+    uint32_t refusal;
+    struct burial_session session;
+};
+
+/* A session with nothing read and nothing written.
+ * Refusals: BURIAL_BAD_SETTINGS (offices not 2 to 8). */
+struct burial_token_read burial_fresh_session(uint32_t offices);
+
+/* On refusal words is 0. */
+struct burial_written {
+    uint32_t refusal;
+    size_t words;      /* how many words were written */
+};
+
+/* Writes a value to a plot: makes an entry that depends on all that the session has read and
+ * written.
+ * Store: holds the session's own entries that are new here, and the new entry, all hidden.
+ * Session: carries the new entry too, as own[count - 1]; its clock covers it.
+ * Out: the frames to send to the next office, in this order, one right after the other, for the
+ * entries new here and then the new one; cut them apart by burial_frame_length. A row of
+ * BURIAL_WRITE_WORDS always has room.
+ * Refusals: BURIAL_BAD_STORE, BURIAL_BAD_CONTENT (the session), BURIAL_BAD_PLOT,
+ * BURIAL_BAD_VALUE, BURIAL_SESSION_FULL, BURIAL_OFFICE_FULL, BURIAL_MISSING; for each own entry
+ * in order BURIAL_UNMADE, BURIAL_DIFFERENT; BURIAL_NO_ROOM. */
+struct burial_written burial_lent_write(uint32_t *store, size_t store_len,
+                                        struct burial_session *session, uint32_t plot,
+                                        uint32_t value, uint32_t *out, size_t out_len);
+
+/* How many words the frame has that begins a row of so many words, in a ring of so many offices;
+ * 0 where the row is empty, or ends before the frame does. It looks at no more than the frame's
+ * head, so cut by it only what a write of this ring wrote. */
+static inline size_t burial_frame_length(const uint32_t *row, size_t words, uint32_t offices)
+{
+    size_t length = 4;
+    if (words == 0)
+        return 0;
+    length += offices;
+    length += row[0] % 256u;
+    return length <= words ? length : 0;
+}
+
+/* ---- 7 Hearing */
+
+/* Hears a frame that came from the office before. The frame takes the whole row.
+ * Store: holds the entry, hidden, if it is new; at the last office it is shown, with all that it
+ * depends on.
+ * Out: the frame to send to the next office; at the last office nothing, and words is 0. A row of
+ * frame_len words, or of BURIAL_FRAME_WORDS, always has room.
+ * Refusals: BURIAL_BAD_STORE, BURIAL_NOT_A_FRAME, BURIAL_UNMADE, BURIAL_DIFFERENT,
+ * BURIAL_MISSING, BURIAL_NO_ROOM (only where the frame goes on). A refused frame has not been
+ * heard. */
+struct burial_written burial_receive(uint32_t *store, size_t store_len,
+                                     const uint32_t *frame, size_t frame_len,
+                                     uint32_t *out, size_t out_len);
+
+/* ---- 8 Reading
+ *
+ * A reading first shows, in the store, all that the session has read, with what that depends on.
+ * Then it adds the shown entry of each plot to what the session has read, and joins that entry's
+ * clock into the session's. So store and session can both change. */
+
+/* found is 1 with the entry that is handed back; or 0 with an entry of zeros, where the plot has
+ * none. On refusal found and entry are zeros. */
+struct burial_plot_found {
+    uint32_t refusal;
+    uint32_t found;
+    struct burial_entry entry;
+};
+
+/* Reads one plot: hands back the higher-ranked of the shown entry and the session's own entries
+ * on the plot; where an own entry has the same office and clock as the shown one, the shown one.
+ * Refusals: BURIAL_BAD_STORE, BURIAL_BAD_CONTENT (the session), BURIAL_BAD_PLOT, BURIAL_MISSING.
+ * */
+struct burial_plot_found burial_lent_read_plot(uint32_t *store, size_t store_len,
+                                               struct burial_session *session, uint32_t plot);
+
+/* Reads up to 16 plots at one moment, the same plot more than once if asked.
+ * Answer: for each plot, in order, three words: 1, value, id (burial_id_office,
+ * burial_id_serial); or 0, 0, 0 where it has no entry.
+ * Refusals: BURIAL_BAD_STORE, BURIAL_BAD_CONTENT, BURIAL_BAD_PLOT, BURIAL_NO_ROOM (answer_len
+ * under three words a plot), BURIAL_MISSING, BURIAL_OWN_ENTRY. */
+uint32_t burial_lent_read_joint(uint32_t *store, size_t store_len, struct burial_session *session,
+                                const uint32_t *plots, size_t plots_len,
+                                uint32_t *answer, size_t answer_len);
+
+/* ---- 9 Tokens
+ *
+ * A token is a session in words: what a person takes from one office to another, or what a host
+ * keeps of a session. One changed word makes it refused; it is no secret and no signature. */
+
+/* Writes a session as a token. Out: its words, from the start. A row of BURIAL_TOKEN_WORDS always
+ * has room.
+ * Refusals: BURIAL_BAD_CONTENT (not sound for its ring size with 64 plots), BURIAL_NO_ROOM. */
+struct burial_written burial_write_token(struct burial_session session,
+                                         uint32_t *out, size_t out_len);
+
+/* Reads the session of a token that takes the whole row.
+ * Refusals: BURIAL_BAD_SETTINGS (offices not 2 to 8, plots not 1 to 64), BURIAL_NOT_A_FRAME. */
+struct burial_token_read burial_read_token(const uint32_t *words, size_t words_len,
+                                           uint32_t offices, uint32_t plots);
+
+/* ---- 10 Frames
+ *
+ * A host that only passes frames on needs none of these; to check kept frames at a start, say,
+ * they read and write them apart from any office. */
+
 /* An entry on its way round the ring. */
 struct burial_frame {
     uint32_t offices;  /* ring size, 2 to 8 */
-    uint32_t hops;     /* at most offices - 2 */
+    uint32_t hops;     /* offices still to hear it after its receiver, at most offices - 2 */
     struct burial_entry entry;
 };
 
@@ -88,43 +413,30 @@ struct burial_frame_read {
     struct burial_frame frame;
 };
 
-/* On refusal words is 0. */
-struct burial_written {
-    uint32_t refusal;
-    size_t words;      /* how many words were written */
-};
-
-/* Says whether the bytes are a frame for this ring size and these plots.
- * BURIAL_BAD_SETTINGS: ring size not 2 to 8 or plots not 1 to 64.
- * BURIAL_NOT_A_FRAME: they are not, or bytes_len is not divisible by 4. */
-uint32_t burial_check_frame(const uint8_t *bytes, size_t bytes_len,
-                            uint32_t offices, uint32_t plots);
-
 /* Reads a frame that takes the whole row.
- * BURIAL_BAD_SETTINGS and BURIAL_NOT_A_FRAME as above. */
+ * Refusals: BURIAL_BAD_SETTINGS (offices not 2 to 8, plots not 1 to 64), BURIAL_NOT_A_FRAME. */
 struct burial_frame_read burial_read_frame(const uint32_t *words, size_t words_len,
                                            uint32_t offices, uint32_t plots);
 
-/* Writes a frame to the start of out. What it wrote reads back under the
- * frame's ring size and any plots that cover its plot.
- * BURIAL_BAD_CONTENT: no frame of this ring size with 64 plots has this content.
- * BURIAL_NO_ROOM: out_len is less than the frame's words. */
+/* Writes a frame. Out: its words, from the start; they read back under the frame's ring size and
+ * any plots that cover its plot.
+ * Refusals: BURIAL_BAD_CONTENT (no frame of this ring size with 64 plots has this content),
+ * BURIAL_NO_ROOM. */
 struct burial_written burial_write_frame(struct burial_frame frame,
                                          uint32_t *out, size_t out_len);
 
-/* A session: what a client has read and written, carried from office to office.
- * own[0] to own[count - 1] are its entries in writing order; the rest means
- * nothing and stays as it is. */
-struct burial_session {
-    uint32_t offices;  /* ring size */
-    uint32_t clock[8];
-    uint32_t read[8];  /* a set of ids */
-    size_t count;      /* at most BURIAL_CARRIED */
-    struct burial_entry own[16];
-};
+/* Says whether bytes are a frame, without reading it.
+ * Refusals: BURIAL_BAD_SETTINGS as above, BURIAL_NOT_A_FRAME (also where bytes_len is not
+ * divisible by 4). */
+uint32_t burial_check_frame(const uint8_t *bytes, size_t bytes_len,
+                            uint32_t offices, uint32_t plots);
 
-/* found is 1 with the entry that is handed back, or 0 with an entry of zeros; on refusal both
- * are zeros. */
+/* ---- 11 The calls with the session by value
+ *
+ * The same three calls for hosts that would rather not lend a session: it is given, and handed
+ * back as the call leaves it; as it came on refusal. They copy 1,360 bytes there and back, so the
+ * calls above are faster. Refusals, store and rows as there. */
+
 struct burial_read {
     uint32_t refusal;
     uint32_t found;
@@ -144,100 +456,27 @@ struct burial_wrote {
     struct burial_session session;
 };
 
-/* On refusal words is 0. */
-struct burial_need {
-    uint32_t refusal;
-    size_t words;
-};
-
-/* A store is a row of words that the caller keeps and lends to each call. Its
- * words are the library's: no one else writes them.
- *
- * How many words the store of an office needs.
- * BURIAL_BAD_SETTINGS: settings out of range, or own not below offices. */
-struct burial_need burial_store_need(uint32_t offices, uint32_t own, uint32_t plots);
-
-/* Reads one plot. Shows all that the session has read, with its dependencies.
- * BURIAL_BAD_STORE, BURIAL_BAD_CONTENT (the session), BURIAL_BAD_PLOT, BURIAL_MISSING. */
 struct burial_read burial_read_plot(uint32_t *store, size_t store_len,
                                     struct burial_session session, uint32_t plot);
 
-/* Reads up to 16 plots at once: for each, three words of answer: 1, value,
- * id as a number (256 * office + serial); or 0, 0, 0.
- * BURIAL_BAD_STORE, BURIAL_BAD_CONTENT, BURIAL_BAD_PLOT, BURIAL_NO_ROOM, BURIAL_MISSING,
- * BURIAL_OWN_ENTRY. */
 struct burial_joint burial_read_joint(uint32_t *store, size_t store_len,
                                       struct burial_session session,
                                       const uint32_t *plots, size_t plots_len,
                                       uint32_t *answer, size_t answer_len);
 
-/* Writes a value to a plot. Out gets the frames to send to the next office, one right after
- * the other: carried entries that are new here, then the new entry.
- * BURIAL_BAD_STORE, BURIAL_BAD_CONTENT, BURIAL_BAD_PLOT, BURIAL_BAD_VALUE, BURIAL_SESSION_FULL,
- * BURIAL_OFFICE_FULL, BURIAL_MISSING; for each own entry in order BURIAL_UNMADE, BURIAL_DIFFERENT;
- * BURIAL_NO_ROOM. */
 struct burial_wrote burial_write(uint32_t *store, size_t store_len,
                                  struct burial_session session, uint32_t plot, uint32_t value,
                                  uint32_t *out, size_t out_len);
 
-/* The same three calls with the session lent: it holds its new state afterwards, and stays as
- * it was on refusal. The session overlaps no row of the call. Use these where speed counts:
- * 1,360 bytes less are copied back. */
-struct burial_plot_found {
-    uint32_t refusal;
-    uint32_t found; /* 1, or 0 where the plot has no entry */
-    struct burial_entry entry;
-};
-
-struct burial_plot_found burial_lent_read_plot(uint32_t *store, size_t store_len,
-                                               struct burial_session *session, uint32_t plot);
-
-uint32_t burial_lent_read_joint(uint32_t *store, size_t store_len, struct burial_session *session,
-                                const uint32_t *plots, size_t plots_len,
-                                uint32_t *answer, size_t answer_len);
-
-struct burial_written burial_lent_write(uint32_t *store, size_t store_len,
-                                        struct burial_session *session, uint32_t plot,
-                                        uint32_t value, uint32_t *out, size_t out_len);
-
-/* Hears a frame. Words is 0 at the last office; otherwise out gets the frame to send on.
- * BURIAL_BAD_STORE, BURIAL_NOT_A_FRAME, BURIAL_UNMADE, BURIAL_DIFFERENT, BURIAL_MISSING,
- * BURIAL_NO_ROOM (only where the frame goes on). A refused frame has not been heard. */
-struct burial_written burial_receive(uint32_t *store, size_t store_len,
-                                     const uint32_t *frame, size_t frame_len,
-                                     uint32_t *out, size_t out_len);
-
-/* On refusal a session of all zeros. */
-struct burial_token_read {
-    uint32_t refusal;
-    struct burial_session session;
-};
-
-/* Makes the store of an office that holds nothing. Writes the first 19 words only.
- * BURIAL_BAD_SETTINGS, BURIAL_BAD_STORE (too short). */
-uint32_t burial_open_office(uint32_t offices, uint32_t own, uint32_t plots,
-                            uint32_t *store, size_t store_len);
-
-/* A session with nothing read and nothing written.
- * BURIAL_BAD_SETTINGS: ring size not 2 to 8. */
-struct burial_token_read burial_fresh_session(uint32_t offices);
-
-/* Reads a session from a token (a slip) that takes the whole row.
- * BURIAL_BAD_SETTINGS, BURIAL_NOT_A_FRAME. */
-struct burial_token_read burial_read_token(const uint32_t *words, size_t words_len,
-                                           uint32_t offices, uint32_t plots);
-
-/* Writes a session as a token to the start of out.
- * BURIAL_BAD_CONTENT: not sound for its ring size with 64 plots. BURIAL_NO_ROOM. */
-struct burial_written burial_write_token(struct burial_session session,
-                                         uint32_t *out, size_t out_len);
-
-/* The layout to which the library is built (x86-64): the length of each struct and the place of each of its
- * fields, in bytes. */
+/* ---- 12 Layout
+ *
+ * The archive is for x86-64 Linux, by the System V convention. Here the compiler says whether it
+ * lays out the structs as the archive does: the length of each, and the place of each of its
+ * fields. */
 #if defined(__cplusplus) && __cplusplus >= 201103L
-#define BURIAL_LAYOUT(holds) static_assert(holds, "a struct of the library has another layout here")
+#define BURIAL_LAYOUT(holds) static_assert(holds, "a struct has another layout here")
 #elif defined(__STDC_VERSION__) && __STDC_VERSION__ >= 201112L
-#define BURIAL_LAYOUT(holds) _Static_assert(holds, "a struct of the library has another layout here")
+#define BURIAL_LAYOUT(holds) _Static_assert(holds, "a struct has another layout here")
 #else
 #define BURIAL_LAYOUT(holds) extern char burial_layout[(holds) ? 1 : -1]
 #endif
@@ -290,6 +529,12 @@ BURIAL_SIZE(burial_wrote, 1376);
 BURIAL_AT(burial_need, refusal, 0);
 BURIAL_AT(burial_need, words, 8);
 BURIAL_SIZE(burial_need, 16);
+
+BURIAL_AT(burial_settings, refusal, 0);
+BURIAL_AT(burial_settings, offices, 4);
+BURIAL_AT(burial_settings, own, 8);
+BURIAL_AT(burial_settings, plots, 12);
+BURIAL_SIZE(burial_settings, 16);
 
 BURIAL_AT(burial_plot_found, refusal, 0);
 BURIAL_AT(burial_plot_found, found, 4);

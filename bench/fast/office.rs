@@ -16,6 +16,12 @@ pub fn store_need(offices: u32, own: u32, plots: u32) -> Result<usize, u32> {
     Ok(store::need(offices))
 }
 
+/// Ring size, own number and plots. It changes nothing; what asks whether a store is sound takes it so.
+pub fn store_settings(words: &mut [u32]) -> Result<[u32; 3], u32> {
+    let store = sound(words).ok_or(refusal::STORE)?;
+    Ok([store.offices, store.own, store.plots])
+}
+
 pub fn open_office(offices: u32, own: u32, plots: u32, words: &mut [u32]) -> Result<(), u32> {
     refuse_if(words.len() < store_need(offices, own, plots)?, refusal::STORE)?;
     store::open(words, offices, own, plots);

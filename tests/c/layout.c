@@ -141,6 +141,19 @@ static void heard(uint32_t store[STORE])
     expect_written(burial_receive(store, STORE, later_words[2], LATER, row, ROW), BURIAL_OK, 0);
 }
 
+static void test_settings(void)
+{
+    uint32_t store[STORE];
+    heard(store);
+    struct burial_settings settings = burial_store_settings(store, STORE);
+    expect(settings.refusal == BURIAL_OK && settings.offices == OFFICES);
+    expect(settings.own == OWN && settings.plots == PLOTS);
+    settings = burial_store_settings(store, STORE - 1);
+    expect(settings.refusal == BURIAL_BAD_STORE && settings.offices == 0);
+    expect(settings.own == 0 && settings.plots == 0);
+    end("the settings of a store");
+}
+
 /* What a reading of `later`, a joint one of both and then a write leave of a fresh session. */
 static const struct burial_session after_reading = {
     .offices = OFFICES, .clock = { 4, 7, 5, 8 }, .read = { 0, 0, 0x10 },
@@ -221,6 +234,7 @@ int main(void)
     setvbuf(stdout, NULL, _IOLBF, 0);
     test_frame();
     test_session();
+    test_settings();
     test_by_value();
     test_lent();
     return finish("layout");

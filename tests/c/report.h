@@ -34,7 +34,7 @@ static int finish(const char *program)
 }
 
 /* A copy of exactly this length, so that a memory checker sees a step beyond it. */
-static void *exact(const void *from, size_t bytes)
+static inline void *exact(const void *from, size_t bytes)
 {
     void *copy = malloc(bytes ? bytes : 1);
     if (copy == NULL)

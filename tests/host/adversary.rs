@@ -45,10 +45,11 @@ pub const CALLS: &[&str] = &[
     "lent_read_plot",
     "lent_read_joint",
     "lent_write",
+    "store_settings",
 ];
 
 /// The replies that each call may give; a run that misses one has not tested it.
-const REPLIES: [&[u32]; 15] = [
+const REPLIES: [&[u32]; 16] = [
     &[0, 1, 9],
     &[0, 1, 9],
     &[0, 3, 8],
@@ -64,6 +65,7 @@ const REPLIES: [&[u32]; 15] = [
     &[0, 2, 3, 4, 12],
     &[0, 2, 3, 4, 8, 12, 13],
     &[0, 2, 3, 4, 5, 6, 7, 8, 10, 11, 12],
+    &[0, 2],
 ];
 
 struct Test {
@@ -142,6 +144,14 @@ impl Test {
             (self.adversary.offices(), self.adversary.number(8), self.adversary.plots());
         let (refusal, words) = office::store_need(offices, own, plots);
         Done { refusal, kept: (refusal == 0) == (words > 0) && words <= 8_192 }
+    }
+
+    fn store_settings(&mut self) -> Done {
+        let words = self.adversary.store();
+        let lent = self.store.words(&words, self.side);
+        let (refusal, settings) = office::store_settings(lent);
+        let said = if refusal == 0 { settings[..] == words[..3] } else { settings == [0; 3] };
+        Done { refusal, kept: said && *lent == words }
     }
 
     fn open_office(&mut self) -> Done {
@@ -234,7 +244,8 @@ impl Test {
             11 => self.write_token(),
             12 => self.read_plot(lent::read_plot),
             13 => self.read_joint(lent::read_joint),
-            _ => self.write(lent::write),
+            14 => self.write(lent::write),
+            _ => self.store_settings(),
         }
     }
 
@@ -242,6 +253,7 @@ impl Test {
     fn step(&mut self) {
         let call = self.adversary.random.pick(&[
             0, 1, 2, 3, 4, 5, 6, 6, 7, 7, 8, 8, 9, 9, 9, 10, 10, 11, 12, 12, 12, 13, 13, 13, 14, 14, 14, 14,
+            15,
         ]);
         let done = self.call(call);
         let known = REPLIES[call].contains(&done.refusal);

@@ -59,6 +59,7 @@ const RECEIVE: &[&str] = &[
 /// Each way in which a call can end; a run that misses one has not tested it.
 const OUTCOMES: &[(&str, &[&str])] = &[
     ("store_need", &["accepted", "refused 1"]),
+    ("store_settings", &["accepted", "refused 2"]),
     ("read_plot", PLOT),
     ("read_plot, lent", PLOT),
     ("read_joint", JOINT),

@@ -77,6 +77,7 @@ fn some_frame(random: &mut Random, content: &Content) -> Vec<u32> {
     words
 }
 
+/// One call of the four; whatever it leaves is asked for its settings.
 fn one_call(twin: &mut Twin, content: &Content, store: &mut [u32], session: &mut Session) {
     let plot = some_plot(&mut twin.random, content.plots);
     match twin.random.below(4) {
@@ -94,6 +95,7 @@ fn one_call(twin: &mut Twin, content: &Content, store: &mut [u32], session: &mut
             twin.receive(store, &frame);
         }
     }
+    twin.store_settings(store);
 }
 
 /// Cuts below the need, where a store is too short.

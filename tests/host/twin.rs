@@ -121,6 +121,15 @@ impl Twin {
         self.report.same(&name, &archive, &reply(&result, |&words| words));
     }
 
+    pub fn store_settings(&mut self, store: &[u32]) {
+        let lent = store.to_vec();
+        let archive = (archive::store_settings(&lent), lent == store);
+        let result = model::store_settings(store);
+        let name = format!("store_settings: {}", outcome(&result, |_| "accepted"));
+        let said = result.map_or_else(|refusal| (refusal, [0; 3]), |settings| (0, settings));
+        self.report.same(&name, &archive, &(said, true));
+    }
+
     pub fn read_plot(&mut self, store: &mut [u32], session: &mut Session, plot: u32) {
         let archive = on_copies(PLOT_READS, (store, session, &[]), |call, store, session, _| {
             call(store, session, plot)

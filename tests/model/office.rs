@@ -28,6 +28,13 @@ pub fn store_need(offices: u32, own: u32, plots: u32) -> Result<usize, u32> {
     Ok(need(offices))
 }
 
+/// Ring size, own number and plots of a sound store: what it was opened with. The words are read only.
+pub fn store_settings(words: &[u32]) -> Result<[u32; 3], u32> {
+    let mut copy = words.to_vec();
+    let store = sound_store(&mut copy)?;
+    Ok([store.offices(), store.own(), store.plots()])
+}
+
 pub fn open_office(offices: u32, own: u32, plots: u32, words: &mut [u32]) -> Result<(), u32> {
     check_settings(offices, own, plots)?;
     refuse_if(words.len() < need(offices), refusal::STORE)?;

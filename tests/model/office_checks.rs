@@ -3,7 +3,7 @@
 use super::checks::{Check, FRAME_A, FRAME_B};
 use super::codec::{write_frame, Frame};
 use super::entry::Entry;
-use super::office::{open_office, read_joint, read_plot, receive, store_need, write};
+use super::office::{open_office, read_joint, read_plot, receive, store_need, store_settings, write};
 use super::session::{fresh_session, Session};
 use super::store::Store;
 
@@ -37,6 +37,18 @@ fn settings() -> bool {
         && open_office(4, 0, 64, &mut store) == Err(2)
         && fresh_session(9) == Err(1)
         && fresh_session(1) == Err(1)
+}
+
+/// A store keeps the settings with which it was opened; one that is not sound has none.
+fn settings_of_a_store() -> bool {
+    let (mut store, mut session) = (opened(3, 2), fresh(3));
+    let at_first = store_settings(&store) == Ok([3, 2, 64]);
+    write(&mut store, &mut session, 5, 709, &mut [0; 7]).unwrap();
+    let after = store_settings(&store) == Ok([3, 2, 64]);
+    let short = store_settings(&store[..store.len() - 1]) == Err(2) && store_settings(&[]) == Err(2);
+    // A visible entry that is not held.
+    store[11] = 1;
+    at_first && after && short && store_settings(&store) == Err(2)
 }
 
 fn sends_a_then_b() -> bool {
@@ -257,6 +269,7 @@ fn tie_hands_back_the_presented() -> bool {
 pub fn office_checks() -> Vec<Check> {
     vec![
         ("model: settings", settings()),
+        ("model: settings of a store", settings_of_a_store()),
         ("model: a write sends A, the next A and B", sends_a_then_b()),
         ("model: shown at the last office only", shows_at_the_last_office_only()),
         ("model: 32 made, 33rd refused 6", office_makes_32()),

@@ -14,12 +14,14 @@ use Rattle.frame.specs.Promises.{ReadFramePromise, ReadTokenPromise, WriteFrame
 use Rattle.frame.specs.declared.entry.Frame.{Frame}
 use Rattle.frame.specs.declared.session.Session.{Session}
 use Rattle.frame.proofs.Contract.{Four, Lent, One, Row, Three, Two}
-use Rattle.office.specs.Promises.{FreshPromise, JointPromise, NeedPromise, OpenPromise, ReadPromise, ReceivePromise, WritePromise}
+use Rattle.office.specs.Promises.{FreshPromise, JointPromise, NeedPromise, OpenPromise, ReadPromise, ReceivePromise, SettingsPromise, WritePromise}
 use Rattle.host.specs.Bytes.{CheckPromise}
 use Rattle.host.specs.Flags.{isSet}
+use Rattle.host.specs.Version.{VersionPromise}
 use Rattle.host.specs.declared.answer.FrameAnswer.{FrameAnswer}
 use Rattle.host.specs.declared.answer.PlotAnswer.{PlotAnswer}
 use Rattle.host.specs.declared.answer.SessionAnswer.{SessionAnswer}
+use Rattle.host.specs.declared.answer.SettingsAnswer.{SettingsAnswer}
 use Rattle.host.specs.declared.answer.WordsAnswer.{WordsAnswer}
 use Rattle.host.specs.declared.answer.WroteAnswer.{WroteAnswer}
 use Rattle.host.specs.declared.lent.PlotFound.{PlotFound}
@@ -35,9 +37,11 @@ use Rattle.host.proofs.offices.burial_read_joint as joint
 use Rattle.host.proofs.offices.burial_read_plot as read
 use Rattle.host.proofs.offices.burial_receive as receive
 use Rattle.host.proofs.offices.burial_store_need as need
+use Rattle.host.proofs.offices.burial_store_settings as settings
 use Rattle.host.proofs.offices.burial_write as write
 use Rattle.host.proofs.tokens.burial_read_token as read-token
 use Rattle.host.proofs.tokens.burial_write_token as write-token
+use Rattle.host.proofs.version.burial_version as version
 
 module _ {M : Type 1} (𝓤 : URA M) (H : Heap 𝓤) (A : Atoms 𝓤) (mem : Memory → SProp 𝓤) (run : Routine → Fun 𝓤) where
   pub record HostContracts : Type 2 where
@@ -81,6 +85,14 @@ module _ {M : Type 1} (𝓤 : URA M) (H : Heap 𝓤) (A : Atoms 𝓤) (mem : Mem
         → fresh.clauses 𝓤 H A mem run tt (n, tt) .ensures tt r (n, tt)
         ≡ fact 𝓤 (FreshPromise n (r .refusal) (r .session))
     pub fresh-asks : (n : ℕ) → fresh.clauses 𝓤 H A mem run tt (n, tt) .requires tt ≡ emp 𝓤
+    pub settings-met : settings.Statement.statement M
+    pub settings-is : (κs : One) (ws : Row) (r : SettingsAnswer) (ws′ : Row)
+        → settings.clauses 𝓤 H A mem run κs (ws, tt) .ensures tt r (ws′, tt)
+        ≡ fact 𝓤 (SettingsPromise (now ws) (r .refusal) (r .offices) (r .own) (r .plots))
+    pub settings-asks : (κs : One) (ws : Row) → settings.clauses 𝓤 H A mem run κs (ws, tt) .requires tt ≡ emp 𝓤
+    pub version-met : version.Statement.statement M
+    pub version-is : (r : ℕ) → version.clauses 𝓤 H A mem run tt tt .ensures tt r tt ≡ fact 𝓤 (VersionPromise r)
+    pub version-asks : version.clauses 𝓤 H A mem run tt tt .requires tt ≡ emp 𝓤
     pub read-met : read.Statement.statement M
     pub read-is : (κs : One) (ws : Row) (s : Session) (plot : ℕ) (r : PlotAnswer) (ws′ : Row)
         → read.clauses 𝓤 H A mem run κs (ws, (s, (plot, tt))) .ensures tt r (ws′, (s, (plot, tt)))
@@ -144,6 +156,12 @@ module _ {M : Type 1} (𝓤 : URA M) (H : Heap 𝓤) (A : Atoms 𝓤) (mem : Mem
         fresh-met = fresh.Met.met;
         fresh-is = λ n r. refl;
         fresh-asks = λ n. refl;
+        settings-met = settings.Met.met;
+        settings-is = λ κs ws r ws′. refl;
+        settings-asks = λ κs ws. refl;
+        version-met = version.Met.met;
+        version-is = λ r. refl;
+        version-asks = refl;
         read-met = read.Met.met;
         read-is = λ κs ws s plot r ws′. refl;
         read-asks = λ κs ws s plot. refl;

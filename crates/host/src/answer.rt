@@ -35,6 +35,14 @@ pub struct SessionAnswer {
     pub session: frame::session::Session,
 }
 
+#[repr(C)]
+pub struct SettingsAnswer {
+    pub refusal: u32,
+    pub offices: u32,
+    pub own: u32,
+    pub plots: u32,
+}
+
 // What a call that writes words answers.
 pub fn words_answer(written: frame::refusal::Written) -> WordsAnswer
     ensures { λ r. ⌜ record { code = r .refusal; words = r .words } ≡ replyOf written ⌝ }

@@ -4,3 +4,4 @@ pub mod frames;
 pub mod lent;
 pub mod offices;
 pub mod tokens;
+pub mod version;

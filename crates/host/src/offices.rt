@@ -1,10 +1,11 @@
 // The calls of an office for a host. Sessions go in and come back by value.
 ghost use mathlib.Core.Path.{_≡_};
 ghost use Prim.Native.Nat.{_≤_};
-ghost use Rattle.office.specs.Promises.{FreshPromise, JointPromise, NeedPromise, OpenPromise, ReadPromise, ReceivePromise, WritePromise};
+ghost use Rattle.office.specs.Promises.{FreshPromise, JointPromise, NeedPromise, OpenPromise, ReadPromise, ReceivePromise, SettingsPromise, WritePromise};
 ghost use Rattle.host.specs.Flags.{flagOf, isSet};
 use crate::answer::PlotAnswer;
 use crate::answer::SessionAnswer;
+use crate::answer::SettingsAnswer;
 use crate::answer::WordsAnswer;
 use crate::answer::WroteAnswer;
 use frame::session::Session;
@@ -25,6 +26,22 @@ pub extern "C" fn burial_open_office(offices: u32, own: u32, plots: u32, store: 
 {
     let status = office::open::open_office(offices, own, plots, store);
     frame::refusal::code_of(status)
+}
+
+// What a store was opened with.
+#[no_mangle]
+pub extern "C" fn burial_store_settings(store: &[u32]) -> SettingsAnswer
+    ensures { λ r. ⌜ SettingsPromise (now (store .entry)) (r .refusal) (r .offices) (r .own) (r .plots) ⌝ }
+{
+    let settings = office::settings::store_settings(store);
+    let status = settings.status;
+    let refusal = frame::refusal::code_of(status);
+    SettingsAnswer {
+        refusal,
+        offices: settings.offices,
+        own: settings.own,
+        plots: settings.plots,
+    }
 }
 
 // 01: a fresh errand.

@@ -14,11 +14,13 @@ use Rattle.frame.specs.Refusals.{codeOf, replyOf}
 use Rattle.frame.specs.declared.refusal.Status.{Status}
 use Rattle.frame.specs.declared.refusal.Written.{Written}
 use Rattle.frame.proofs.Contract.{One, Row}
-use Rattle.office.specs.Promises.{FreshPromise, NeedPromise, OpenPromise}
+use Rattle.office.specs.Promises.{FreshPromise, NeedPromise, OpenPromise, SettingsPromise}
 use Rattle.office.specs.declared.open.Fresh.{Fresh}
+use Rattle.office.specs.declared.settings.Settings.{Settings}
 use Rattle.office.proofs.need.store_need as store-need
 use Rattle.office.proofs.open.fresh_session as fresh-session
 use Rattle.office.proofs.open.open_office as open-office
+use Rattle.office.proofs.settings.store_settings as store-settings
 
 module _ {M : Type 1} (𝓤 : URA M) (H : Heap 𝓤) (A : Atoms 𝓤) (mem : Memory → SProp 𝓤) (run : Routine → Fun 𝓤) where
   pub record OfficeContracts : Type 2 where
@@ -37,6 +39,11 @@ module _ {M : Type 1} (𝓤 : URA M) (H : Heap 𝓤) (A : Atoms 𝓤) (mem : Mem
         → fresh-session.clauses 𝓤 H A mem run tt (n, tt) .ensures tt r (n, tt)
         ≡ fact 𝓤 (FreshPromise n (codeOf (r .status)) (r .session))
     pub fresh-asks : (n : ℕ) → fresh-session.clauses 𝓤 H A mem run tt (n, tt) .requires tt ≡ emp 𝓤
+    pub settings-met : store-settings.Statement.statement M
+    pub settings-is : (κs : One) (ws : Row) (r : Settings) (ws′ : Row)
+        → store-settings.clauses 𝓤 H A mem run κs (ws, tt) .ensures tt r (ws′, tt)
+        ≡ fact 𝓤 (SettingsPromise (now ws) (codeOf (r .status)) (r .offices) (r .own) (r .plots))
+    pub settings-asks : (κs : One) (ws : Row) → store-settings.clauses 𝓤 H A mem run κs (ws, tt) .requires tt ≡ emp 𝓤
 
   pub office-contracts : OfficeContracts
   office-contracts =
@@ -50,4 +57,7 @@ module _ {M : Type 1} (𝓤 : URA M) (H : Heap 𝓤) (A : Atoms 𝓤) (mem : Mem
         fresh-met = fresh-session.Met.met;
         fresh-is = λ n r. refl;
         fresh-asks = λ n. refl;
+        settings-met = store-settings.Met.met;
+        settings-is = λ κs ws r ws′. refl;
+        settings-asks = λ κs ws. refl;
       }

@@ -252,6 +252,18 @@ storeNeed n o p = cond (settingsOk n o p) (0, need n) (1, 0)
 unfoldable pub openOffice : ℕ → ℕ → ℕ → List ℕ → ℕ × List ℕ
 openOffice n o p ws = cond (settingsOk n o p) (cond (leb (need n) (length ws)) (0, storeWords ws (emptyOffice n o p)) (2, ws)) (1, ws)
 
+-- what a store was opened with, for a host that finds it in a file (no call of paper 01; DECISIONS 28). "2: store unsound"
+pub record StoreSettings : Type 0 where
+  pub code : ℕ
+  pub offices : ℕ
+  pub own : ℕ
+  pub plots : ℕ
+
+unfoldable pub storeSettings : List ℕ → StoreSettings
+storeSettings ws =
+    cond (soundStore ws) (record { code = 0; offices = officeOf ws .offices; own = officeOf ws .own; plots = officeOf ws .plots })
+    (record { code = 2; offices = 0; own = 0; plots = 0 })
+
 -- "A fresh errand needs a ring size of 2 to 8, else 1"
 unfoldable pub freshCode : ℕ → ℕ
 freshCode n = check (both (leb 2 n) (leb n 8)) 1 0

@@ -12,13 +12,17 @@ use Rattle.frame.specs.declared.refusal.Written.{Written}
 use Rattle.frame.specs.declared.session.Session.{Session}
 use Rattle.store.specs.Offices.{officeOf}
 use Rattle.office.specs.Answers.{anyFound, entryFound, freshBy, madeBy, readJointSession, readPlotSession, withMade, writeSession}
-use Rattle.office.specs.Calls.{freshCode, newEntry, openOffice, readJoint, readPlot, receive, storeNeed, write}
+use Rattle.office.specs.Calls.{freshCode, newEntry, openOffice, readJoint, readPlot, receive, storeNeed, storeSettings, write}
 
 abbrev pub NeedPromise : ℕ → ℕ → ℕ → Reply → Type 0
 NeedPromise n o p reply = reply ≡ record { code = storeNeed n o p .0; words = storeNeed n o p .1 }
 
 abbrev pub OpenPromise : ℕ → ℕ → ℕ → List ℕ → ℕ → List ℕ → Type 0
 OpenPromise n o p ws code ws′ = (code ≡ openOffice n o p ws .0) × (ws′ ≡ openOffice n o p ws .1)
+
+abbrev pub SettingsPromise : List ℕ → ℕ → ℕ → ℕ → ℕ → Type 0
+SettingsPromise ws code n o p =
+    (code ≡ storeSettings ws .code) × (n ≡ storeSettings ws .offices) × (o ≡ storeSettings ws .own) × (p ≡ storeSettings ws .plots)
 
 abbrev pub FreshPromise : ℕ → ℕ → Session → Type 0
 FreshPromise n code s = (code ≡ freshCode n) × (s ≡ sessionOf (freshBy (freshCode n) n))

@@ -12,6 +12,7 @@ pub mod Sounds
 pub mod SameRun
 pub mod Theorem
 pub mod Corrects
+pub mod Settings
 pub mod Promises
 pub mod EveryCall
 pub mod NoCall

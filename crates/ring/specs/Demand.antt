@@ -7,6 +7,7 @@
 --                               every list of calls has such answers (specs/Claim.antt; what is read off an answer: specs/Answers.antt)
 --   run → Holds                 in `claim` too; given apart, since the program stands on them: `opens`, `demand3`: openings in range are accepted, and
 --                               every run keeps what paper 01 asks of it (specs/Run.antt, specs/Holds.antt)
+--                               Beside it `settings`, of the call that paper 01 does not have: specs/Settings.antt
 -- Assumes nothing.
 use base.Logic.{SProp}
 use contract.Monad.{Fun}
@@ -24,6 +25,7 @@ use Rattle.lent.proofs.Contract.{LentContracts}
 use Rattle.host.proofs.Contract.{HostContracts}
 use Rattle.ring.specs.Claim.{Answered, Claim}
 use Rattle.ring.specs.Holds.{Demand3, Opens}
+use Rattle.ring.specs.Settings.{SettingsStay}
 
 -- for every model of memory
 abbrev pub Everywhere : ((M : Type 1) (𝓤 : URA M) (H : Heap 𝓤) → Atoms 𝓤 → (Memory → SProp 𝓤) → (Routine → Fun 𝓤) → Type 2) → Type 2
@@ -41,3 +43,4 @@ pub record ThirdDemand : Type 2 where
   pub answered : Answered
   pub opens : Opens
   pub demand3 : Demand3
+  pub settings : SettingsStay

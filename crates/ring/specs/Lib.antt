@@ -2,4 +2,5 @@ pub mod Run
 pub mod Holds
 pub mod Answers
 pub mod Claim
+pub mod Settings
 pub mod Demand

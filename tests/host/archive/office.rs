@@ -39,7 +39,19 @@ pub struct Need {
 
 layout!(Need: 16, refusal 0, words 8);
 
+#[repr(C)]
+pub struct Settings {
+    pub refusal: u32,
+    pub offices: u32,
+    pub own: u32,
+    pub plots: u32,
+}
+
+layout!(Settings: 16, refusal 0, offices 4, own 8, plots 12);
+
 extern "C" {
+    pub fn burial_version() -> u32;
+    pub fn burial_store_settings(store: *const u32, store_len: usize) -> Settings;
     pub fn burial_store_need(offices: u32, own: u32, plots: u32) -> Need;
     pub fn burial_read_plot(store: *mut u32, store_len: usize, session: Session, plot: u32) -> PlotRead;
     pub fn burial_read_joint(
@@ -74,6 +86,16 @@ extern "C" {
 pub fn store_need(offices: u32, own: u32, plots: u32) -> (u32, usize) {
     let need = unsafe { burial_store_need(offices, own, plots) };
     (need.refusal, need.words)
+}
+
+/// The refusal, and ring size, own number and plots.
+pub fn store_settings(store: &[u32]) -> (u32, [u32; 3]) {
+    let said = unsafe { burial_store_settings(store.as_ptr(), store.len()) };
+    (said.refusal, [said.offices, said.own, said.plots])
+}
+
+pub fn version() -> u32 {
+    unsafe { burial_version() }
 }
 
 /// The refusal, and whether an entry is handed back and which.
