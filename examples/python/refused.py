@@ -1,0 +1,27 @@
+"""Why a call was refused."""
+
+TEXTS = (  # by number, word for word those of the header
+    "not refused",
+    "ring size, own office or plots out of range",
+    "the store is not sound, or too short",
+    "the session is not sound for this office, or no frame or token has this content",
+    "a plot is out of range, or there are more than 16",
+    "the value is too great",
+    "the office has made its 32 entries",
+    "the session carries 16 entries",
+    "a row is too short",
+    "the words are no frame or token of this ring",
+    "an entry names this office and was not made here",
+    "an entry is held with other content",
+    "an entry that was read or is depended on is not held",
+    "an own entry stands above what would be presented",
+)
+
+
+class Refused(Exception):
+    """A call was refused; it has changed nothing."""
+
+    def __init__(self, number):
+        self.number = number
+        self.text = TEXTS[number] if number < len(TEXTS) else "no refusal of this library"
+        super().__init__(f"refused {number}: {self.text}")

@@ -1,0 +1,20 @@
+"""Sessions, which the calls of an office change, and their tokens as lists of words."""
+from burial import TOKEN_WORDS, calls, room, row
+
+
+def fresh_session(ring):
+    """A session with nothing read and nothing written."""
+    return calls.burial_fresh_session(ring.offices).session
+
+
+def session_of(ring, token):
+    """The session that a token was made from."""
+    words = row(token)
+    return calls.burial_read_token(words, len(words), ring.offices, ring.plots).session
+
+
+def token_of(session):
+    """A session as words, to be kept or taken to another office."""
+    out = room(TOKEN_WORDS)
+    written = calls.burial_write_token(session, out, len(out))
+    return out[:written.words]
