@@ -1,11 +1,15 @@
-/* The roaming burial register, for host programs in C (C99 or later) and C++ (C++11 or later).
+/* The roaming burial register, for host programs in C (C99 or later) and C++ (C++11 or later) on
+ * x86-64 Linux. Link with libhost.a; it needs nothing else.
  *
  * Two to eight offices of one house form a ring. Each holds its own copy of the register in a row
  * of words, its store, and answers from that copy alone, whether or not its lines are up. What it
  * writes goes round the ring in frames. A person who goes from office to office carries a
- * session, and is never shown less than that session has read or written. The host program owns
- * memory, files and lines; this library has the calls in between. Each call is proved to
- * do what paper 01 of the project says, whatever words it is given.
+ * session, and is never shown less than that session has read or written. An office makes 32
+ * entries, ever, so a ring takes 64 to 256; a house that needs more begins another ring.
+ *
+ * The host program owns memory, files and lines; this library has the calls in between. Each call
+ * is proved to do what its description says, whatever the words in its rows; the inline helpers
+ * of this file are plain C.
  *
  * CONTENTS
  *   1 What is seen, where and when      7 Hearing
@@ -19,19 +23,26 @@
  * 1 WHAT IS SEEN, WHERE AND WHEN
  *
  * An entry says a value of a plot. An office holds entries, each hidden or shown. A reading hands
- * back the highest-ranked shown entry of the plot: one whose writer knew of another ranks above
- * it.
+ * back the highest-ranked shown entry of the plot.
  *
  *   - A new entry is held hidden at the office where it is written. Its frame goes to the next
- *     office, which holds the entry hidden and sends the frame on, and so round the ring.
- *   - The last office to hear the frame (the one before the office that sent it first) SHOWS the
- *     entry, together with everything that it depends on, that is, all that its writer had read
- *     or written. By then every office holds it.
- *   - Every other office shows it later: when a session that has read it reads there, or when an
- *     entry that depends on it is shown there. Until then it stays hidden there, so two offices
- *     may hand back different entries of one plot though every frame has been heard.
- *   - A session sees its own entries at once, and at every office, hidden or not: a reading hands
+ *     office, which, unless it is the last, holds the entry hidden and sends the frame on.
+ *   - The last office to hear a frame, the one before the office where the frame began, SHOWS the
+ *     entry, together with all that it depends on, that is, what its writer had read or written,
+ *     and what that depends on, and so on. By then every office holds it.
+ *   - Every other office shows it later, or never: when a session that has read it reads there,
+ *     or when an entry that depends on it is shown there. Until then it stays hidden there, so
+ *     two offices may hand back different entries of one plot though every frame has been heard.
+ *   - An entry that a session carries to an office which does not hold it yet begins a second
+ *     journey there, with the session's next write; it is shown at the end of that one too.
+ *   - A session sees its own entries at once, at every office, hidden or not: a reading hands
  *     back the higher-ranked of the shown entry and the session's own.
+ *
+ * Rank is the same at every office. An entry ranks above all that its writer had read or written,
+ * and above all that its office showed when it was written. Of two that did not know of each
+ * other, the clocks are compared number by number from office 0 on, and the first greater number
+ * decides; where the clocks are equal, the higher office. So a later value can lose to an older
+ * one that was still hidden where the later one was written: who corrects a plot reads it first.
  *
  *
  * 2 A WHOLE PROGRAM
@@ -53,7 +64,7 @@
  *         struct burial_written w = burial_lent_write(store[0], STORE, &writer, 5, 709, row, ROW);
  *         if (w.refusal != BURIAL_OK)
  *             return fprintf(stderr, "%s\n", burial_refusal_text(w.refusal)), 1;
- *         // A host keeps store[0] and the frames here, before it sends any (section 3).
+ *         // Here a host keeps store[0], writer and the frames, as one, before it sends any.
  *         size_t at, len;
  *         for (at = 0; (len = burial_frame_length(row + at, w.words - at, RING)) != 0; at += len)
  *             if (burial_receive(store[1], STORE, row + at, len, NULL, 0).refusal != BURIAL_OK)
@@ -77,42 +88,52 @@
  *   call; KEEP what it changed; SEND the frames; tell the clerk.
  *
  * Keep before send. A call changes memory only. Before a frame goes out or a reply is told, keep
- * store, session and the frames to send where a crash or a power cut leaves them: written beside
- * the old ones, synced, renamed, and the folder synced. An office that sent an entry and forgot
- * it makes another one of the same name, and the ring refuses that for ever
- * (BURIAL_DIFFERENT). A reading changes store and session too. Keep these as well; if only they
- * are lost the ring stays sound, but the session may be shown less than it was. A refused call
- * has changed nothing, so there is nothing to keep.
+ * store, session and the frames to send where a crash or a power cut leaves them. Keep them as
+ * one: one file, written beside the old one, synced, renamed, and the folder synced; with parts
+ * in several files no order is safe. An office that sent an entry and forgot it makes another one
+ * of the same name, and the ring refuses that for ever (BURIAL_DIFFERENT). A reading changes
+ * store and session too. Keep these as well; if only they are lost the ring stays sound, but the
+ * session may be shown less than before.
  *
  * A store may be moved, copied, saved and loaded: it has no pointers. Save its words as they are,
- * in the machine's own order, and all of them or at least its need. NEVER SET IT BACK: an office
- * that has sent anything goes on from its latest store, not from a backup or a copy of yesterday.
- * A store that is lost takes the office's number with it: the ring needs a new beginning.
+ * in the machine's own order: all of them, or the first burial_store_need words. Save a checksum
+ * with them: the calls refuse a store that breaks a rule (BURIAL_BAD_STORE), but not every
+ * damaged word breaks one. NEVER SET A STORE BACK to an older state, a backup or a copy of
+ * yesterday: an office that has written or heard anything goes on from its latest store. A store
+ * that is lost takes its office's number with it, and the ring needs a new beginning.
  *
  * Lines. The next office of office k is k + 1, of the last one 0; frames go to the next office
- * only. They are to be heard in the order in which the office before wrote them, and none may get
- * lost: keep a frame until the next office has kept what hearing it changed. A frame that comes
- * twice does no harm; hearing it again changes nothing, and gives the frame to send on once more.
- * A line may be down for any time: nothing waits for it but what it carries.
+ * only. They are to be heard in the order in which the office before wrote them, and none may be
+ * passed over: number the frames of a line, hear each after the one before, and drop a frame when
+ * the next office has kept its store and the frame to send on. A gap is not always noticed:
+ * BURIAL_MISSING is given only where an entry depends on one that is missing. A frame that comes
+ * twice does no harm: hearing it again changes nothing, and gives the frame to send on once more.
+ * Tell repeats by the number on the line and never by the entry: an entry has a frame for each
+ * journey, and each frame goes its whole way. A line may be down for any time: nothing waits for
+ * it but what it carries, which is nearly every new entry. Repeats apart, at most
+ * 32 * offices * (offices - 1) frames ever cross one line.
  *
- * Memory. The caller owns all of it. A call reads and writes only what it is lent, keeps no
- * pointer, allocates nothing and has no state of its own. Calls on different memory may run at
- * the same time; never two at a time on one store, session or row. A call needs less than 16 KiB
- * of stack.
+ * Rings. Stores, frames and tokens say the size of their ring, and not which ring it is; those of
+ * another one of the same size are taken for this one's. Keep a mark of the ring with them, and
+ * throw away all frames, tokens and sessions of a ring that was begun anew.
+ *
+ * Memory. The caller owns all of it. A call reads and writes only what it is lent, that is, what
+ * it gets a pointer to, keeps no pointer, allocates nothing and has no state of its own. Calls on
+ * different memory may run at the same time; never two at a time on one store, session or row. A
+ * call needs less than 16 KiB of stack.
  *
  * Rows. A row crosses as a pointer and a count of elements (not of bytes), and is aligned for its
  * element. With a count of 0 the pointer may be NULL. A row that a call writes (store, out,
  * answer) overlaps no other row of that call: a frame is not sent on from the row in which it is
- * heard.
+ * heard. A lent session is never NULL and overlaps no row.
  *
  * Words. A row of uint32_t holds words as numbers, in the machine's own order. Only
  * burial_check_frame takes bytes: each word is four bytes, lowest first, the order for a line
  * between different machines.
  *
- * Refused. A call that is refused changes nothing: every lent row keeps each of its words, a lent
- * session stays as it was, and one by value is handed back as it came. A call that is not refused
- * writes the words that it names and leaves the rest of the row. Of several reasons, the one that
- * the call lists first is given.
+ * Refused. A call that is refused changes nothing: every lent row keeps each of its words, and a
+ * session stays as it was. A call that is not refused writes the words that it names and leaves
+ * the rest of the row. Of several reasons, the one that the call lists first is given.
  */
 #ifndef BURIAL_REGISTER_H
 #define BURIAL_REGISTER_H
@@ -145,46 +166,48 @@ extern "C" {
  * frames or tokens that this one does not read: keep the number beside what is kept. */
 #define BURIAL_VERSION      0x010000u
 
-/* The version of the archive that is linked; a host that starts compares it with BURIAL_VERSION.
- * */
+/* The version of the archive that is linked: a host that starts compares it with BURIAL_VERSION,
+ * and ends where they differ. */
 uint32_t burial_version(void);
 
 #define BURIAL_OK            0u
 /* The settings are out of range: a mistake in the program. */
 #define BURIAL_BAD_SETTINGS  1u
-/* The words are no sound store, or the row is too short. Load the store again as it was kept
- * last; do not open the office anew. */
+/* The words are no sound store: load it again as it was kept last, and do not open the office
+ * anew. Or the row is too short. */
 #define BURIAL_BAD_STORE     2u
-/* The session is not sound for the store (another ring, or made by hand), or no frame or token
- * has this content. Take sessions from burial_fresh_session and burial_read_token. */
+/* The session is not sound for the store (another ring size, or made by hand), or no frame or
+ * token has this content. Take sessions from burial_fresh_session and burial_read_token. */
 #define BURIAL_BAD_CONTENT   3u
-/* A plot out of range, or more than 16 plots: tell the user. */
+/* A plot out of range: tell the user. Or more than 16 plots. */
 #define BURIAL_BAD_PLOT      4u
 /* A value above BURIAL_MAX_VALUE: tell the user. */
 #define BURIAL_BAD_VALUE     5u
 /* The office has made its 32 entries. It goes on to hear, send on and read; new entries are
  * written at other offices. */
 #define BURIAL_OFFICE_FULL   6u
-/* The session carries 16 entries. It goes on to read; to write, begin a fresh session, which sees
- * the entries of the old one where they are shown. */
+/* The session carries 16 entries. It goes on to read; to write, begin a fresh one. That knows
+ * nothing of the old one: it sees those entries only where they are shown, and what it writes on
+ * their plots may rank below them unless it has read them. */
 #define BURIAL_SESSION_FULL  7u
 /* A row is too short: call again with a longer one (the constants above). */
 #define BURIAL_NO_ROOM       8u
-/* The words are no frame or token of this ring and these plots: damaged on the way, or another
- * ring's. Have it sent again; do not pass over it. */
+/* The words are no frame or token for this ring size and these plots: damaged, or from elsewhere.
+ * Have the frame sent again, and do not pass over it; have the token written again. */
 #define BURIAL_NOT_A_FRAME   9u
-/* An entry names this office and was not made here. In a ring whose stores were kept as section 3
- * says neither this nor the next two come from frames in order and sessions of the ring: a store
- * was set back, two offices have one number, or words were made up. Stop the line and look; the
- * office still reads and writes. */
+/* An entry names this office and was not made here. The ring that keeps the rules of section 3
+ * never gives this, nor the next two: a store was set back, a frame passed over, two offices have
+ * one number, or words are made up or another ring's. Stop the line, and look. The office still
+ * reads and writes; but what is lost stays lost, and the ring needs a new beginning. */
 #define BURIAL_UNMADE       10u
 /* An entry is held with other content. As above. */
 #define BURIAL_DIFFERENT    11u
-/* A read id or a dependency is not held. Of a frame: one before it is missing; hear that one
- * first, and then this one again. Of a session: as above. */
+/* A read id or a dependency is not held. Of a frame: one before it was not heard yet; hear that
+ * one first, and then this one again. Of a session: as above. */
 #define BURIAL_MISSING      12u
-/* A joint reading only: an own entry of the session stands above what it would present on a plot.
- * Read these plots one by one. */
+/* A joint reading only, and usual after a write: a plot that it asks for has an own entry of the
+ * session, and no shown one or one that ranks below it. Read these plots one by one; with no
+ * hearing in between that is the same moment. */
 #define BURIAL_OWN_ENTRY    13u
 
 /* A refusal in words, for people. */
@@ -194,8 +217,8 @@ static inline const char *burial_refusal_text(uint32_t refusal)
     case BURIAL_OK:           return "not refused";
     case BURIAL_BAD_SETTINGS: return "ring size, own office or plots out of range";
     case BURIAL_BAD_STORE:    return "the store is not sound, or too short";
-    case BURIAL_BAD_CONTENT:  return "the session is not sound for this office, or no frame or token "
-                                     "has this content";
+    case BURIAL_BAD_CONTENT:  return "the session is not sound for this office, "
+                                     "or no frame or token has this content";
     case BURIAL_BAD_PLOT:     return "a plot is out of range, or there are more than 16";
     case BURIAL_BAD_VALUE:    return "the value is too great";
     case BURIAL_OFFICE_FULL:  return "the office has made its 32 entries";
@@ -254,17 +277,19 @@ struct burial_need {
 
 /* How many words the store of an office needs: 19 + 576 * offices. A longer row serves as well;
  * its words past the need stay as they are.
- * Refusals: BURIAL_BAD_SETTINGS (offices not 2 to 8, plots not 1 to 64, own not below offices).
- * */
+ * Refusals: BURIAL_BAD_SETTINGS (offices not 2 to 8, plots not 1 to 64, or own not below
+ * offices). */
 struct burial_need burial_store_need(uint32_t offices, uint32_t own, uint32_t plots);
 
-/* Makes the row the store of an office that holds nothing: once in the life of an office.
- * Store: its first 19 words are written.
+/* Makes the row the store of an office that holds nothing, whatever it was before: once in the
+ * life of an office.
+ * Store: its first 19 words are written. The others mean nothing yet; clear the row before if it
+ * is to be saved with no word uninitialised.
  * Refusals: BURIAL_BAD_SETTINGS as above, BURIAL_BAD_STORE (too short). */
 uint32_t burial_open_office(uint32_t offices, uint32_t own, uint32_t plots,
                             uint32_t *store, size_t store_len);
 
-/* On refusal all are 0. */
+/* On refusal offices, own and plots are 0. */
 struct burial_settings {
     uint32_t refusal;
     uint32_t offices;
@@ -272,18 +297,18 @@ struct burial_settings {
     uint32_t plots;
 };
 
-/* What a store was opened with: ask it of a store that comes from a file. Store: nothing is
- * written.
+/* What a store was opened with: ask it of a store that comes from a file.
+ * Store: nothing is written.
  * Refusals: BURIAL_BAD_STORE. */
 struct burial_settings burial_store_settings(const uint32_t *store, size_t store_len);
 
 /* ---- 6 Sessions, and writing */
 
 /* A session: what one person has read and written, carried from office to office. own[0] to
- * own[count - 1] are its entries in writing order; the others mean nothing, and a call leaves
- * them as they are. Take it from burial_fresh_session or burial_read_token, so that no word of it
- * is uninitialised. It may be copied: each copy goes on with its own history. It has padding
- * before count: compare sessions field by field, never by memcmp. */
+ * own[count - 1] are its entries in writing order; the others mean nothing, and stay as they are
+ * but for the one that a write fills. Take it from burial_fresh_session or burial_read_token, so
+ * that no word of it is uninitialised. It may be copied: each copy goes on with its own history.
+ * It has padding before count: compare sessions field by field, never by memcmp. */
 struct burial_session {
     uint32_t offices;  /* ring size */
     uint32_t clock[8];
@@ -292,7 +317,7 @@ struct burial_session {
     struct burial_entry own[16];
 };
 
-/* On refusal the session is all zeros, which every office refuses. */
+/* A session that was made or read. On refusal it is all zeros, which every office refuses. */
 struct burial_token_read {
     uint32_t refusal;
     struct burial_session session;
@@ -305,7 +330,7 @@ struct burial_token_read burial_fresh_session(uint32_t offices);
 /* On refusal words is 0. */
 struct burial_written {
     uint32_t refusal;
-    size_t words;      /* how many words were written */
+    size_t words;      /* how many words were written to the row */
 };
 
 /* Writes a value to a plot: makes an entry that depends on all that the session has read and
@@ -351,9 +376,9 @@ struct burial_written burial_receive(uint32_t *store, size_t store_len,
 
 /* ---- 8 Reading
  *
- * A reading first shows, in the store, all that the session has read, with what that depends on.
- * Then it adds the shown entry of each plot to what the session has read, and joins that entry's
- * clock into the session's. So store and session can both change. */
+ * Store: all that the session has read is shown, with what that depends on, and so on.
+ * Session: then the shown entry of each plot that is asked for is added to what it has read, and
+ * that entry's clock is joined into its own. An own entry that is handed back adds nothing. */
 
 /* found is 1 with the entry that is handed back; or 0 with an entry of zeros, where the plot has
  * none. On refusal found and entry are zeros. */
@@ -365,14 +390,15 @@ struct burial_plot_found {
 
 /* Reads one plot: hands back the higher-ranked of the shown entry and the session's own entries
  * on the plot; where an own entry has the same office and clock as the shown one, the shown one.
- * Refusals: BURIAL_BAD_STORE, BURIAL_BAD_CONTENT (the session), BURIAL_BAD_PLOT, BURIAL_MISSING.
- * */
+ * Refusals: BURIAL_BAD_STORE, BURIAL_BAD_CONTENT (the session), BURIAL_BAD_PLOT,
+ * BURIAL_MISSING. */
 struct burial_plot_found burial_lent_read_plot(uint32_t *store, size_t store_len,
                                                struct burial_session *session, uint32_t plot);
 
-/* Reads up to 16 plots at one moment, the same plot more than once if asked.
+/* Reads up to 16 plots at one moment, the same plot more than once if asked; with no plot at all
+ * it only shows what the session has read.
  * Answer: for each plot, in order, three words: 1, value, id (burial_id_office,
- * burial_id_serial); or 0, 0, 0 where it has no entry.
+ * burial_id_serial); or 0, 0, 0 where no entry is shown.
  * Refusals: BURIAL_BAD_STORE, BURIAL_BAD_CONTENT, BURIAL_BAD_PLOT, BURIAL_NO_ROOM (answer_len
  * under three words a plot), BURIAL_MISSING, BURIAL_OWN_ENTRY. */
 uint32_t burial_lent_read_joint(uint32_t *store, size_t store_len, struct burial_session *session,
@@ -382,7 +408,8 @@ uint32_t burial_lent_read_joint(uint32_t *store, size_t store_len, struct burial
 /* ---- 9 Tokens
  *
  * A token is a session in words: what a person takes from one office to another, or what a host
- * keeps of a session. One changed word makes it refused; it is no secret and no signature. */
+ * keeps of a session. With exactly one word changed it is refused, and so is a frame; more damage
+ * may pass, so a line or a file has a checksum of its own. It is no secret and no signature. */
 
 /* Writes a session as a token. Out: its words, from the start. A row of BURIAL_TOKEN_WORDS always
  * has room.
@@ -397,8 +424,8 @@ struct burial_token_read burial_read_token(const uint32_t *words, size_t words_l
 
 /* ---- 10 Frames
  *
- * A host that only passes frames on needs none of these; to check kept frames at a start, say,
- * they read and write them apart from any office. */
+ * Frames apart from any office: to check those that were kept, or to look into one. A host that
+ * only passes them on needs none of these. */
 
 /* An entry on its way round the ring. */
 struct burial_frame {
@@ -437,6 +464,7 @@ uint32_t burial_check_frame(const uint8_t *bytes, size_t bytes_len,
  * back as the call leaves it; as it came on refusal. They copy 1,360 bytes there and back, so the
  * calls above are faster. Refusals, store and rows as there. */
 
+/* found and entry as in burial_plot_found. */
 struct burial_read {
     uint32_t refusal;
     uint32_t found;
@@ -478,7 +506,9 @@ struct burial_wrote burial_write(uint32_t *store, size_t store_len,
 #elif defined(__STDC_VERSION__) && __STDC_VERSION__ >= 201112L
 #define BURIAL_LAYOUT(holds) _Static_assert(holds, "a struct has another layout here")
 #else
-#define BURIAL_LAYOUT(holds) extern char burial_layout[(holds) ? 1 : -1]
+#define BURIAL_LAYOUT(holds) BURIAL_LAYOUT_AT(holds, __LINE__)
+#define BURIAL_LAYOUT_AT(holds, line) BURIAL_LAYOUT_NAMED(holds, line)
+#define BURIAL_LAYOUT_NAMED(holds, line) enum { burial_layout_##line = 1 / ((holds) ? 1 : 0) }
 #endif
 #define BURIAL_SIZE(name, bytes)     BURIAL_LAYOUT(sizeof(struct name) == (bytes))
 #define BURIAL_AT(name, field, byte) BURIAL_LAYOUT(offsetof(struct name, field) == (byte))
@@ -548,6 +578,8 @@ BURIAL_SIZE(burial_token_read, 1368);
 #undef BURIAL_AT
 #undef BURIAL_SIZE
 #undef BURIAL_LAYOUT
+#undef BURIAL_LAYOUT_AT
+#undef BURIAL_LAYOUT_NAMED
 
 #ifdef __cplusplus
 }

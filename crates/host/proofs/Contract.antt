@@ -1,5 +1,6 @@
 -- The exports make the same calls: the code of each meets its contract (`-met`), which is the promise of the call that it exports, of the answer
--- as C has it (`-is`; of a frame as bytes `CheckPromise`, specs/Bytes.antt), and asks for nothing (`-asks`). Assumes nothing.
+-- as C has it (`-is`; of a frame as bytes `CheckPromise`, specs/Bytes.antt; of the version `VersionPromise`, specs/Version.antt), and asks for
+-- nothing (`-asks`). Assumes nothing.
 use Prim.Native.Nat.{ℕ, _≤_}
 use mathlib.Core.Path.{_≡_, refl}
 use base.Logic.{SProp, emp}

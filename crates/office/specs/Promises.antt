@@ -1,6 +1,7 @@
 -- What the calls of an office promise: for each, the equations for what it answers (the refusal number, 0 for none, or the reply, and what was
 -- found), for the session that it hands back (s′) and for each lent row as it is left (ws′, row′). The `ensures` of the call cites it by name,
--- and so do those of the lent calls, the exports and the player; a step of a run is one that keeps it (ring/specs/Claim.antt). Assumes nothing.
+-- and so do those of the lent calls, the exports and the player; a step of a run is one that keeps it (ring/specs/Claim.antt), but for need and
+-- settings, which change nothing. A row lent as `&[u32]` is only read: by its type it is left as it came. Assumes nothing.
 use Prim.Native.Nat.{ℕ}
 use mathlib.Core.Bool.{Bool}
 use mathlib.Core.List.{List}

@@ -2,7 +2,8 @@
 -- in the promises, which contracts and claim cite by name.
 --   code → contract → promise   `frame`, `office`, `reading`, `writing`, `hearing`, `lent`, `host`: the code of each call, lent call and export
 --                               meets its contract; that asks for nothing, and ensures the promise (frame/specs/Promises.antt,
---                               office/specs/Promises.antt; the links are in Contract.antt, in the proofs of each of these crates)
+--                               office/specs/Promises.antt; of bytes and version host/specs/Bytes.antt, Version.antt; the links are in
+--                               Contract.antt, in the proofs of each of these crates)
 --   promise → run               `claim`, `answered`: whatever the answers, if they keep the promises, a list of calls leads to its run; and
 --                               every list of calls has such answers (specs/Claim.antt; what is read off an answer: specs/Answers.antt)
 --   run → Holds                 in `claim` too; given apart, since the program stands on them: `opens`, `demand3`: openings in range are accepted, and
