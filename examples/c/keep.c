@@ -1,91 +1,158 @@
 #include "keep.h"
-#include "fail.h"
+#include "hold.h"
+#include "image.h"
+#include "say.h"
 
-#include <stdio.h>
+#include <errno.h>
 #include <string.h>
-#include <unistd.h>
 
-/* The file in words: how many frames, how long the token, then store, token, frames. */
+/* One word more than an image has, so that a file that is too long shows. */
+static uint32_t image[IMAGE_WORDS + 1];
 
-static void put(FILE *file, const uint32_t *words, size_t count)
+static struct {
+    uint32_t store[BURIAL_STORE_WORDS];
+    struct burial_session session;
+    uint32_t heard, waiting_count;
+    size_t waiting_words;
+} before;
+
+/* PERHAPS_KEPT. The new file has the name, but the directory is not surely on the disk: a process
+ * that starts now finds the new file, and one that starts after a power cut the new or the old one.
+ * To undo the call and say that nothing has changed would be wrong: after a mere crash the write is
+ * there, and a clerk who repeats it has it twice. To go on as if all were kept would be wrong too:
+ * a power cut could take back what others were told. So memory stays as the new file is, nothing
+ * goes out on a line, and the clerk is told to look before he repeats. Then all is kept again until
+ * that is sure. All, and not the fsync alone: after a failed one the next may say that all is well.
+ */
+static struct outcome perhaps(struct office *office, int error)
 {
-    if (fwrite(words, 4, count, file) != count)
-        fail("the file cannot be written");
+    if (!office->unsure)
+        trouble("the directory cannot be written: %s; the lines stand still", strerror(error));
+    office->owed = office->unsure = true;
+    return (struct outcome){ PERHAPS_KEPT, error };
 }
 
-static void get(FILE *file, uint32_t *words, size_t count)
+static struct outcome keep_all(struct office *office, bool writing)
 {
-    if (fread(words, 4, count, file) != count)
-        fail("the file is too short");
+    bool swapped;
+    int error = disk_write_beside(&office->disk, image, 4 * image_write(office, image));
+    if (error != 0)
+        return (struct outcome){ NOT_KEPT, error };
+    if (writing)
+        hold_at("renaming");
+    error = disk_swap(&office->disk, &swapped);
+    if (error != 0)
+        return swapped ? perhaps(office, error) : (struct outcome){ NOT_KEPT, error };
+    office->owed = office->unsure = false;
+    office->heard_kept = office->heard;
+    if (writing)
+        hold_at("sending");
+    return (struct outcome){ KEPT, 0 };
 }
 
-static void other_name(char *name, size_t size, const char *path)
+void keep_before(const struct office *office)
 {
-    if (snprintf(name, size, "%s.new", path) >= (int)size)
-        fail("the path is too long");
+    memcpy(before.store, office->store, sizeof before.store);
+    before.session = office->session;
+    before.heard = office->heard;
+    before.waiting_count = office->waiting.count;
+    before.waiting_words = office->waiting.words;
 }
 
-void keep_beside(const struct kept *kept, const char *path)
+static void undo(struct office *office)
 {
-    uint32_t token[BURIAL_TOKEN_WORDS];
-    struct burial_written written = burial_write_token(kept->session, token, BURIAL_TOKEN_WORDS);
-    if (written.refusal != BURIAL_OK)
-        fail("the session is no token");
-    char name[4096];
-    other_name(name, sizeof name, path);
-    FILE *file = fopen(name, "wb");
-    if (file == NULL)
-        fail("the file cannot be made");
-    const uint32_t counts[2] = { (uint32_t)kept->sent_count, (uint32_t)written.words };
-    put(file, counts, 2);
-    put(file, kept->store, kept->store_len);
-    put(file, token, written.words);
-    put(file, kept->sent[0], PACKET * kept->sent_count);
-    /* On the disk before it gets its name. */
-    if (fflush(file) != 0 || fsync(fileno(file)) != 0 || fclose(file) != 0)
-        fail("the file cannot be written");
+    memcpy(office->store, before.store, sizeof before.store);
+    office->session = before.session;
+    office->heard = before.heard;
+    waiting_cut(&office->waiting, before.waiting_count, before.waiting_words);
 }
 
-void keep_swap(const char *path)
+/* Field by field: a session has padding, and own entries that mean nothing. */
+static bool same_session(const struct burial_session *a, const struct burial_session *b)
 {
-    char name[4096];
-    other_name(name, sizeof name, path);
-    if (rename(name, path) != 0)
-        fail("the file cannot be renamed");
+    return a->offices == b->offices && a->count == b->count
+        && memcmp(a->clock, b->clock, sizeof a->clock) == 0
+        && memcmp(a->read, b->read, sizeof a->read) == 0
+        && memcmp(a->own, b->own, a->count * sizeof a->own[0]) == 0;
 }
 
-static void load(struct kept *kept, FILE *file)
+static bool changed(const struct office *office)
 {
-    uint32_t counts[2], token[BURIAL_TOKEN_WORDS];
-    get(file, counts, 2);
-    if (counts[0] > MOST_SENT || counts[1] > BURIAL_TOKEN_WORDS)
-        fail("the file is damaged");
-    get(file, kept->store, kept->store_len);
-    get(file, token, counts[1]);
-    get(file, kept->sent[0], PACKET * counts[0]);
-    kept->sent_count = counts[0];
-    struct burial_token_read read = burial_read_token(token, counts[1], OFFICES, PLOTS);
-    if (read.refusal != BURIAL_OK)
-        fail("the file is damaged");
-    kept->session = read.session;
-    /* The store needs no check here: each call makes it, and refuses 2. */
+    return memcmp(office->store, before.store, sizeof before.store) != 0
+        || !same_session(&office->session, &before.session)
+        || office->heard != before.heard || office->waiting.count != before.waiting_count;
 }
 
-void keep_start(struct kept *kept, uint32_t own, const char *path)
+static struct outcome keep_if_due(struct office *office, bool writing)
 {
-    memset(kept, 0, sizeof *kept);
-    struct burial_need need = burial_store_need(OFFICES, own, PLOTS);
-    if (need.refusal != BURIAL_OK || need.words > STORE)
+    if (!office->owed && !changed(office))
+        return (struct outcome){ KEPT, 0 };
+    return keep_all(office, writing);
+}
+
+struct outcome keep_after(struct office *office, const uint32_t *frames, size_t words,
+                          bool writing)
+{
+    struct outcome outcome = { NOT_KEPT, ENOBUFS };
+    if (waiting_add(&office->waiting, frames, words))
+        outcome = keep_if_due(office, writing);
+    if (outcome.how == NOT_KEPT)
+        undo(office);
+    return outcome;
+}
+
+struct outcome keep_reading(struct office *office)
+{
+    struct outcome outcome = keep_if_due(office, false);
+    office->owed = outcome.how != KEPT;
+    return outcome;
+}
+
+void keep_again(struct office *office)
+{
+    if (office->unsure)
+        keep_all(office, false);
+}
+
+static void open_new(struct office *office)
+{
+    burial_open_office(office->offices, office->own, PLOTS, office->store, office->store_len);
+    office->session = burial_fresh_session(office->offices).session;
+    struct outcome outcome = keep_all(office, false);
+    if (outcome.how == NOT_KEPT)
+        fail("the file cannot be written: %s", strerror(outcome.error));
+}
+
+/* Whoever wrote the file may have been killed before its name was on the disk; nothing may go out
+ * that a power cut could still take back. */
+static void load(struct office *office, size_t bytes)
+{
+    image_read(office, image, bytes);
+    office->heard_kept = office->heard;
+    int error = disk_settle(&office->disk);
+    if (error != 0)
+        perhaps(office, error);
+}
+
+void keep_start(struct office *office, uint32_t offices, uint32_t own, const char *path)
+{
+    struct burial_need need = burial_store_need(offices, own, PLOTS);
+    if (need.refusal != BURIAL_OK)
         fail("the office has no number of the ring");
-    kept->store_len = need.words;
-    FILE *file = fopen(path, "rb");
-    if (file != NULL) {
-        load(kept, file);
-        fclose(file);
-        return;
-    }
-    burial_open_office(OFFICES, own, PLOTS, kept->store, kept->store_len);
-    kept->session = burial_fresh_session(OFFICES).session;
-    keep_beside(kept, path);
-    keep_swap(path);
+    office->offices = office->waiting.offices = offices;
+    office->own = own;
+    office->store_len = need.words;
+    int error = disk_open(&office->disk, path);
+    if (error == EWOULDBLOCK)
+        fail("another process has this office");
+    size_t bytes = 0;
+    bool there = false;
+    if (error == 0)
+        error = disk_read(&office->disk, image, sizeof image, &bytes, &there);
+    if (error != 0)
+        fail("the file cannot be read: %s", strerror(error));
+    if (there)
+        load(office, bytes);
+    else
+        open_new(office);
 }

@@ -1,36 +1,35 @@
-/* What an office keeps in its file: the store, its clerk's session, and every frame that it sent. */
+/* A step of an office: a call changes memory, then the file. */
 #ifndef KEEP_H
 #define KEEP_H
 
-#include "burial_register.h"
+#include "state.h"
 
-#include <stdbool.h>
-
-enum {
-    OFFICES = 2,
-    PLOTS = 64,
-    /* The longest frame of a ring of two has 69 words; the rest of a packet is 0. */
-    PACKET = 128,
-    /* An office frames each of the ring's 64 entries once at most. */
-    MOST_SENT = 64,
-    STORE = 8192,
+enum how {
+    KEPT,
+    NOT_KEPT,
+    PERHAPS_KEPT, /* see keep.c */
 };
 
-struct kept {
-    size_t store_len;
-    uint32_t store[STORE];
-    struct burial_session session;
-    size_t sent_count;
-    uint32_t sent[MOST_SENT][PACKET];
+struct outcome {
+    enum how how;
+    int error;
 };
 
-/* From the file, or newly opened where there is none yet. */
-void keep_start(struct kept *kept, uint32_t own, const char *path);
+/* From the file, or newly opened where there is none yet. Ends the program where it cannot. */
+void keep_start(struct office *office, uint32_t offices, uint32_t own, const char *path);
 
-/* Writes all to another file. */
-void keep_beside(const struct kept *kept, const char *path);
+/* Before a call: remembers the office as it is. */
+void keep_before(const struct office *office);
 
-/* Lets that file take the place of the old one: at once and as a whole. */
-void keep_swap(const char *path);
+/* After a call: keeps what it changed, and the frames that it wrote. Where that is NOT_KEPT the
+ * office in memory is as before the call. */
+struct outcome keep_after(struct office *office, const uint32_t *frames, size_t words,
+                          bool writing);
+
+/* After a reading: what it changed stays in memory, kept or not. */
+struct outcome keep_reading(struct office *office);
+
+/* Once more, where the office is unsure. */
+void keep_again(struct office *office);
 
 #endif

@@ -1,41 +1,37 @@
 #include "line.h"
-#include "fail.h"
+#include "say.h"
 
+#include <errno.h>
 #include <fcntl.h>
-#include <limits.h>
+#include <stdio.h>
+#include <string.h>
+#include <sys/stat.h>
 #include <unistd.h>
 
-_Static_assert(4 * PACKET <= PIPE_BUF, "a packet crosses a pipe as a whole");
-
-/* For both ways, so that opening does not wait for the other office, nor its end break the pipe.
- * POSIX leaves open what this does; Linux does as said. */
-static int open_pipe(const char *path)
+/* For both ways, so that opening does not wait for the other office, nor does its death break the
+ * line. POSIX leaves open what this does; Linux does as said. */
+int line_open(const char *folder, const char *name, uint32_t number)
 {
-    int file = open(path, O_RDWR);
-    if (file < 0)
-        fail("a pipe cannot be opened");
-    return file;
+    char path[4096];
+    struct stat about;
+    if (snprintf(path, sizeof path, "%s/%s-%u", folder, name, number) >= (int)sizeof path)
+        fail("a line has too long a name");
+    if (mkfifo(path, 0666) != 0 && errno != EEXIST)
+        fail("a line cannot be made: %s", strerror(errno));
+    int line = open(path, O_RDWR | O_NONBLOCK | O_CLOEXEC);
+    if (line < 0 || fstat(line, &about) != 0)
+        fail("a line cannot be opened: %s", strerror(errno));
+    if (!S_ISFIFO(about.st_mode))
+        fail("a line is no pipe");
+    return line;
 }
 
-struct line line_open(const char *in, const char *out)
+bool line_put(int line, const void *piece, size_t bytes)
 {
-    return (struct line){ open_pipe(in), open_pipe(out) };
+    return write(line, piece, bytes) == (ssize_t)bytes;
 }
 
-void line_put(const struct line *line, const uint32_t packet[PACKET])
+bool line_take(int line, void *piece, size_t bytes)
 {
-    if (write(line->out, packet, 4 * PACKET) != 4 * PACKET)
-        fail("a packet cannot be sent");
-}
-
-void line_take(const struct line *line, uint32_t packet[PACKET])
-{
-    if (read(line->in, packet, 4 * PACKET) != 4 * PACKET)
-        fail("a packet cannot be taken");
-}
-
-size_t frame_words(const uint32_t *words)
-{
-    size_t len = 4 + OFFICES + (words[0] & 0xFF);
-    return len <= PACKET ? len : PACKET;
+    return read(line, piece, bytes) == (ssize_t)bytes;
 }

@@ -1,23 +1,19 @@
-/* The line to the other office: two named pipes, one each way.
- *
- * Whatever goes over it is a packet of PACKET words, put and taken at once: a pipe keeps so short
- * a piece whole, so a process that is killed never leaves half of one behind. */
+/* A line: a named pipe that carries pieces of one size, at most PIPE_BUF bytes. A pipe takes and
+ * gives so short a piece as a whole, so a process that is killed leaves no half of one. */
 #ifndef LINE_H
 #define LINE_H
 
-#include "keep.h"
+#include <stdbool.h>
+#include <stddef.h>
+#include <stdint.h>
 
-struct line {
-    int in, out;
-};
+/* The line NAME-NUMBER of a folder, made where it is not there. Ends the program on error. */
+int line_open(const char *folder, const char *name, uint32_t number);
 
-struct line line_open(const char *in, const char *out);
-
-void line_put(const struct line *line, const uint32_t packet[PACKET]);
-
-void line_take(const struct line *line, uint32_t packet[PACKET]);
-
-/* How many words the frame at the start of a packet has. */
-size_t frame_words(const uint32_t *words);
+/* Neither ever waits: an office that waited for its neighbour could not answer its clerk, and two
+ * that waited for each other would never go on. False where the line is full, or has no whole
+ * piece; less than one is taken away, so that the next piece begins where it should. */
+bool line_put(int line, const void *piece, size_t bytes);
+bool line_take(int line, void *piece, size_t bytes);
 
 #endif
