@@ -8,11 +8,17 @@
 #include <string.h>
 #include <time.h>
 
-/* A frame on a line. Words of a shorter one are followed by zeros. */
+/* A frame on a line. Words of a shorter one are followed by zeros. A frame shows when a word of it
+ * is changed; so that a number does too, it goes with its complement. */
 struct packet {
-    uint32_t number;
+    uint32_t number, check;
     uint32_t length;
     uint32_t frame[BURIAL_FRAME_WORDS];
+};
+
+/* How many frames were heard and kept. */
+struct answer {
+    uint32_t heard, check;
 };
 
 _Static_assert(sizeof(struct packet) <= PIPE_BUF, "a packet crosses a pipe as a whole");
@@ -34,6 +40,13 @@ void delivery_open(struct delivery *delivery, const struct office *office, const
     delivery->out = line_open(folder, "to", next);
     delivery->out_back = line_open(folder, "back", next);
     delivery->owes_answer = true;
+}
+
+/* False where the line is full. */
+static bool put_answer(const struct delivery *delivery, const struct office *office)
+{
+    const struct answer answer = { office->heard, ~office->heard };
+    return line_put(delivery->in_back, &answer, sizeof answer);
 }
 
 /* The packet has the next number, so the frame is the next one to hear. */
@@ -78,16 +91,18 @@ static void take_packet(struct delivery *delivery, struct office *office)
 {
     struct packet packet;
     delivery->owes_answer = true;
-    if (line_take(delivery->in, &packet, sizeof packet) && packet.number == office->heard)
+    if (line_take(delivery->in, &packet, sizeof packet) && packet.check == ~packet.number
+        && packet.number == office->heard)
         hear(delivery, office, &packet);
 }
 
 static void take_answer(struct delivery *delivery, struct office *office)
 {
-    uint32_t heard, first = office->waiting.first;
-    if (!line_take(delivery->out_back, &heard, sizeof heard))
+    struct answer answer;
+    uint32_t first = office->waiting.first;
+    if (!line_take(delivery->out_back, &answer, sizeof answer) || answer.check != ~answer.heard)
         return;
-    if (!waiting_drop(&office->waiting, heard) && !delivery->said_unwritten) {
+    if (!waiting_drop(&office->waiting, answer.heard) && !delivery->said_unwritten) {
         trouble("the next office has heard frames that are not in the file: was it set back?");
         delivery->said_unwritten = true;
     }
@@ -102,7 +117,8 @@ static void send_frames(struct delivery *delivery, struct waiting *waiting)
     if (waiting->sent > 0 && now() - delivery->since >= PATIENCE)
         waiting_again(waiting);
     while ((len = waiting_next(waiting)) != 0) {
-        struct packet packet = { waiting->first + waiting->sent, (uint32_t)len, { 0 } };
+        uint32_t number = waiting->first + waiting->sent;
+        struct packet packet = { number, ~number, (uint32_t)len, { 0 } };
         memcpy(packet.frame, waiting->row + waiting->sent_words, 4 * len);
         if (!line_put(delivery->out, &packet, sizeof packet))
             return;
@@ -138,6 +154,6 @@ void delivery_serve(struct delivery *delivery, struct office *office,
     if (office->unsure)
         return;
     if (delivery->owes_answer)
-        delivery->owes_answer = !line_put(delivery->in_back, &office->heard, sizeof office->heard);
+        delivery->owes_answer = !put_answer(delivery, office);
     send_frames(delivery, &office->waiting);
 }
