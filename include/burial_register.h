@@ -12,12 +12,13 @@
  * of this file are plain C.
  *
  * CONTENTS
- *   1 What is seen, where and when      7 Hearing
- *   2 A whole program                   8 Reading
- *   3 The rules for a host              9 Tokens
- *   4 Bounds, version, refusals        10 Frames
- *   5 Opening                          11 The calls with the session by value
- *   6 Sessions, and writing            12 Layout
+ *   1 What is seen, where and when      8 Hearing
+ *   2 A whole program                   9 Reading
+ *   3 The rules for a host             10 Tokens
+ *   4 Bounds, version, refusals        11 Frames
+ *   5 Opening                          12 The calls with the session by value
+ *   6 Sessions                         13 Layout
+ *   7 Writing
  *
  *
  * 1 WHAT IS SEEN, WHERE AND WHEN
@@ -302,7 +303,7 @@ struct burial_settings {
  * Refusals: BURIAL_BAD_STORE. */
 struct burial_settings burial_store_settings(const uint32_t *store, size_t store_len);
 
-/* ---- 6 Sessions, and writing */
+/* ---- 6 Sessions */
 
 /* A session: what one person has read and written, carried from office to office. own[0] to
  * own[count - 1] are its entries in writing order; the others mean nothing, and stay as they are
@@ -326,6 +327,8 @@ struct burial_token_read {
 /* A session with nothing read and nothing written.
  * Refusals: BURIAL_BAD_SETTINGS (offices not 2 to 8). */
 struct burial_token_read burial_fresh_session(uint32_t offices);
+
+/* ---- 7 Writing */
 
 /* On refusal words is 0. */
 struct burial_written {
@@ -360,7 +363,7 @@ static inline size_t burial_frame_length(const uint32_t *row, size_t words, uint
     return length <= words ? length : 0;
 }
 
-/* ---- 7 Hearing */
+/* ---- 8 Hearing */
 
 /* Hears a frame that came from the office before. The frame takes the whole row.
  * Store: holds the entry, hidden, if it is new; at the last office it is shown, with all that it
@@ -374,7 +377,7 @@ struct burial_written burial_receive(uint32_t *store, size_t store_len,
                                      const uint32_t *frame, size_t frame_len,
                                      uint32_t *out, size_t out_len);
 
-/* ---- 8 Reading
+/* ---- 9 Reading
  *
  * Store: all that the session has read is shown, with what that depends on, and so on.
  * Session: then the shown entry of each plot that is asked for is added to what it has read, and
@@ -405,7 +408,7 @@ uint32_t burial_lent_read_joint(uint32_t *store, size_t store_len, struct burial
                                 const uint32_t *plots, size_t plots_len,
                                 uint32_t *answer, size_t answer_len);
 
-/* ---- 9 Tokens
+/* ---- 10 Tokens
  *
  * A token is a session in words: what a person takes from one office to another, or what a host
  * keeps of a session. With exactly one word changed it is refused, and so is a frame; more damage
@@ -422,7 +425,7 @@ struct burial_written burial_write_token(struct burial_session session,
 struct burial_token_read burial_read_token(const uint32_t *words, size_t words_len,
                                            uint32_t offices, uint32_t plots);
 
-/* ---- 10 Frames
+/* ---- 11 Frames
  *
  * Frames apart from any office: to check those that were kept, or to look into one. A host that
  * only passes them on needs none of these. */
@@ -458,7 +461,7 @@ struct burial_written burial_write_frame(struct burial_frame frame,
 uint32_t burial_check_frame(const uint8_t *bytes, size_t bytes_len,
                             uint32_t offices, uint32_t plots);
 
-/* ---- 11 The calls with the session by value
+/* ---- 12 The calls with the session by value
  *
  * The same three calls for hosts that would rather not lend a session: it is given, and handed
  * back as the call leaves it; as it came on refusal. They copy 1,360 bytes there and back, so the
@@ -496,7 +499,7 @@ struct burial_wrote burial_write(uint32_t *store, size_t store_len,
                                  struct burial_session session, uint32_t plot, uint32_t value,
                                  uint32_t *out, size_t out_len);
 
-/* ---- 12 Layout
+/* ---- 13 Layout
  *
  * The archive is for x86-64 Linux, by the System V convention. Here the compiler says whether it
  * lays out the structs as the archive does: the length of each, and the place of each of its

@@ -1,0 +1,163 @@
+/* Tests section 1 of the header, sentence by sentence: what is seen, where and when; and what it says of
+ * a frame that comes twice. A ring of three, in which a newcomer looks in at each office. */
+#include "burial_register.h"
+#include "report.h"
+
+enum { RING = 3, PLOTS = 64, STORE = BURIAL_STORE_WORDS, ROW = BURIAL_WRITE_WORDS, NONE = 0xFFFFFFFF };
+
+/* A row of frames on its way. */
+struct sent {
+    uint32_t row[ROW];
+    size_t words;
+};
+
+static uint32_t store[RING][STORE];
+
+static struct burial_session fresh(void)
+{
+    return burial_fresh_session(RING).session;
+}
+
+static void open_ring(void)
+{
+    for (uint32_t own = 0; own < RING; own++)
+        expect(burial_open_office(RING, own, PLOTS, store[own], STORE) == BURIAL_OK);
+}
+
+/* The value that a session reads. */
+static uint32_t reads(struct burial_session *session, uint32_t own, uint32_t plot)
+{
+    struct burial_plot_found found = burial_lent_read_plot(store[own], STORE, session, plot);
+    expect(found.refusal == BURIAL_OK);
+    return found.found ? found.entry.value : NONE;
+}
+
+/* The value that a newcomer reads; his reading shows nothing. */
+static uint32_t shown(uint32_t own, uint32_t plot)
+{
+    static uint32_t before[STORE];
+    struct burial_session newcomer = fresh();
+    memcpy(before, store[own], sizeof before);
+    uint32_t value = reads(&newcomer, own, plot);
+    expect(memcmp(before, store[own], sizeof before) == 0);
+    return value;
+}
+
+static struct sent writes(struct burial_session *session, uint32_t own, uint32_t plot, uint32_t value)
+{
+    struct sent sent;
+    struct burial_written wrote = burial_lent_write(store[own], STORE, session, plot, value, sent.row, ROW);
+    expect(wrote.refusal == BURIAL_OK);
+    sent.words = wrote.words;
+    return sent;
+}
+
+/* An office hears all frames of a row: those that it sends on. */
+static struct sent hears(uint32_t own, const struct sent *sent)
+{
+    struct sent onward = { .words = 0 };
+    size_t at, len;
+    for (at = 0; (len = burial_frame_length(sent->row + at, sent->words - at, RING)) != 0; at += len) {
+        struct burial_written written = burial_receive(store[own], STORE, sent->row + at, len,
+                                                       onward.row + onward.words, ROW - onward.words);
+        expect(written.refusal == BURIAL_OK);
+        onward.words += written.words;
+    }
+    expect(at == sent->words);
+    return onward;
+}
+
+static void test_journey(void)
+{
+    open_ring();
+    struct burial_session writer = fresh();
+    struct sent sent = writes(&writer, 0, 5, 709);
+    expect(shown(0, 5) == NONE && reads(&writer, 0, 5) == 709);
+    expect(reads(&writer, 1, 5) == 709 && reads(&writer, 2, 5) == 709);
+    sent = hears(1, &sent);
+    expect(sent.words != 0 && shown(1, 5) == NONE && shown(2, 5) == NONE);
+    sent = hears(2, &sent);
+    expect(sent.words == 0 && shown(2, 5) == 709);
+    end("shown at the last office; its session sees it everywhere at once");
+    expect(shown(0, 5) == NONE && shown(1, 5) == NONE);
+    end("elsewhere hidden, though every frame has been heard");
+}
+
+/* After that: at office 1 by a reader, at office 0 by an entry that depends on it. */
+static void test_later(void)
+{
+    struct burial_session reader = fresh();
+    expect(reads(&reader, 2, 5) == 709 && shown(1, 5) == NONE);
+    struct burial_session writer = reader;
+    struct sent sent = writes(&writer, 1, 6, 1);
+    expect(shown(1, 5) == NONE);
+    expect(reads(&reader, 1, 40) == NONE && shown(1, 5) == 709 && shown(1, 6) == NONE);
+    end("shown where a session that has read it reads, and not where it writes");
+    sent = hears(2, &sent);
+    expect(shown(2, 6) == NONE && shown(0, 5) == NONE);
+    sent = hears(0, &sent);
+    expect(sent.words == 0 && shown(0, 6) == 1 && shown(0, 5) == 709);
+    end("shown with an entry that depends on it");
+}
+
+static void test_second_journey(void)
+{
+    open_ring();
+    struct burial_session writer = fresh();
+    struct sent first = writes(&writer, 0, 5, 709), second = writes(&writer, 1, 6, 1);
+    second = hears(2, &second);
+    second = hears(0, &second);
+    expect(second.words == 0 && shown(0, 5) == 709 && shown(0, 6) == 1);
+    first = hears(1, &first);
+    first = hears(2, &first);
+    expect(first.words == 0 && shown(2, 5) == 709 && shown(2, 6) == NONE);
+    end("a carried entry has a second journey, and each ends at its own last office");
+}
+
+static void test_rank(void)
+{
+    open_ring();
+    struct burial_session early = fresh(), late = fresh();
+    struct sent sent = writes(&early, 0, 5, 709);
+    struct sent onward = hears(1, &sent);
+    struct sent later = writes(&late, 1, 5, 710);
+    hears(2, &onward);
+    later = hears(2, &later);
+    later = hears(0, &later);
+    expect(later.words == 0 && reads(&late, 1, 5) == 710);
+    expect(reads(&late, 2, 5) == 709 && reads(&late, 1, 5) == 709);
+    end("a later value loses to an older one that was hidden where it was written");
+    struct burial_session corrects = fresh();
+    expect(reads(&corrects, 2, 5) == 709);
+    writes(&corrects, 2, 5, 711);
+    expect(reads(&corrects, 2, 5) == 711 && reads(&corrects, 0, 5) == 711);
+    end("a correction by one who has read it wins");
+}
+
+static void test_again(void)
+{
+    static uint32_t before[STORE];
+    open_ring();
+    struct burial_session writer = fresh();
+    struct sent sent = writes(&writer, 0, 5, 709);
+    for (uint32_t own = 1; own < RING; own++) {
+        struct sent onward = hears(own, &sent);
+        memcpy(before, store[own], sizeof before);
+        struct sent again = hears(own, &sent);
+        expect(memcmp(before, store[own], sizeof before) == 0);
+        expect(again.words == onward.words && memcmp(again.row, onward.row, 4 * onward.words) == 0);
+        sent = onward;
+    }
+    end("a frame that comes twice changes nothing, and goes on once more");
+}
+
+int main(void)
+{
+    setvbuf(stdout, NULL, _IOLBF, 0);
+    test_journey();
+    test_later();
+    test_second_journey();
+    test_rank();
+    test_again();
+    return finish("seen");
+}
