@@ -158,7 +158,7 @@ extern "C" {
 
 /* Rows that are long enough for anything. */
 #define BURIAL_STORE_WORDS  4627u       /* a store, of a ring of 8 */
-#define BURIAL_WRITE_WORDS  4272u       /* what one write sends: 16 frames */
+#define BURIAL_WRITE_WORDS  4272u       /* what one write sends: at most 16 frames */
 #define BURIAL_FRAME_WORDS  267u        /* a frame: 8 offices, 255 dependencies */
 #define BURIAL_ANSWER_WORDS 48u         /* the answer of a joint reading of 16 plots */
 #define BURIAL_TOKEN_WORDS  4538u       /* a token: 8 offices, all read, 16 own entries */
