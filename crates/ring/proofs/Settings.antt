@@ -1,13 +1,12 @@
 -- `SettingsStay`, specs/Settings.antt: by `Holds` a store is sound and says what the run on contents has, whose offices keep their settings.
 -- Assumes nothing.
-use Prim.Native.Nat.{ℕ, _<_, _≤_}
+use Prim.Native.Nat.{ℕ, _≤_}
 use mathlib.Core.Bool.{true}
 use mathlib.Core.List.{List}
 use mathlib.Core.Path.{_∙_, _≡_, ap, refl}
-use lib.ListN.{length}
-use Rattle.store.specs.Offices.{Office, emptyOffice, need, officeOf, soundStore}
+use Rattle.store.specs.Offices.{Office, emptyOffice, officeOf, soundStore}
 use Rattle.office.specs.Calls.{StoreSettings, storeSettings}
-use Rattle.ring.specs.Run.{Call, contentsRun, onContents, run, starting, wordsRun, writerPast}
+use Rattle.ring.specs.Run.{Call, contentsRun, onContents, run, starting, wordsRun}
 use Rattle.ring.specs.Settings.{SettingsStay}
 use Rattle.ring.proofs.Fit.{OfficeFit}
 use Rattle.ring.proofs.Log.{entryIn}
