@@ -12,8 +12,12 @@ mod frame_breaks;
 mod frame_cases;
 #[path = "../tests/host/frame_spoils.rs"]
 mod frame_spoils;
+#[path = "../tests/host/joint.rs"]
+mod joint;
 #[path = "../tests/model/mod.rs"]
 mod model;
+#[path = "../tests/host/pasts.rs"]
+mod pasts;
 #[path = "../tests/host/random.rs"]
 mod random;
 #[path = "../tests/host/report.rs"]
@@ -52,7 +56,7 @@ const OUTCOMES: &[(&str, &[u32])] = &[
     ("open_office", &[1, 2]),
     ("fresh_session", &[1]),
     ("read_plot", &[2, 3, 4, 12]),
-    ("read_joint", &[2, 3, 4, 8, 12, 13]),
+    ("read_joint", &[2, 3, 4, 8, 12]),
     ("write", &[2, 3, 4, 5, 6, 7, 8, 10, 11, 12]),
     ("receive", &[2, 8, 9, 10, 11, 12]),
     ("read_frame", &[1, 9]),
@@ -70,8 +74,8 @@ const ACCEPTED: &[&str] = &[
     "read_plot: none",
     "read_plot: presented",
     "read_plot: own",
-    "read_joint: accepted",
-    "read_joint: empty list",
+    "read_joint: one plot alone",
+    "read_joint: goes together",
     "write: accepted",
     "write: carried",
     "receive: brought out",
@@ -196,6 +200,7 @@ fn main() -> ExitCode {
     let mut report = scripts(&mut random, report);
     queues(&mut random, &mut report);
     ACCEPTED.iter().for_each(|name| report.met(name));
+    joint::ACCEPTED.iter().for_each(|name| report.met(&format!("read_joint: {name}")));
     for (call, refusals) in OUTCOMES {
         refusals.iter().for_each(|refusal| report.met(&format!("{call}: refused {refusal}")));
     }

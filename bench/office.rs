@@ -12,13 +12,13 @@ mod sides;
 mod timing;
 
 use office_calls::{
-    Timed, JOINT, JOINT_BY_VALUE, LAST_HOP, MIDDLE, NEED, NO_STORE, PLOT, PLOT_BY_VALUE, READ_TOKEN,
-    SETTINGS, WRITE, WRITE_BY_VALUE, WRITE_TOKEN,
+    Timed, JOINT, JOINT_BY_VALUE, JOINT_OWN, LAST_HOP, MIDDLE, NEED, NO_STORE, PLOT, PLOTS, PLOT_BY_VALUE,
+    READ_TOKEN, SETTINGS, WRITE, WRITE_BY_VALUE, WRITE_TOKEN,
 };
-use office_cases::{empty, full, Case};
+use office_cases::{empty, full, own_at_empty, own_at_full, Case};
 use std::time::Duration;
 
-const CALLS: [Timed; 13] = [
+const CALLS: [Timed; 14] = [
     NEED,
     SETTINGS,
     NO_STORE,
@@ -26,6 +26,7 @@ const CALLS: [Timed; 13] = [
     PLOT_BY_VALUE,
     JOINT,
     JOINT_BY_VALUE,
+    JOINT_OWN,
     WRITE,
     WRITE_BY_VALUE,
     LAST_HOP,
@@ -51,9 +52,21 @@ Not timed: setting store, session and row back, which is done for a whole round 
 Empty: an office that holds nothing, a fresh session. Full: 32 entries of each office held and visible, less
 the one that a write or a frame brings; each depends on all before it; the session has read them all and
 carries 15. No store: lent a store of no words and refused 2 at once, which leaves the cost of crossing.
+Of own entries: the session carries one on each of the four plots, new here and above what is visible there;
+at the empty office it carries only these, at the full one 15, and those four are not held.
 The model is plain Rust, written to be read and not for speed. The fast version is Rust written for speed, with
 the same checks.
 ";
+
+/// An empty office and a full one.
+fn cases(timed: &Timed, offices: u32) -> [Case; 2] {
+    if timed.own {
+        return [own_at_empty(offices, &PLOTS), own_at_full(offices, &PLOTS)];
+    }
+    let (spare, hops) = ((timed.spare)(offices), (timed.hops)(offices));
+    let from = spare.map_or(1, |(office, _)| office);
+    [empty(offices, from, hops), full(offices, spare, hops)]
+}
 
 fn main() {
     println!("{TIMED}");
@@ -61,10 +74,9 @@ fn main() {
     println!("call               offices store    archive      model       fast     model      fast");
     for timed in &CALLS {
         for offices in [3, 8] {
-            let (spare, hops) = ((timed.spare)(offices), (timed.hops)(offices));
-            let from = spare.map_or(1, |(office, _)| office);
-            print_row(timed, "empty", &empty(offices, from, hops));
-            print_row(timed, "full", &full(offices, spare, hops));
+            let [empty, full] = cases(timed, offices);
+            print_row(timed, "empty", &empty);
+            print_row(timed, "full", &full);
         }
     }
 }

@@ -7,7 +7,8 @@ use crate::office_cases::{Case, Lent, OWN};
 use crate::sides::{Side, ARCHIVE, FAST};
 use std::hint::black_box;
 
-const PLOTS: [u32; 4] = [0, 5, 9, 40];
+/// What the joint readings list.
+pub const PLOTS: [u32; 4] = [0, 5, 9, 40];
 
 pub type Call = fn(&Side, &Case, &mut Lent);
 
@@ -25,6 +26,8 @@ pub struct Timed {
     pub call: Call,
     pub model: Call,
     pub changes: bool,
+    /// The session has an own entry on each of PLOTS that stands above what is visible there.
+    pub own: bool,
     pub spare: fn(u32) -> Option<(u32, u32)>,
     pub hops: fn(u32) -> u32,
 }
@@ -217,17 +220,18 @@ fn model_write_token(_: &Side, _: &Case, lent: &mut Lent) {
 
 /// A call that leaves what it is lent as it was.
 const fn reading(name: &'static str, call: Call, model: Call) -> Timed {
-    Timed { name, call, model, changes: false, spare: |_| None, hops: |_| 0 }
+    Timed { name, call, model, changes: false, own: false, spare: |_| None, hops: |_| 0 }
 }
 
 /// A call that makes the office's entry 32.
 const fn writing(name: &'static str, call: Call) -> Timed {
-    Timed { name, call, model: model_write, changes: true, spare: |_| Some((OWN, 32)), hops: |_| 0 }
+    let (spare, hops) = (|_| Some((OWN, 32)), |_| 0);
+    Timed { name, call, model: model_write, changes: true, own: false, spare, hops }
 }
 
 /// A call that takes a frame with one entry more.
 const fn receiving(name: &'static str, spare: fn(u32) -> Option<(u32, u32)>, hops: fn(u32) -> u32) -> Timed {
-    Timed { name, call: receive, model: model_receive, changes: true, spare, hops }
+    Timed { name, call: receive, model: model_receive, changes: true, own: false, spare, hops }
 }
 
 pub const NEED: Timed = reading("store_need", need, model_need);
@@ -237,6 +241,7 @@ pub const PLOT: Timed = reading("read_plot", plot, model_plot);
 pub const PLOT_BY_VALUE: Timed = reading("  by value", plot_by_value, model_plot);
 pub const JOINT: Timed = reading("read_joint of 4", joint, model_joint);
 pub const JOINT_BY_VALUE: Timed = reading("  by value", joint_by_value, model_joint);
+pub const JOINT_OWN: Timed = Timed { own: true, ..reading("  of own entries", joint, model_joint) };
 pub const WRITE: Timed = writing("write", write);
 pub const WRITE_BY_VALUE: Timed = writing("  by value", write_by_value);
 pub const LAST_HOP: Timed = receiving("receive, last hop", |_| Some((1, 32)), |_| 0);

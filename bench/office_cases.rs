@@ -4,7 +4,7 @@
 
 use crate::model::codec::{write_frame, Frame};
 use crate::model::entry::{ids, insert, Clock, Entry, IdSet, SERIALS};
-use crate::model::office::{open_office, store_need};
+use crate::model::office::{open_office, read_joint, store_need};
 use crate::model::session::{fresh_session, Session};
 use crate::model::store::Store;
 use crate::model::token::{token_words, write_token};
@@ -77,14 +77,20 @@ fn filled(offices: u32, set: &IdSet) -> Vec<u32> {
     words
 }
 
-/// Has read the whole set and carries the last entries of it, as far as there are any.
-fn full_session(offices: u32, set: &IdSet) -> Session {
-    let mut session = fresh_session(offices).unwrap();
+/// The ids of a set in the order of the turns.
+fn in_turns(set: &IdSet) -> Vec<(u32, u32)> {
     let mut order: Vec<(u32, u32)> = ids(*set).collect();
     order.sort_by_key(|&(office, serial)| (serial, office));
+    order
+}
+
+/// Has read the whole set and carries the last entries of it, so many or as far as there are any.
+fn full_session(offices: u32, set: &IdSet, carried: usize) -> Session {
+    let mut session = fresh_session(offices).unwrap();
+    let order = in_turns(set);
     session.read = *set;
     session.clock[..offices as usize].fill(SERIALS);
-    for &id in &order[order.len().saturating_sub(CARRIED)..] {
+    for &id in &order[order.len().saturating_sub(carried)..] {
         session.own[session.count] = entry(offices, id, set);
         session.count += 1;
     }
@@ -119,7 +125,7 @@ pub fn full(offices: u32, spare: Option<(u32, u32)>, hops: u32) -> Case {
 }
 
 fn holding(offices: u32, set: &IdSet, spare: Option<(u32, u32)>, hops: u32) -> Case {
-    let session = full_session(offices, set);
+    let session = full_session(offices, set, CARRIED);
     let lent = Lent { store: filled(offices, set), session, row: vec![0; 5_000] };
     let last = Entry {
         deps: spare.map_or(IdSet::default(), |_| *set),
@@ -140,4 +146,48 @@ pub fn partly(offices: u32, held: u32, from: Option<u32>, hops: u32) -> Case {
         (office, serial)
     });
     holding(offices, &set, spare, hops)
+}
+
+/// The ids of the other offices, in turns.
+fn of_others(offices: u32) -> Vec<(u32, u32)> {
+    let mut order = in_turns(&all_but(offices, None));
+    order.retain(|&(office, _)| office != OWN);
+    order
+}
+
+fn hands_back_own(lent: &Lent, plots: &[u32]) -> bool {
+    let (mut lent, own) = (lent.clone(), lent.session.own_entries());
+    let own = &own[own.len() - plots.len()..];
+    read_joint(&mut lent.store, &mut lent.session, plots, &mut lent.row).unwrap();
+    own.iter().zip(lent.row.chunks_exact(3)).all(|(entry, words)| words == [1, entry.value, entry.payload()])
+}
+
+/// An office with the set, and a session that carries new entries besides, one on each of these plots.
+fn with_own(offices: u32, set: &IdSet, new: &[(u32, u32)], plots: &[u32]) -> Case {
+    let mut session = full_session(offices, set, CARRIED - plots.len());
+    let mut known = *set;
+    for (&(office, serial), &plot) in new.iter().zip(plots) {
+        session.own[session.count] = Entry { plot, ..entry(offices, (office, serial), &known) };
+        session.count += 1;
+        insert(&mut known, office, serial);
+    }
+    let lent = Lent { store: filled(offices, set), session, row: vec![0; 5_000] };
+    assert!(hands_back_own(&lent, plots));
+    Case { offices, lent, frame: vec![], token: token_of(&session) }
+}
+
+/// An office that holds nothing, and the first entries of the others.
+pub fn own_at_empty(offices: u32, plots: &[u32]) -> Case {
+    with_own(offices, &IdSet::default(), &of_others(offices)[..plots.len()], plots)
+}
+
+/// All that a ring can hold but for the last entries of the others, which are new.
+pub fn own_at_full(offices: u32, plots: &[u32]) -> Case {
+    let others = of_others(offices);
+    let new = &others[others.len() - plots.len()..];
+    let mut set = all_but(offices, None);
+    for &(office, serial) in new {
+        set[office as usize] &= !(1 << (serial - 1));
+    }
+    with_own(offices, &set, new, plots)
 }

@@ -165,7 +165,7 @@ extern "C" {
 
 /* 65536 * major + 256 * minor + patch. Another major version has other calls, or words of stores,
  * frames or tokens that this one does not read: keep the number beside what is kept. */
-#define BURIAL_VERSION      0x010000u
+#define BURIAL_VERSION      0x010100u
 
 /* The version of the archive that is linked: a host that starts compares it with BURIAL_VERSION,
  * and ends where they differ. */
@@ -206,10 +206,8 @@ uint32_t burial_version(void);
 /* A read id or a dependency is not held. Of a frame: one before it was not heard yet; hear that
  * one first, and then this one again. Of a session: as above. */
 #define BURIAL_MISSING      12u
-/* A joint reading only, and usual after a write: a plot that it asks for has an own entry of the
- * session, and no shown one or one that ranks below it. Read these plots one by one; with no
- * hearing in between that is the same moment. */
-#define BURIAL_OWN_ENTRY    13u
+/* 13 is never given: version 1.0 refused a joint reading of a plot with an own entry above the
+ * shown one; it now hands back that entry (section 9). */
 
 /* A refusal in words, for people. */
 static inline const char *burial_refusal_text(uint32_t refusal)
@@ -229,7 +227,6 @@ static inline const char *burial_refusal_text(uint32_t refusal)
     case BURIAL_UNMADE:       return "an entry names this office and was not made here";
     case BURIAL_DIFFERENT:    return "an entry is held with other content";
     case BURIAL_MISSING:      return "an entry that was read or is depended on is not held";
-    case BURIAL_OWN_ENTRY:    return "an own entry stands above what would be presented";
     default:                  return "no refusal of this library";
     }
 }
@@ -379,8 +376,11 @@ struct burial_written burial_receive(uint32_t *store, size_t store_len,
 
 /* ---- 9 Reading
  *
- * Store: all that the session has read is shown, with what that depends on, and so on.
- * Session: then the shown entry of each plot that is asked for is added to what it has read, and
+ * A reading hands back, of each plot that is asked for, the higher-ranked of the shown entry and
+ * the session's own entries on the plot; where an own entry has the same office and clock as the
+ * shown one, the shown one. A joint reading of one plot is the reading of that plot.
+ * Store: before that, all that the session has read is shown, with what that depends on, and so on.
+ * Session: the shown entry of each plot that is asked for is added to what it has read, and
  * that entry's clock is joined into its own. An own entry that is handed back adds nothing. */
 
 /* found is 1 with the entry that is handed back; or 0 with an entry of zeros, where the plot has
@@ -391,19 +391,20 @@ struct burial_plot_found {
     struct burial_entry entry;
 };
 
-/* Reads one plot: hands back the higher-ranked of the shown entry and the session's own entries
- * on the plot; where an own entry has the same office and clock as the shown one, the shown one.
+/* Reads one plot.
  * Refusals: BURIAL_BAD_STORE, BURIAL_BAD_CONTENT (the session), BURIAL_BAD_PLOT,
  * BURIAL_MISSING. */
 struct burial_plot_found burial_lent_read_plot(uint32_t *store, size_t store_len,
                                                struct burial_session *session, uint32_t plot);
 
 /* Reads up to 16 plots at one moment, the same plot more than once if asked; with no plot at all
- * it only shows what the session has read.
- * Answer: for each plot, in order, three words: 1, value, id (burial_id_office,
- * burial_id_serial); or 0, 0, 0 where no entry is shown.
+ * it only shows what the session has read. What it hands back goes together: where a reply is an
+ * entry, the reply on each other listed plot is no entry below what that entry's writer had read
+ * or written there.
+ * Answer: for each plot, in order, three words of the entry that is handed back: 1, value, id
+ * (burial_id_office, burial_id_serial); or 0, 0, 0 where there is none.
  * Refusals: BURIAL_BAD_STORE, BURIAL_BAD_CONTENT, BURIAL_BAD_PLOT, BURIAL_NO_ROOM (answer_len
- * under three words a plot), BURIAL_MISSING, BURIAL_OWN_ENTRY. */
+ * under three words a plot), BURIAL_MISSING. */
 uint32_t burial_lent_read_joint(uint32_t *store, size_t store_len, struct burial_session *session,
                                 const uint32_t *plots, size_t plots_len,
                                 uint32_t *answer, size_t answer_len);

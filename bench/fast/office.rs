@@ -28,10 +28,10 @@ pub fn open_office(offices: u32, own: u32, plots: u32, words: &mut [u32]) -> Res
     Ok(())
 }
 
-/// Adds the current entry of a plot to what the session has read.
-fn take(session: &mut Session, current: &Held) {
-    session.read[(current.office & 7) as usize] |= bit_of(current.serial);
-    join(&mut session.clock, current.clock());
+/// Adds the current entry of a plot to a session's read ids and clock.
+fn take(read: &mut Places, clock: &mut Places, current: &Held) {
+    read[(current.office & 7) as usize] |= bit_of(current.serial);
+    join(clock, current.clock());
 }
 
 /// The highest own entry on a plot, if it stands above the current one.
@@ -49,7 +49,7 @@ pub fn read_plot(words: &mut [u32], session: &mut Session, plot: u32) -> Result<
     let current = store.current(store.visible, plot);
     let reply = own_above(own, plot, current).copied().or_else(|| current.map(|held| held.entry()));
     if let Some(held) = &current {
-        take(session, held);
+        take(&mut session.read, &mut session.clock, held);
     }
     Ok(reply)
 }
@@ -65,20 +65,21 @@ pub fn read_joint(
     refuse_if(plots.len() > JOINT || plots.iter().any(|&plot| plot >= store.plots), refusal::PLOT)?;
     refuse_if(answer.len() < 3 * plots.len(), refusal::ROOM)?;
     refuse_if(!within(&session.read, store.held), refusal::MISSING)?;
-    let visible = store.brought_out(&session.read);
-    let mut current = [None; JOINT];
-    for (current, &plot) in current.iter_mut().zip(plots) {
-        *current = store.current(&visible, plot);
-        refuse_if(own_above(own, plot, *current).is_some(), refusal::OWN_ENTRY)?;
-    }
-    for (current, words) in current[..plots.len()].iter().zip(answer.as_chunks_mut().0) {
+    *store.visible = store.brought_out(&session.read);
+    // Read ids and clock grow aside, since the own entries are looked at until the end.
+    let (mut read, mut clock) = (session.read, session.clock);
+    for (&plot, words) in plots.iter().zip(answer.as_chunks_mut().0) {
+        let current = store.current(store.visible, plot);
         *words = [0; 3];
-        if let Some(held) = current {
+        if let Some(held) = &current {
             *words = [1, held.value(), payload(held.office, held.serial)];
-            take(session, held);
+            take(&mut read, &mut clock, held);
+        }
+        if let Some(entry) = own_above(own, plot, current) {
+            *words = [1, entry.value, payload(entry.office, entry.serial)];
         }
     }
-    *store.visible = visible;
+    (session.read, session.clock) = (read, clock);
     Ok(())
 }
 

@@ -1,7 +1,7 @@
 """The foreman's story. In a ring of three offices he writes at one, goes to the next with a token
 in his pocket while the line is slow, and writes again. A visitor who reads the second entry is
 shown the first one too, wherever she goes. The calls are in the order of scripts/foreman.txt;
-newcomers who look in, refusals and a night are added.
+his look at both entries, newcomers who look in, refusals and a night are added.
 """
 from burial import MAX_VALUE
 from house import House
@@ -31,11 +31,17 @@ def expect_read(house, own, who, plot, wanted):
     expect(found, wanted)
 
 
-def expect_newcomer(house, own, wanted):
-    """Both plots at one moment, for someone who comes in new."""
-    found = [say(one) for one in house.offices[own].read_joint(fresh_session(RING), [5, 6])]
-    print(f"office {own}: a newcomer reads plots 5 and 6 jointly: {'; '.join(found)}")
+def expect_both(house, own, who, wanted):
+    """What someone finds on both plots at one moment."""
+    name, session = who
+    found = [say(one) for one in house.offices[own].read_joint(session, [5, 6])]
+    print(f"office {own}: {name} reads plots 5 and 6 jointly: {'; '.join(found)}")
     expect(found, wanted)
+
+
+def expect_newcomer(house, own, wanted):
+    """The same for someone who comes in new."""
+    expect_both(house, own, ("a newcomer", fresh_session(RING)), wanted)
 
 
 def expect_heard(house, own, wanted):
@@ -66,12 +72,15 @@ def foreman_leaves(house):
 
 
 def foreman_arrives(house, token):
-    """At office 1 he finds what he wrote; with his next entry the first is sent from here too."""
+    """At office 1 he finds what he wrote; with his next entry the first is sent from here too. He
+    sees both, and nobody else does yet."""
     foreman = session_of(RING, token)
     expect_read(house, 1, ("the foreman", foreman), 5, "709 by 0.1")
     sent = house.write(1, foreman, 6, 1)
     print(f"office 1: he writes 1 to plot 6: {sent[0]} and {sent[1]} are sent")
     expect(sent, ["0.1", "1.1"])
+    expect_both(house, 1, ("the foreman", foreman), BOTH)
+    expect_newcomer(house, 1, NEITHER)
 
 
 def the_ring_hears(house):

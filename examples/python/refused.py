@@ -14,7 +14,6 @@ TEXTS = (  # by number, word for word those of the header
     "an entry names this office and was not made here",
     "an entry is held with other content",
     "an entry that was read or is depended on is not held",
-    "an own entry stands above what would be presented",
 )
 
 

@@ -37,14 +37,17 @@ static void test_ids(void)
     end("ids as words");
 }
 
-/* Each refusal has a text of its own, and there is one for other numbers. */
+/* Each refusal has a text of its own, and there is one for all other numbers, 13 the first of them. */
 static void test_texts(void)
 {
-    for (uint32_t i = 0; i <= BURIAL_OWN_ENTRY + 1; i++)
+    expect(BURIAL_MISSING == 12);
+    for (uint32_t i = 0; i <= 13; i++)
         for (uint32_t j = 0; j < i; j++)
             expect(strcmp(burial_refusal_text(i), burial_refusal_text(j)) != 0);
-    expect(burial_refusal_text(0xFFFFFFFF) == burial_refusal_text(BURIAL_OWN_ENTRY + 1));
-    end("refusals as text");
+    expect(strcmp(burial_refusal_text(13), "no refusal of this library") == 0);
+    expect(burial_refusal_text(14) == burial_refusal_text(13));
+    expect(burial_refusal_text(0xFFFFFFFF) == burial_refusal_text(13));
+    end("refusals as text, and 13 is none");
 }
 
 /* A write of a session that carries entries from elsewhere; its row is cut into frames of the ring. */

@@ -3,6 +3,7 @@
 #include "burial_register.h"
 #include "cases.h"
 #include "report.h"
+#include "sessions.h"
 
 /* A and B on their last way: none still to hear. */
 static const uint32_t last_a[] = {
@@ -61,12 +62,6 @@ static struct burial_session fresh(uint32_t offices)
     struct burial_token_read read = burial_fresh_session(offices);
     expect(read.refusal == BURIAL_OK && read.session.offices == offices && read.session.count == 0);
     return read.session;
-}
-
-/* By its parts, since the space before the count is no field. */
-static bool same_session(const struct burial_session *a, const struct burial_session *b)
-{
-    return memcmp(a, b, 17 * 4) == 0 && a->count == b->count && memcmp(a->own, b->own, sizeof a->own) == 0;
 }
 
 static bool filled_from(const uint32_t *row, size_t from, size_t len)
@@ -328,25 +323,103 @@ static void test_room(void)
     end("a row one word short is refused 8 and nothing has changed");
 }
 
+/* A joint reading that answers these words, and leaves the row beyond them. */
+static void expect_joint(struct office *office, struct burial_session *session, const uint32_t *plots,
+                         size_t count, const uint32_t *expected)
+{
+    uint32_t answer[51];
+    memset(answer, 0xA5, sizeof answer);
+    expect(joint_in(office, session, plots, count, answer, 51) == BURIAL_OK);
+    expect(memcmp(answer, expected, 12 * count) == 0 && filled_from(answer, 3 * count, 51));
+}
+
+/* Whether these ids of office 0 are all that a session has read. */
+static bool has_read(const struct burial_session *session, uint32_t ids)
+{
+    const uint32_t read[8] = { ids };
+    return memcmp(session->read, read, sizeof read) == 0;
+}
+
 static void test_joint(void)
 {
     struct office office = opened(3, 1);
-    struct burial_session session = fresh(3), reader = fresh(3);
+    struct burial_session reader = fresh(3);
     static const uint32_t plots[17] = { 4, 5, 4 };
     static const uint32_t none_then_a[9] = { 0, 0, 0, 1, 709, 1, 0, 0, 0 };
     uint32_t answer[51];
     memset(answer, 0xA5, sizeof answer);
-    expect(write_one(&office, &session, 4, 1) == BURIAL_OK);
-    expect(joint_in(&office, &session, plots, 2, answer, 51) == BURIAL_OWN_ENTRY);
-    expect(joint_in(&office, &session, plots, 17, answer, 51) == BURIAL_BAD_PLOT);
     hears(&office, last_a, LEN_A, NULL, 0);
-    expect(joint_in(&office, &session, plots, 2, answer, 51) == BURIAL_OWN_ENTRY);
-    expect(joint_in(&office, &session, plots + 1, 1, answer, 3) == BURIAL_OK);
-    expect(answer[0] == 1 && answer[1] == 709 && answer[2] == 1 && filled_from(answer, 3, 51));
-    expect(joint_in(&office, &reader, plots, 3, answer, 51) == BURIAL_OK);
-    expect(memcmp(answer, none_then_a, sizeof none_then_a) == 0 && filled_from(answer, 9, 51));
+    expect(joint_in(&office, &reader, plots, 17, answer, 51) == BURIAL_BAD_PLOT);
+    expect_joint(&office, &reader, plots, 3, none_then_a);
+    expect(has_read(&reader, 1) && reader.clock[0] == 1);
     closed(office);
-    end("a joint reading, and with an own write refused 13");
+    end("a joint reading, with a plot twice");
+}
+
+/* A session at office 1 has a write on plot 5 before A is shown there, and one after. */
+static void test_joint_own(void)
+{
+    struct office office = opened(3, 1);
+    struct burial_session session = fresh(3), newcomer = fresh(3);
+    static const uint32_t plots[] = { 5, 6, 7, 5, 6 };
+    static const uint32_t alone[] = { 1, 3, 0x101, 0, 0, 0, 0, 0, 0, 1, 3, 0x101, 0, 0, 0 };
+    static const uint32_t below[] = { 1, 709, 1, 1, 4, 0x102, 0, 0, 0, 1, 709, 1, 1, 4, 0x102 };
+    static const uint32_t above[] = { 1, 5, 0x103, 1, 4, 0x102, 0, 0, 0, 1, 5, 0x103, 1, 4, 0x102 };
+    static const uint32_t shown[] = { 1, 709, 1, 0, 0, 0, 0, 0, 0, 1, 709, 1, 0, 0, 0 };
+    expect(write_one(&office, &session, 5, 3) == BURIAL_OK);
+    expect_joint(&office, &session, plots, 5, alone);
+    expect(has_read(&session, 0) && unchanged(&office));
+    end("jointly an own entry is handed back where none is shown");
+    hears(&office, last_a, LEN_A, NULL, 0);
+    expect(write_one(&office, &session, 6, 4) == BURIAL_OK);
+    expect_joint(&office, &session, plots, 5, below);
+    expect(has_read(&session, 1) && session.clock[0] == 1);
+    end("jointly an own entry below the shown one gives way");
+    expect(write_one(&office, &session, 5, 5) == BURIAL_OK);
+    expect_joint(&office, &session, plots, 5, above);
+    expect(has_read(&session, 1) && unchanged(&office));
+    expect_joint(&office, &newcomer, plots, 5, shown);
+    end("jointly an own entry above the shown one is handed back, and only the shown one is read");
+    closed(office);
+}
+
+/* An own entry of A's name and clock, and with another value, is no entry above A. */
+static void test_joint_tie(void)
+{
+    struct office office = opened(3, 1);
+    struct burial_session session = fresh(3);
+    static const uint32_t plots[] = { 5 }, a[] = { 1, 709, 1 }, own[] = { 1, 710, 1 };
+    session.own[0] = burial_read_frame(frame_a, LEN_A, 3, 64).frame.entry;
+    session.own[0].value = 710;
+    session.count = 1;
+    expect_joint(&office, &session, plots, 1, own);
+    hears(&office, last_a, LEN_A, NULL, 0);
+    expect_joint(&office, &session, plots, 1, a);
+    expect(has_read(&session, 1));
+    closed(office);
+    end("jointly an own entry that ties with the shown one gives way");
+}
+
+/* An own entry on each of 16 plots, over A on plot 5; and a list without any. */
+static void test_joint_sixteen(void)
+{
+    struct office office = opened(3, 1);
+    struct burial_session session = fresh(3);
+    uint32_t plots[16], expected[48];
+    hears(&office, last_a, LEN_A, NULL, 0);
+    for (uint32_t i = 0; i < 16; i++) {
+        const uint32_t words[] = { 1, 100 + i, burial_id(1, i + 1) };
+        expect(write_one(&office, &session, i, 100 + i) == BURIAL_OK);
+        memcpy(expected + 3 * i, words, sizeof words);
+        plots[i] = i;
+    }
+    struct burial_session before = session;
+    expect_joint(&office, &session, plots, 0, expected);
+    expect(unchanged(&office) && same_session(&session, &before));
+    expect_joint(&office, &session, plots, 16, expected);
+    expect(unchanged(&office) && has_read(&session, 1) && session.count == 16);
+    closed(office);
+    end("jointly 16 own entries are handed back, and of an empty list nothing");
 }
 
 /* Each call on a store: the refusal of all, or a number that none gives. */
@@ -481,7 +554,7 @@ static void test_lent(void)
     struct office by_value = opened(3, 0), lent = opened(3, 0);
     struct burial_session session = fresh(3), before;
     uint32_t *row = filled(ROW), *other = filled(ROW), answer[6];
-    const uint32_t plots[] = { 6, 7 }, own[] = { 5 };
+    const uint32_t plots[] = { 5, 7 };
 
     struct burial_wrote wrote = burial_write(by_value.store, by_value.words, session, 5, 709, row, ROW);
     struct burial_written written = burial_lent_write(lent.store, lent.words, &session, 5, 709, other, ROW);
@@ -492,12 +565,12 @@ static void test_lent(void)
     struct burial_plot_found found = burial_lent_read_plot(lent.store, lent.words, &session, 5);
     expect(found.refusal == BURIAL_OK && found.found == 1 && found.entry.value == 709);
     expect(burial_lent_read_joint(lent.store, lent.words, &session, plots, 2, answer, 6) == BURIAL_OK);
-    expect(answer[0] == 0 && answer[3] == 0);
+    expect(answer[0] == 1 && answer[1] == 709 && answer[2] == 1 && answer[3] == 0);
 
     before = session;
     keep(&lent);
     expect(burial_lent_read_plot(lent.store, lent.words, &session, 64).refusal == BURIAL_BAD_PLOT);
-    expect(burial_lent_read_joint(lent.store, lent.words, &session, own, 1, answer, 6) == BURIAL_OWN_ENTRY);
+    expect(burial_lent_read_joint(lent.store, lent.words, &session, plots, 2, answer, 5) == BURIAL_NO_ROOM);
     expect(burial_lent_write(lent.store, lent.words, &session, 5, BURIAL_MAX_VALUE + 1, other, ROW).refusal == BURIAL_BAD_VALUE);
     expect(same_session(&session, &before) && unchanged(&lent) && memcmp(row, other, 4 * ROW) == 0);
     free(row);
@@ -520,6 +593,9 @@ int main(void)
     test_value();
     test_room();
     test_joint();
+    test_joint_own();
+    test_joint_tie();
+    test_joint_sixteen();
     test_damaged();
     test_token();
     test_longest_token();

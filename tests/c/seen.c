@@ -1,7 +1,9 @@
-/* Tests section 1 of the header, sentence by sentence: what is seen, where and when; and what it says of
- * a frame that comes twice. A ring of three, in which a newcomer looks in at each office. */
+/* Tests section 1 of the header, sentence by sentence: what is seen, where and when; what section 9 says
+ * of a joint reading; and what is said of a frame that comes twice. A ring of three, in which a newcomer
+ * looks in at each office. */
 #include "burial_register.h"
 #include "report.h"
+#include "sessions.h"
 
 enum { RING = 3, PLOTS = 64, STORE = BURIAL_STORE_WORDS, ROW = BURIAL_WRITE_WORDS, NONE = 0xFFFFFFFF };
 
@@ -30,6 +32,15 @@ static uint32_t reads(struct burial_session *session, uint32_t own, uint32_t plo
     struct burial_plot_found found = burial_lent_read_plot(store[own], STORE, session, plot);
     expect(found.refusal == BURIAL_OK);
     return found.found ? found.entry.value : NONE;
+}
+
+/* Whether a session that reads plots 5 and 6 jointly is handed back these values. */
+static bool reads_both(struct burial_session *session, uint32_t own, uint32_t five, uint32_t six)
+{
+    static const uint32_t plots[] = { 5, 6 };
+    uint32_t answer[6] = { 0 };
+    expect(burial_lent_read_joint(store[own], STORE, session, plots, 2, answer, 6) == BURIAL_OK);
+    return (answer[0] ? answer[1] : NONE) == five && (answer[3] ? answer[4] : NONE) == six;
 }
 
 /* The value that a newcomer reads; his reading shows nothing. */
@@ -134,6 +145,86 @@ static void test_rank(void)
     end("a correction by one who has read it wins");
 }
 
+/* Two plots, one of them hers. */
+static void test_own_jointly(void)
+{
+    open_ring();
+    struct burial_session early = fresh(), late = fresh(), newcomer = fresh();
+    struct sent sent = writes(&early, 0, 5, 709);
+    for (uint32_t own = 0; own < RING; own++)
+        expect(reads_both(&early, own, 709, NONE) && reads_both(&newcomer, own, NONE, NONE));
+    end("jointly too a session sees its own entries at once, at every office");
+    writes(&late, 1, 5, 710);
+    writes(&late, 1, 6, 1);
+    sent = hears(1, &sent);
+    hears(2, &sent);
+    expect(reads_both(&late, 1, 710, 1) && reads_both(&newcomer, 2, 709, NONE));
+    expect(reads_both(&late, 2, 709, 1) && reads_both(&late, 1, 709, 1));
+    end("jointly too the higher-ranked of the shown entry and the own one");
+}
+
+/* She reads plot 5 at office 2, where it is shown, and writes at office 1, where it is hidden; then she
+ * corrects both plots. Whoever is handed back her entry of plot 6 gets that of plot 5 which she knew of. */
+static void test_together(void)
+{
+    open_ring();
+    struct burial_session writer = fresh(), she = fresh(), reader = fresh();
+    struct sent sent = writes(&writer, 0, 5, 709);
+    sent = hears(1, &sent);
+    hears(2, &sent);
+    expect(reads(&she, 2, 5) == 709);
+    struct sent first = writes(&she, 1, 6, 1);
+    expect(shown(0, 5) == NONE && reads_both(&she, 0, 709, 1));
+    expect(shown(1, 5) == NONE && reads_both(&she, 1, 709, 1));
+    struct sent second = writes(&she, 1, 5, 710), third = writes(&she, 1, 6, 2);
+    for (uint32_t own = 0; own < RING; own++)
+        expect(reads_both(&she, own, 710, 2));
+    end("jointly an own entry goes together with what its writer had read or written");
+    struct sent *const frames[] = { &first, &second, &third };
+    for (int i = 0; i < 3; i++) {
+        *frames[i] = hears(2, frames[i]);
+        hears(0, frames[i]);
+    }
+    expect(shown(2, 6) == NONE && reads(&reader, 0, 6) == 2);
+    expect(reads_both(&reader, 2, 710, 2) && reads_both(&reader, 1, 710, 2));
+    end("jointly a shown entry goes together with what its writer had read or written");
+}
+
+/* On a copy of the office the plot is read by itself. */
+static void expect_alone(const struct burial_session *session, uint32_t own, uint32_t plot)
+{
+    static uint32_t copy[STORE];
+    struct burial_session single = *session, joint = *session;
+    uint32_t answer[3] = { 0 };
+    memcpy(copy, store[own], sizeof copy);
+    struct burial_plot_found found = burial_lent_read_plot(copy, STORE, &single, plot);
+    expect(found.refusal == BURIAL_OK);
+    expect(burial_lent_read_joint(store[own], STORE, &joint, &plot, 1, answer, 3) == BURIAL_OK);
+    expect(answer[0] == found.found && answer[1] == found.entry.value);
+    expect(answer[2] == burial_id(found.entry.office, found.entry.serial));
+    expect(memcmp(copy, store[own], sizeof copy) == 0 && same_session(&single, &joint));
+}
+
+/* Plots with a shown entry, with an own one above it and below it, with an own one alone, and with none. */
+static void test_alone(void)
+{
+    open_ring();
+    struct burial_session writer = fresh(), reader = fresh(), both = fresh();
+    struct sent sent = writes(&writer, 0, 5, 709);
+    writes(&both, 1, 5, 710);
+    sent = hears(1, &sent);
+    hears(2, &sent);
+    expect(reads(&reader, 2, 5) == 709);
+    writes(&reader, 1, 5, 711);
+    writes(&both, 0, 6, 1);
+    const struct burial_session sessions[] = { fresh(), writer, reader, both };
+    for (uint32_t own = 0; own < RING; own++)
+        for (int i = 0; i < 4; i++)
+            for (uint32_t plot = 5; plot < 8; plot++)
+                expect_alone(&sessions[i], own, plot);
+    end("a joint reading of one plot is the reading of that plot");
+}
+
 static void test_again(void)
 {
     static uint32_t before[STORE];
@@ -158,6 +249,9 @@ int main(void)
     test_later();
     test_second_journey();
     test_rank();
+    test_own_jointly();
+    test_together();
+    test_alone();
     test_again();
     return finish("seen");
 }

@@ -75,7 +75,8 @@ static void frame_bytes(void)
     expect(burial_check_frame((const uint8_t *)row, 4 * frame_words, RING, PLOTS) == BURIAL_OK);
 }
 
-/* A session that carries 14 entries of office 0; the frame of the first of them is heard at office 1. */
+/* A session that carries 14 entries of office 0; the frame of the first of them is heard at office 1. Its
+ * joint reading hands back all of them. */
 static void lay(void)
 {
     burial_open_office(RING, 0, PLOTS, store, STORE);
@@ -88,7 +89,7 @@ static void lay(void)
     burial_open_office(RING, 1, PLOTS, store, STORE);
     frame_words = burial_frame_length(row, ROW, RING);
     for (uint32_t i = 0; i < BURIAL_JOINT; i++)
-        plots[i] = 30 + i;
+        plots[i] = i;
 }
 
 int main(void)

@@ -3,8 +3,10 @@
 
 mod archive;
 mod frame_cases;
+mod joint;
 #[path = "../model/mod.rs"]
 mod model;
+mod pasts;
 mod random;
 mod report;
 mod ring;
@@ -21,16 +23,7 @@ use twin::Twin;
 const SEED: u64 = 0x0FF1_CE20_2601_5EED;
 
 const PLOT: &[&str] = &["none", "presented", "own", "refused 2", "refused 3", "refused 4", "refused 12"];
-const JOINT: &[&str] = &[
-    "accepted",
-    "empty list",
-    "refused 2",
-    "refused 3",
-    "refused 4",
-    "refused 8",
-    "refused 12",
-    "refused 13",
-];
+const JOINT: &[&str] = &["one plot alone", "refused 2", "refused 3", "refused 4", "refused 8", "refused 12"];
 const WRITE: &[&str] = &[
     "accepted",
     "carried",
@@ -62,8 +55,11 @@ const OUTCOMES: &[(&str, &[&str])] = &[
     ("store_settings", &["accepted", "refused 2"]),
     ("read_plot", PLOT),
     ("read_plot, lent", PLOT),
+    ("read_joint", joint::ACCEPTED),
+    ("read_joint, lent", joint::ACCEPTED),
     ("read_joint", JOINT),
     ("read_joint, lent", JOINT),
+    ("read_joint", &["goes together"]),
     ("write", WRITE),
     ("write, lent", WRITE),
     ("receive", RECEIVE),

@@ -2,6 +2,7 @@
 
 use crate::model::office::{open_office, store_need};
 use crate::model::session::{fresh_session, Session};
+use crate::pasts::Pasts;
 use crate::single::some_plots;
 use crate::twin::Twin;
 use std::collections::VecDeque;
@@ -14,6 +15,7 @@ struct Ring {
     stores: Vec<Vec<u32>>,
     waiting: Vec<VecDeque<Vec<u32>>>,
     sessions: Vec<Session>,
+    pasts: Pasts,
 }
 
 impl Ring {
@@ -28,7 +30,7 @@ impl Ring {
         }
         let waiting = vec![VecDeque::new(); offices as usize];
         let sessions = vec![fresh_session(offices).unwrap(); 3];
-        Ring { offices, plots, stores, waiting, sessions }
+        Ring { offices, plots, stores, waiting, sessions, pasts: Pasts::new() }
     }
 
     /// Frames go to the next office in the order of the row.
@@ -67,6 +69,24 @@ impl Ring {
         self.sessions[at] = if twin.random.one_in(2) { fresh } else { self.sessions[from] };
     }
 
+    fn read_joint(&mut self, twin: &mut Twin, office: usize, at: usize) {
+        let plots = some_plots(&mut twin.random, self.plots, &self.sessions[at]);
+        let answer = twin.read_joint(&mut self.stores[office], &mut self.sessions[at], &plots);
+        if let Some(holds) = answer.and_then(|answer| self.pasts.goes_together(&plots, &answer)) {
+            twin.report.check("read_joint: goes together", holds, || format!("plots {plots:?}"));
+        }
+    }
+
+    fn write(&mut self, twin: &mut Twin, office: usize, at: usize, plot: u32) {
+        let value = twin.random.below(1 << 28);
+        let words = twin.write(&mut self.stores[office], &mut self.sessions[at], plot, value);
+        if !words.is_empty() {
+            // The new entry is the last of its session's.
+            self.pasts.made(self.sessions[at].own_entries().last().unwrap());
+        }
+        self.send(office, &words);
+    }
+
     fn step(&mut self, twin: &mut Twin) {
         let office = twin.random.index(self.offices as usize);
         let at = twin.random.index(self.sessions.len());
@@ -75,15 +95,8 @@ impl Ring {
             0 => self.another_session(twin),
             1 => self.hear_early(twin, office),
             2..=4 => twin.read_plot(&mut self.stores[office], &mut self.sessions[at], plot),
-            5 | 6 => {
-                let plots = some_plots(&mut twin.random, self.plots);
-                twin.read_joint(&mut self.stores[office], &mut self.sessions[at], &plots);
-            }
-            7..=9 => {
-                let value = twin.random.below(1 << 28);
-                let words = twin.write(&mut self.stores[office], &mut self.sessions[at], plot, value);
-                self.send(office, &words);
-            }
+            5 | 6 => self.read_joint(twin, office, at),
+            7..=9 => self.write(twin, office, at, plot),
             _ => self.hear(twin, office),
         }
     }

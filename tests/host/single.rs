@@ -36,10 +36,20 @@ fn some_value(random: &mut Random) -> u32 {
     }
 }
 
+/// A plot in range, often one with an own entry of the session.
+fn some_listed(random: &mut Random, plots: u32, session: &Session) -> u32 {
+    let own = session.own[random.index(session.count.clamp(1, 16))].plot;
+    if own < plots && random.one_in(3) {
+        own
+    } else {
+        random.below(plots)
+    }
+}
+
 /// A list for a joint reading, sometimes too long or with a plot out of range.
-pub fn some_plots(random: &mut Random, plots: u32) -> Vec<u32> {
+pub fn some_plots(random: &mut Random, plots: u32, session: &Session) -> Vec<u32> {
     let len = random.pick(&[0, 1, 1, 2, 2, 3, 5, 16, 17]);
-    let mut list: Vec<u32> = (0..len).map(|_| random.below(plots)).collect();
+    let mut list: Vec<u32> = (0..len).map(|_| some_listed(random, plots, session)).collect();
     if len > 0 && random.one_in(10) {
         let at = random.index(len);
         list[at] = random.pick(&[plots, plots + 1, u32::MAX]);
@@ -83,7 +93,7 @@ fn one_call(twin: &mut Twin, content: &Content, store: &mut [u32], session: &mut
     match twin.random.below(4) {
         0 => twin.read_plot(store, session, plot),
         1 => {
-            let plots = some_plots(&mut twin.random, content.plots);
+            let plots = some_plots(&mut twin.random, content.plots, session);
             twin.read_joint(store, session, &plots);
         }
         2 => {

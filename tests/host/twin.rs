@@ -3,6 +3,7 @@
 
 use crate::archive::forms::{JointRead, PlotRead, Write};
 use crate::archive::{lent, office as archive};
+use crate::joint;
 use crate::model::entry::Entry;
 use crate::model::office as model;
 use crate::model::session::Session;
@@ -53,7 +54,7 @@ fn first_difference(archive: &[u32], model: &[u32]) -> String {
 }
 
 fn describe<R: std::fmt::Debug>(archive: &Left<R>, model: &Left<R>) -> String {
-    let mut text = format!("archive {:?}, model {:?}", archive.reply, model.reply);
+    let mut text = format!("archive {:?}, not {:?}", archive.reply, model.reply);
     text += &format!("; store {}", first_difference(&archive.store, &model.store));
     text += &format!("; row {}", first_difference(&archive.row, &model.row));
     if archive.session != model.session {
@@ -97,20 +98,20 @@ impl Twin {
         &mut self,
         call: &str,
         outcome: &str,
-        archive: Left<R>,
-        model: Left<R>,
+        archive: &Left<R>,
+        model: &Left<R>,
     ) {
-        self.report.check(&format!("{call}: {outcome}"), archive == model, || describe(&archive, &model));
+        self.report.check(&format!("{call}: {outcome}"), archive == model, || describe(archive, model));
     }
 
-    fn compare_forms<R: Clone + PartialEq + std::fmt::Debug>(
+    fn compare_forms<R: PartialEq + std::fmt::Debug>(
         &mut self,
         outcome: &str,
-        archive: [Form<Left<R>>; 2],
-        model: Left<R>,
+        archive: &[Form<Left<R>>; 2],
+        model: &Left<R>,
     ) {
         for (call, left) in archive {
-            self.compare(call, outcome, left, model.clone());
+            self.compare(call, outcome, left, model);
         }
     }
 
@@ -143,19 +144,52 @@ impl Twin {
         });
         let reply = result.map_or_else(|refusal| (refusal, found(&None)), |entry| (0, found(&entry)));
         let model = Left { reply, store: store.to_vec(), session: *session, row: vec![] };
-        self.compare_forms(&outcome, archive, model);
+        self.compare_forms(&outcome, &archive, &model);
     }
 
-    pub fn read_joint(&mut self, store: &mut [u32], session: &mut Session, plots: &[u32]) {
+    /// A joint reading of one plot is the reading of that plot.
+    fn read_each_alone(&mut self, store: &[u32], session: &Session, plots: &[u32]) {
+        let lent = (store, session, &[0; 3][..]);
+        let mut plots = plots.to_vec();
+        plots.sort();
+        plots.dedup();
+        for plot in plots {
+            let single = on_copies(PLOT_READS, lent, |call, store, session, row| {
+                let (refusal, (found, entry)) = call(store, session, plot);
+                row.copy_from_slice(&[found, entry.value, entry.payload()]);
+                refusal
+            });
+            let joint =
+                on_copies(JOINT_READS, lent, |call, store, session, row| call(store, session, &[plot], row));
+            for ((call, joint), (_, single)) in joint.iter().zip(&single) {
+                self.compare(call, "one plot alone", joint, single);
+            }
+        }
+    }
+
+    /// The answer; none where the reading is refused.
+    pub fn read_joint(
+        &mut self,
+        store: &mut [u32],
+        session: &mut Session,
+        plots: &[u32],
+    ) -> Option<Vec<u32>> {
+        self.read_each_alone(store, session, plots);
         let mut row = self.row_for(3 * plots.len());
         let archive = on_copies(JOINT_READS, (store, session, &row), |call, store, session, row| {
             call(store, session, plots, row)
         });
 
         let result = model::read_joint(store, session, plots, &mut row);
-        let outcome = outcome(&result, |_| if plots.is_empty() { "empty list" } else { "accepted" });
+        let outcomes = match result {
+            Ok(()) => joint::outcomes(store, session, plots).into_iter().map(String::from).collect(),
+            Err(refusal) => vec![format!("refused {refusal}")],
+        };
         let model = Left { reply: result.err().unwrap_or(0), store: store.to_vec(), session: *session, row };
-        self.compare_forms(&outcome, archive, model);
+        for outcome in &outcomes {
+            self.compare_forms(outcome, &archive, &model);
+        }
+        result.ok().map(|()| model.row[..3 * plots.len()].to_vec())
     }
 
     /// The row's words that were written, if any.
@@ -173,9 +207,8 @@ impl Twin {
         let outcome = outcome(&result, |&words| if words > one { "carried" } else { "accepted" });
         let reply = reply(&result, |&words| words);
         let model = Left { reply, store: store.to_vec(), session: *session, row };
-        let written = model.row[..reply.1].to_vec();
-        self.compare_forms(&outcome, archive, model);
-        written
+        self.compare_forms(&outcome, &archive, &model);
+        model.row[..reply.1].to_vec()
     }
 
     /// The words that go on, if any; none where the frame is refused.
@@ -190,8 +223,7 @@ impl Twin {
         let outcome = outcome(&result, |&words| if words == 0 { "brought out" } else { "went on" });
         let reply = reply(&result, |&words| words);
         let model = Left { reply, store: store.to_vec(), session, row };
-        let written = model.row[..reply.1].to_vec();
-        self.compare("receive", &outcome, archive, model);
-        (reply.0 == 0).then_some(written)
+        self.compare("receive", &outcome, &archive, &model);
+        (reply.0 == 0).then(|| model.row[..reply.1].to_vec())
     }
 }

@@ -11,6 +11,7 @@ fn main() -> ExitCode {
     let mut report = report::Report::default();
     report.model_checks(model::checks::frame_checks());
     report.model_checks(model::office_checks::office_checks());
+    report.model_checks(model::joint_checks::joint_checks());
     report.model_checks(model::token_checks::token_checks());
     report.model_checks(model::script_checks::script_checks());
     report.finish("model")

@@ -1,10 +1,11 @@
-//! An independent model of the burial register, written from document 01 alone.
+//! An independent model of the burial register, written from documents 01 and 02 (i) alone.
 //! Its records have the layout of the C header, so that a test can lend them to the archive as they are.
 #![allow(dead_code)]
 
 pub mod checks;
 pub mod codec;
 pub mod entry;
+pub mod joint_checks;
 pub mod office;
 pub mod office_checks;
 pub mod refusal;

@@ -77,12 +77,6 @@ pub fn read_plot(words: &mut [u32], session: &mut Session, plot: u32) -> Result<
     Ok(read_one(session, plot, store.presented(plot, &visible)))
 }
 
-/// True if a joint reading of the plot could not hand back what the store presents.
-fn own_stands_above(session: &Session, plot: u32, presented: Option<Entry>) -> bool {
-    let mut own = session.own_entries().iter().filter(|entry| entry.plot == plot);
-    own.any(|entry| presented.is_none_or(|above| entry.outranks(&above)))
-}
-
 fn answer_words(entry: Option<Entry>) -> [u32; 3] {
     match entry {
         Some(entry) => [1, entry.value, id_payload(entry.office, entry.serial)],
@@ -102,15 +96,11 @@ pub fn read_joint(
     refuse_if(answer.len() < 3 * plots.len(), refusal::ROOM)?;
     check_held(&store, &session.read)?;
     let visible = store.brought_out(&session.read);
-    let presented = |plot: u32| store.presented(plot, &visible);
-    refuse_if(
-        plots.iter().any(|&plot| own_stands_above(session, plot, presented(plot))),
-        refusal::OWN_ENTRY,
-    )?;
-    for (&plot, row) in plots.iter().zip(answer.chunks_exact_mut(3)) {
-        row.copy_from_slice(&answer_words(read_one(session, plot, presented(plot))));
-    }
     store.show(&visible);
+    for (&plot, row) in plots.iter().zip(answer.chunks_exact_mut(3)) {
+        let handed_back = read_one(session, plot, store.presented(plot, &visible));
+        row.copy_from_slice(&answer_words(handed_back));
+    }
     Ok(())
 }
 

@@ -3,21 +3,20 @@
 use super::checks::{Check, FRAME_A, FRAME_B};
 use super::codec::{write_frame, Frame};
 use super::entry::Entry;
-use super::office::{open_office, read_joint, read_plot, receive, store_need, store_settings, write};
+use super::office::{open_office, read_plot, receive, store_need, store_settings, write};
 use super::session::{fresh_session, Session};
-use super::store::Store;
 
-fn opened(offices: u32, own: u32) -> Vec<u32> {
+pub fn opened(offices: u32, own: u32) -> Vec<u32> {
     let mut store = vec![0xEEEE_EEEE; store_need(offices, own, 64).unwrap()];
     open_office(offices, own, 64, &mut store).unwrap();
     store
 }
 
-fn fresh(offices: u32) -> Session {
+pub fn fresh(offices: u32) -> Session {
     fresh_session(offices).unwrap()
 }
 
-fn words_of(frame: &Frame) -> Vec<u32> {
+pub fn words_of(frame: &Frame) -> Vec<u32> {
     let mut row = vec![0; frame.words()];
     write_frame(frame, &mut row).unwrap();
     row
@@ -207,38 +206,6 @@ fn order_of_write_refusals() -> bool {
     in_order && call.write() == Ok(7)
 }
 
-fn joint_readings() -> bool {
-    let (mut store, mut session, mut row) = (opened(3, 2), fresh(3), [0; 40]);
-    let hidden = Frame { hops: 1, ..super::checks::content_a() };
-    receive(&mut store, &words_of(&hidden), &mut row).unwrap();
-    let before = (store.clone(), session);
-    let none = read_joint(&mut store, &mut session, &[5, 5], &mut row[..6]) == Ok(()) && row[..6] == [0; 6];
-    let nothing_read = (store.clone(), session) == before;
-    session.read[0] = 1;
-    let empty = read_joint(&mut store, &mut session, &[], &mut []) == Ok(());
-    let shown = Store::sound(&mut store).unwrap().visible()[0] == 1;
-    let some = read_joint(&mut store, &mut session, &[5, 6, 5], &mut row[..9]) == Ok(());
-    none && nothing_read
-        && empty
-        && shown
-        && some
-        && row[..9] == [1, 709, 1, 0, 0, 0, 1, 709, 1]
-        && session.clock[0] == 1
-}
-
-fn joint_refusals() -> bool {
-    let (mut store, mut session, mut row) = (opened(3, 0), fresh(3), [0; 60]);
-    write(&mut store, &mut session, 5, 1, &mut row).unwrap();
-    let own = read_joint(&mut store, &mut session, &[4, 5], &mut row) == Err(13);
-    let beside = read_joint(&mut store, &mut session, &[4], &mut row) == Ok(());
-    session.read[1] = 2;
-    let missing = read_joint(&mut store, &mut session, &[5], &mut row) == Err(12);
-    let room = read_joint(&mut store, &mut session, &[5], &mut row[..2]) == Err(8);
-    let plot = read_joint(&mut store, &mut session, &[64], &mut row[..2]) == Err(4);
-    let many = read_joint(&mut store, &mut session, &[0; 17], &mut row) == Err(4);
-    own && beside && missing && room && plot && many
-}
-
 fn refusals_of_hearing() -> bool {
     let mut store = opened(3, 0);
     let mut row = [7; 20];
@@ -262,8 +229,7 @@ fn tie_hands_back_the_presented() -> bool {
     let mut reader = session;
     reader.read[0] = 1;
     reader.own[0].value = 2;
-    let tied = read_plot(&mut store, &mut reader, 5).unwrap().map(|entry| entry.value) == Some(1);
-    tied && read_joint(&mut store, &mut reader, &[5], &mut [0; 3]) == Ok(())
+    read_plot(&mut store, &mut reader, 5).unwrap().map(|entry| entry.value) == Some(1)
 }
 
 pub fn office_checks() -> Vec<Check> {
@@ -279,8 +245,6 @@ pub fn office_checks() -> Vec<Check> {
         ("model: three clocks in any order", three_clocks()),
         ("model: a correction outranks what was read", correction_outranks()),
         ("model: order of refusals of writing", order_of_write_refusals()),
-        ("model: joint readings", joint_readings()),
-        ("model: refusals of joint readings", joint_refusals()),
         ("model: refusals of hearing", refusals_of_hearing()),
         ("model: a tie hands back the presented entry", tie_hands_back_the_presented()),
     ]

@@ -1,4 +1,4 @@
-//! Document 01's refusal numbers.
+//! Document 01's refusal numbers, less the last, which document 02 (i) takes away.
 
 /// Ring size, own office or plots out of range.
 pub const SETTINGS: u32 = 1;
@@ -22,5 +22,3 @@ pub const UNMADE: u32 = 10;
 pub const DIFFERENT: u32 = 11;
 /// An id is not held.
 pub const MISSING: u32 = 12;
-/// A joint reading lists a plot with an own entry above what is presented.
-pub const OWN_ENTRY: u32 = 13;

@@ -1,3 +1,4 @@
+pub mod Refusals
 pub mod Cases
 pub mod Entries
 pub mod Words

@@ -2,7 +2,7 @@
 -- Assumes nothing.
 use Prim.Native.Nat.{ℕ, zero, suc}
 use Rattle.frame.specs.declared.refusal.Refusal.{Refusal}
-use Rattle.frame.specs.declared.refusal.Refusal.the-variants.{Settings, Store, Content, Plot, Value, OfficeFull, SessionFull, Room, Format, Unmade, Different, Missing, OwnWrite}
+use Rattle.frame.specs.declared.refusal.Refusal.the-variants.{Settings, Store, Content, Plot, Value, OfficeFull, SessionFull, Room, Format, Unmade, Different, Missing}
 use Rattle.frame.specs.declared.refusal.Status.{Status}
 use Rattle.frame.specs.declared.refusal.Status.the-variants.{Accepted, Refused}
 use Rattle.frame.specs.declared.refusal.Written.{Written}
@@ -22,7 +22,6 @@ numberOf Format = 9
 numberOf Unmade = 10
 numberOf Different = 11
 numberOf Missing = 12
-numberOf OwnWrite = 13
 
 -- the refusal number of an answer, 0 for none
 unfoldable pub codeOf : Status → ℕ

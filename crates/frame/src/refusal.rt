@@ -16,7 +16,6 @@ pub enum Refusal {
     Unmade, // 10: an entry names this office and was not made here
     Different, // 11: an entry is held with other content
     Missing, // 12: a dependency or a read id is not held
-    OwnWrite, // 13: an own write outranks what would be current on a plot
 }
 
 pub enum Status {
@@ -32,7 +31,7 @@ pub enum Written {
 
 // The refusal of a number.
 pub fn refusal_of(code: u32) -> Refusal
-    requires { ⌜ (1 ≤ code) × (code ≤ 13) ⌝ }
+    requires { ⌜ (1 ≤ code) × (code ≤ 12) ⌝ }
     ensures { λ r. ⌜ numberOf r ≡ code ⌝ }
 {
     match code {
@@ -47,8 +46,7 @@ pub fn refusal_of(code: u32) -> Refusal
         9 => Refusal::Format,
         10 => Refusal::Unmade,
         11 => Refusal::Different,
-        12 => Refusal::Missing,
-        _ => Refusal::OwnWrite,
+        _ => Refusal::Missing,
     }
 }
 
@@ -69,7 +67,6 @@ pub fn number_of(refusal: Refusal) -> u32
         Refusal::Unmade => 10,
         Refusal::Different => 11,
         Refusal::Missing => 12,
-        Refusal::OwnWrite => 13,
     }
 }
 

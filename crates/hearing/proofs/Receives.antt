@@ -37,7 +37,7 @@ use Rattle.office.proofs.KeepCalls.{Known, known, takes-new, kept, seed-set, se
 use Rattle.office.proofs.Slots.{settings, slot-of}
 
 -- its number is one of the paper's
-pub receive-le : (O : Office) (f : Frame) (room : ℕ) → receiveCode O f room ≤ 13
+pub receive-le : (O : Office) (f : Frame) (room : ℕ) → receiveCode O f room ≤ 12
 unfolding receiveCode
 receive-le O f room =
     or-le _ _ (entry-le O (f .entry)) (check-le _ 12 _ (omega arith) (check-le _ 8 0 (omega arith) (omega arith)))

@@ -1,5 +1,5 @@
--- The bounds of paper 01 in the calls of an office, by computing: each kept and passed by one; and refusals 11 and 13 from each side. Assumes
--- nothing.
+-- The bounds of paper 01 in the calls of an office, by computing: each kept and passed by one; refusals 10 and 11
+-- from each side, and what readings hand back. Assumes nothing.
 use Prim.Native.Nat.{ℕ, _+_}
 use mathlib.Core.Bool.{true}
 use mathlib.Core.List.{List, [], _∷_}
@@ -21,9 +21,9 @@ use Rattle.frame.specs.Words.{clockFrom, clockWords, idWordIf, idWords, idWords
 use Rattle.frame.specs.declared.entry.Entry.{Entry}
 use Rattle.frame.proofs.Bounds.{carrying, loaded}
 use Rattle.frame.proofs.Cases.{entryA}
-use Rattle.store.specs.Offices.{Office, Some, bestOwn, bestTo, better, clockOf, consider, current, emptyOffice, gapless, heldOk, hold, made, maxTo, reveal, settingsOk, soundOffice}
+use Rattle.store.specs.Offices.{None, Office, Some, bestOwn, bestTo, better, clockOf, consider, current, emptyOffice, gapless, heldOk, hold, made, maxTo, reveal, settingsOk, soundOffice}
 use Rattle.store.specs.Reveal.{revealed, steps}
-use Rattle.office.specs.Calls.{allNoneOver, answerWords, entryCode, handed, holdAll, holdNew, jointCode, jointOn, missing, newEntry, noneOver, noted, notedAll, openOffice, ownCode, plotsOk, readCode, readOn, receiveCode, receiveOn, receiveSends, receivedBy, sentOf, storeNeed, threeWords, writeCode, writeOn, wroteSession}
+use Rattle.office.specs.Calls.{answerWords, entryCode, handed, holdAll, holdNew, jointCode, jointOn, missing, newEntry, noted, notedAll, openOffice, ownCode, plotsOk, readCode, readOn, receiveCode, receiveOn, receiveSends, receivedBy, sentOf, storeNeed, threeWords, writeCode, writeOn, wroteSession}
 use Rattle.office.proofs.Cases.{before, gotA}
 
 -- office 0 of a ring of three that holds of its own entries those of the set w, all hidden
@@ -154,16 +154,17 @@ pub record Sides : Type 0 where
   -- 10: "it names this office and was not made here"; held here, it was
   pub not-made : receiveOn (maker 0) (framed 3 0 entryA) [] .code ≡ 10
   pub made-here : receiveOn (hold (maker 0) entryA) (framed 3 0 entryA) [] .code ≡ 0
-  -- 13: an own entry outranks what would be presented, or none would be; not the same one, nor a lower one, nor one on another plot
-  pub own-higher : jointOn (gotA 0) (carrying (higherThanA ∷ [])) (5 ∷ []) (replicate 3 0) .code ≡ 13
-  pub own-alone : jointOn before (carrying (entryA ∷ [])) (5 ∷ []) (replicate 3 0) .code ≡ 13
-  pub own-same : jointOn (gotA 0) (carrying (entryA ∷ [])) (5 ∷ []) (replicate 3 0) .code ≡ 0
-  pub own-lower : jointOn (gotA 0) (carrying (lowerThanA ∷ [])) (5 ∷ []) (replicate 3 0) .code ≡ 0
-  pub own-elsewhere : jointOn before (carrying (entryA ∷ [])) (6 ∷ []) (replicate 3 0) .code ≡ 0
   -- a reading hands back the higher-ranked; "the same name and clock but other content ties with the presented one, the presented one is handed back"
   pub hands-own : readOn (gotA 0) (carrying (higherThanA ∷ [])) 5 .found ≡ Some higherThanA ∷ []
   pub hands-presented : readOn (gotA 0) (carrying (lowerThanA ∷ [])) 5 .found ≡ Some entryA ∷ []
   pub tie : readOn (gotA 0) (carrying (otherValue ∷ [])) 5 .found ≡ Some entryA ∷ []
+  -- a joint one does as a single one (02, (i)), on each plot and at each repeat: its row has the own entry, the read names the presented one
+  pub joint-own : jointOn (gotA 0) (carrying (higherThanA ∷ [])) (5 ∷ 6 ∷ 5 ∷ []) (replicate 9 0) .found ≡ Some higherThanA ∷ None ∷ Some higherThanA ∷ []
+  pub joint-words : jointOn (gotA 0) (carrying (higherThanA ∷ [])) (5 ∷ 6 ∷ 5 ∷ []) (replicate 9 0) .row ≡ 1 ∷ 1 ∷ 2 ∷ 0 ∷ 0 ∷ 0 ∷ 1 ∷ 1 ∷ 2 ∷ []
+  pub joint-reads : jointOn (gotA 0) (carrying (higherThanA ∷ [])) (5 ∷ 6 ∷ 5 ∷ []) (replicate 9 0) .session .read ≡ 1 ∷ 0 ∷ 0 ∷ 0 ∷ 0 ∷ 0 ∷ 0 ∷ 0 ∷ []
+  pub joint-alone : jointOn before (carrying (entryA ∷ [])) (5 ∷ []) (replicate 3 0) .found ≡ Some entryA ∷ []
+  pub joint-presented : jointOn (gotA 0) (carrying (lowerThanA ∷ [])) (5 ∷ []) (replicate 3 0) .found ≡ Some entryA ∷ []
+  pub joint-tie : jointOn (gotA 0) (carrying (otherValue ∷ [])) (5 ∷ []) (replicate 3 0) .found ≡ Some entryA ∷ []
 
 pub record Bounds : Type 0 where
   pub opening : Openings
@@ -173,7 +174,7 @@ pub record Bounds : Type 0 where
   pub sides : Sides
 
 pub bounds : Bounds
-unfolding both ringOk settingsOk openOffice storeNeed trailingZeros either implies allBelow check orElse part tab sumBelow eqWords bit has isIn unite minus inserted wordIn subsetOf lowestIn lowestOf join higher ranksAbove outranks clockWords clockFrom idWordIf idWordsTo idWords idsFrom total summed clockPlaceOk clockOk idsPlaceOk idsOk boundsOk entryOk sameContent bodyWords frameWords frameOk frameOf accepts laid idsOf ownOk sessionOk rowsOf steps revealed made maxTo clockOf reveal hold better consider bestTo current bestOwn entryCode ownCode noted readCode handed plotsOk noneOver allNoneOver jointCode notedAll threeWords answerWords newEntry missing sentOf writeCode holdAll wroteSession receiveCode holdNew receivedBy receiveSends readOn jointOn writeOn receiveOn heldOk gapless soundOffice
+unfolding both ringOk settingsOk openOffice storeNeed trailingZeros either implies allBelow check orElse part tab sumBelow eqWords bit has isIn unite minus inserted wordIn subsetOf lowestIn lowestOf join higher ranksAbove outranks clockWords clockFrom idWordIf idWordsTo idWords idsFrom total summed clockPlaceOk clockOk idsPlaceOk idsOk boundsOk entryOk sameContent bodyWords frameWords frameOk frameOf accepts laid idsOf ownOk sessionOk rowsOf steps revealed made maxTo clockOf reveal hold better consider bestTo current bestOwn entryCode ownCode noted readCode handed plotsOk jointCode notedAll threeWords answerWords newEntry missing sentOf writeCode holdAll wroteSession receiveCode holdNew receivedBy receiveSends readOn jointOn writeOn receiveOn heldOk gapless soundOffice
 bounds =
     record {
       opening =
@@ -243,13 +244,14 @@ bounds =
             other-deps = refl;
             not-made = refl;
             made-here = refl;
-            own-higher = refl;
-            own-alone = refl;
-            own-same = refl;
-            own-lower = refl;
-            own-elsewhere = refl;
             hands-own = refl;
             hands-presented = refl;
             tie = refl;
+            joint-own = refl;
+            joint-words = refl;
+            joint-reads = refl;
+            joint-alone = refl;
+            joint-presented = refl;
+            joint-tie = refl;
           };
     }

@@ -21,7 +21,7 @@ use Rattle.frame.specs.declared.entry.Frame.{Frame}
 use Rattle.frame.proofs.Cases.{entryA, entryB}
 use Rattle.store.specs.Offices.{None, Office, Some, bestOwn, bestTo, better, clockOf, consider, current, emptyOffice, hold, made, maxTo, reveal, settingsOk}
 use Rattle.store.specs.Reveal.{revealed, steps}
-use Rattle.office.specs.Calls.{allNoneOver, answerWords, entryCode, freshCode, handed, holdAll, holdNew, jointCode, jointOn, missing, newEntry, noneOver, noted, notedAll, openOffice, ownCode, plotsOk, readCode, readOn, receiveCode, receiveOn, receiveSends, receivedBy, sentOf, storeNeed, threeWords, writeCode, writeOn, wroteSession}
+use Rattle.office.specs.Calls.{answerWords, entryCode, freshCode, handed, holdAll, holdNew, jointCode, jointOn, missing, newEntry, noted, notedAll, openOffice, ownCode, plotsOk, readCode, readOn, receiveCode, receiveOn, receiveSends, receivedBy, sentOf, storeNeed, threeWords, writeCode, writeOn, wroteSession}
 
 abbrev row : List ℕ
 row = replicate 20 0
@@ -55,7 +55,8 @@ pub record Cases : Type 0 where
   pub reading-hands : readOn gotB readB 6 .found ≡ Some entryB ∷ []
   pub joint-hands : jointOn gotB readB (6 ∷ 7 ∷ []) row .found ≡ Some entryB ∷ None ∷ []
   pub joint-row : jointOn gotB readB (6 ∷ 7 ∷ []) (9 ∷ 9 ∷ 9 ∷ 9 ∷ 9 ∷ 9 ∷ 9 ∷ []) .row ≡ 1 ∷ 1 ∷ 257 ∷ 0 ∷ 0 ∷ 0 ∷ 9 ∷ []
-  pub joint-own : jointOn before carriesA (5 ∷ []) row .code ≡ 13
+  pub joint-own : jointOn before carriesA (5 ∷ 6 ∷ []) row .found ≡ Some entryA ∷ None ∷ []
+  pub joint-own-unread : jointOn before carriesA (5 ∷ 6 ∷ []) row .session ≡ carriesA
   -- a write on an office that made nothing is accepted, is framed in seven words, and is held
   pub write-code : writeOn before (freshContent 3) 5 709 row .code ≡ 0
   pub write-count : writeOn before (freshContent 3) 5 709 row .count ≡ 7
@@ -77,7 +78,7 @@ pub record Cases : Type 0 where
   pub need-of-3 : storeNeed 3 2 64 ≡ (0, 1747)
 
 pub cases : Cases
-unfolding trailingZeros both either implies allBelow check orElse part tab sumBelow eqWords bit has isIn unite minus inserted wordIn subsetOf lowestIn lowestOf join higher ranksAbove outranks clockWords clockFrom idWordIf idWordsTo idWords idsFrom total summed clockPlaceOk clockOk idsPlaceOk idsOk boundsOk entryOk sameContent ringOk bodyWords frameWords frameOk frameOf accepts laid idsOf ownOk sessionOk rowsOf steps revealed settingsOk made maxTo clockOf reveal hold better consider bestTo current bestOwn entryCode ownCode noted readCode handed plotsOk noneOver allNoneOver jointCode notedAll threeWords answerWords newEntry missing sentOf writeCode holdAll wroteSession receiveCode holdNew receivedBy receiveSends readOn jointOn writeOn receiveOn freshCode openOffice storeNeed
+unfolding trailingZeros both either implies allBelow check orElse part tab sumBelow eqWords bit has isIn unite minus inserted wordIn subsetOf lowestIn lowestOf join higher ranksAbove outranks clockWords clockFrom idWordIf idWordsTo idWords idsFrom total summed clockPlaceOk clockOk idsPlaceOk idsOk boundsOk entryOk sameContent ringOk bodyWords frameWords frameOk frameOf accepts laid idsOf ownOk sessionOk rowsOf steps revealed settingsOk made maxTo clockOf reveal hold better consider bestTo current bestOwn entryCode ownCode noted readCode handed plotsOk jointCode notedAll threeWords answerWords newEntry missing sentOf writeCode holdAll wroteSession receiveCode holdNew receivedBy receiveSends readOn jointOn writeOn receiveOn freshCode openOffice storeNeed
 cases =
     record {
       last-shows = refl;
@@ -90,6 +91,7 @@ cases =
       joint-hands = refl;
       joint-row = refl;
       joint-own = refl;
+      joint-own-unread = refl;
       write-code = refl;
       write-count = refl;
       write-held = refl;

@@ -1,7 +1,7 @@
 -- Readings and receives on a sound office leave a sound one, whatever the session and the frame. Assumes nothing.
 use Prim.Native.Nat.{ℕ, _*_, _+_, _/_, _<_, suc, zero}
 use mathlib.Core.Bool.{Bool, cond, false, true}
-use mathlib.Core.List.{List, List·Memᴰ, List·Memᴰ·cases-cons, List·Memᴰ·not-nil, [], _∷_, map}
+use mathlib.Core.List.{List, List·Memᴰ, List·Memᴰ·cases-cons, List·Memᴰ·not-nil, [], _∷_}
 use mathlib.Core.Logic.{⊎-elim}
 use mathlib.Core.Path.{_∙_, _≡_, refl, sym}
 use native.Mathlib.Omega.{arith}
@@ -24,9 +24,9 @@ use Rattle.frame.specs.declared.entry.Frame.{Frame}
 use Rattle.frame.proofs.Entries.{EntryFacts, entry-facts, frame-facts}
 use Rattle.frame.proofs.Ids.{id-office, id-range, inserted-new}
 use Rattle.frame.proofs.Sessions.{SaneContent, SaneEntry}
-use Rattle.store.specs.Offices.{Office, current, hold, reveal}
+use Rattle.store.specs.Offices.{Office, hold, reveal}
 use Rattle.store.proofs.Keep.{Sound, Takes, hold-sound, reveal-sound}
-use Rattle.office.specs.Calls.{Result, allNoneOver, answerWords, entryCode, given, handed, holdNew, jointCode, jointOn, noted, notedAll, onward, ownCode, plotsOk, readCode, readOn, receiveCode, receiveOn, receiveSends, receivedBy}
+use Rattle.office.specs.Calls.{Result, answerWords, entryCode, given, handedAll, holdNew, jointCode, jointOn, onward, ownCode, plotsOk, readAll, readCode, readOn, receiveCode, receiveOn, receiveSends, receivedBy}
 
 -- ---- reading
 
@@ -42,30 +42,6 @@ took O f row =
       sent = receiveSends f;
     }
 
-abbrev pub readOne : Office → Content → ℕ → Result Office Frame
-readOne O s plot =
-    record {
-      code = 0;
-      count = 0;
-      found = handed (reveal O (s .read)) s plot ∷ [];
-      store = reveal O (s .read);
-      session = noted (current (reveal O (s .read)) plot) s;
-      row = [];
-      sent = [];
-    }
-
-abbrev pub readAll : Office → Content → List ℕ → List ℕ → Result Office Frame
-readAll O s plots row =
-    record {
-      code = 0;
-      count = 0;
-      found = map (current (reveal O (s .read))) plots;
-      store = reveal O (s .read);
-      session = notedAll (reveal O (s .read)) plots s;
-      row = laid (answerWords (reveal O (s .read)) plots) row;
-      sent = [];
-    }
-
 module _ (O : Office) (S : Sound O) (s : Content) (N : SaneContent s) where
   revealed-sound : subsetOf (s .read) (O .held) ≡ true → Sound (reveal O (s .read))
   revealed-sound t = reveal-sound O S (s .read) (N .read) (subset-within (s .read) (O .held) (N .read) t)
@@ -75,7 +51,7 @@ module _ (O : Office) (S : Sound O) (s : Content) (N : SaneContent s) where
   read-keeps plot = go (sessionOk (O .offices) (O .plots) s) (ltb plot (O .plots)) (subsetOf (s .read) (O .held)) refl
     where
       go : (a b c : Bool) → subsetOf (s .read) (O .held) ≡ c
-          → Sound (given (check a 3 (check b 4 (check c 12 0))) O s [] (readOne O s plot) .store)
+          → Sound (given (check a 3 (check b 4 (check c 12 0))) O s [] (readAll O s (plot ∷ []) []) .store)
       go true true true q = revealed-sound q
       go true true false q = S
       go true false c q = S
@@ -85,16 +61,15 @@ module _ (O : Office) (S : Sound O) (s : Content) (N : SaneContent s) where
   unfolding jointOn jointCode check
   joint-keeps plots row =
       go (sessionOk (O .offices) (O .plots) s) (both (leb (length plots) 16) (plotsOk (O .plots) plots)) (leb (3 * length plots) (length row))
-      (subsetOf (s .read) (O .held)) refl (allNoneOver (reveal O (s .read)) s plots)
+      (subsetOf (s .read) (O .held)) refl
     where
-      go : (a b d c : Bool) → subsetOf (s .read) (O .held) ≡ c → (f : Bool)
-          → Sound (given (check a 3 (check b 4 (check d 8 (check c 12 (check f 13 0))))) O s row (readAll O s plots row) .store)
-      go true true true true q true = revealed-sound q
-      go true true true true q false = S
-      go true true true false q f = S
-      go true true false c q f = S
-      go true false d c q f = S
-      go false b d c q f = S
+      go : (a b d c : Bool) → subsetOf (s .read) (O .held) ≡ c
+          → Sound (given (check a 3 (check b 4 (check d 8 (check c 12 0)))) O s row (readAll O s plots (laid (answerWords (handedAll O s plots)) row)) .store)
+      go true true true true q = revealed-sound q
+      go true true true false q = S
+      go true true false c q = S
+      go true false d c q = S
+      go false b d c q = S
 
 -- ---- receiving
 

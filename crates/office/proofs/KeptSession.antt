@@ -14,6 +14,7 @@ use Rattle.causal.specs.Lists.{zeros}
 use Rattle.causal.specs.Sets.{has, subsetOf, unite}
 use Rattle.causal.specs.Tests.{both}
 use Rattle.causal.proofs.Sets.{ids-inserted, ids-unite, in-or-out, subset-by, subset-within, unite-left, unite-right}
+use Rattle.frame.specs.Calls.{laid}
 use Rattle.frame.specs.Entries.{entryOk, idOf}
 use Rattle.frame.specs.Sessions.{Content, idsOf, sessionOk}
 use Rattle.frame.specs.Tokens.{rowsOf}
@@ -24,8 +25,7 @@ use Rattle.frame.proofs.Sessions.{SaneContent, SessionFacts, facts-session, ids
 use Rattle.store.specs.Offices.{Found, None, Office, Some, current, made, reveal}
 use Rattle.store.proofs.Best.{current-from}
 use Rattle.store.proofs.Keep.{Sound, reveal-sound}
-use Rattle.office.specs.Calls.{allNoneOver, given, jointCode, jointOn, newEntry, noted, notedAll, ownCode, plotsOk, readCode, readOn, writeCode, writeOn, writeSends, wroteSession}
-use Rattle.office.proofs.KeepCalls.{readAll, readOne}
+use Rattle.office.specs.Calls.{answerWords, given, handedAll, jointCode, jointOn, newEntry, noted, notedAll, ownCode, plotsOk, readAll, readCode, readOn, writeCode, writeOn, writeSends, wroteSession}
 use Rattle.office.proofs.KeepSession.{noted-ok}
 use Rattle.office.proofs.KeepWrite.{R, e-from, e-id, e-ok, e-set, not-own}
 
@@ -66,13 +66,16 @@ module _ (O : Office) (S : Sound O) (s : Content) (N : SaneContent s) (h : sessi
   unfolding reveal
   back s′ q = q
 
+  noted-session : (plots : List ℕ) → subsetOf (s .read) (O .held) ≡ true → sessionOk (O .offices) (O .plots) (notedAll (reveal O (s .read)) plots s) ≡ true
+  noted-session plots q = shift (notedAll (reveal O (s .read)) plots s) (all-q (reveal O (s .read)) (after q) plots s N (back s h))
+
   pub read-session : (plot : ℕ) → sessionOk (O .offices) (O .plots) (readOn O s plot .session) ≡ true
   unfolding readOn readCode check
   read-session plot = go (sessionOk (O .offices) (O .plots) s) (ltb plot (O .plots)) (subsetOf (s .read) (O .held)) refl
     where
       go : (a b c : Bool) → subsetOf (s .read) (O .held) ≡ c
-          → sessionOk (O .offices) (O .plots) (given (check a 3 (check b 4 (check c 12 0))) O s [] (readOne O s plot) .session) ≡ true
-      go true true true q = shift (noted (current (reveal O (s .read)) plot) s) (noted-q (reveal O (s .read)) (after q) plot s N (back s h))
+          → sessionOk (O .offices) (O .plots) (given (check a 3 (check b 4 (check c 12 0))) O s [] (readAll O s (plot ∷ []) []) .session) ≡ true
+      go true true true q = noted-session (plot ∷ []) q
       go true true false q = h
       go true false c q = h
       go false b c q = h
@@ -81,16 +84,15 @@ module _ (O : Office) (S : Sound O) (s : Content) (N : SaneContent s) (h : sessi
   unfolding jointOn jointCode check
   joint-session plots row =
       go (sessionOk (O .offices) (O .plots) s) (both (leb (length plots) 16) (plotsOk (O .plots) plots)) (leb (3 * length plots) (length row))
-      (subsetOf (s .read) (O .held)) refl (allNoneOver (reveal O (s .read)) s plots)
+      (subsetOf (s .read) (O .held)) refl
     where
-      go : (a b d c : Bool) → subsetOf (s .read) (O .held) ≡ c → (f : Bool)
-          → sessionOk (O .offices) (O .plots) (given (check a 3 (check b 4 (check d 8 (check c 12 (check f 13 0))))) O s row (readAll O s plots row) .session) ≡ true
-      go true true true true q true = shift (notedAll (reveal O (s .read)) plots s) (all-q (reveal O (s .read)) (after q) plots s N (back s h))
-      go true true true true q false = h
-      go true true true false q f = h
-      go true true false c q f = h
-      go true false d c q f = h
-      go false b d c q f = h
+      go : (a b d c : Bool) → subsetOf (s .read) (O .held) ≡ c
+          → sessionOk (O .offices) (O .plots) (given (check a 3 (check b 4 (check d 8 (check c 12 0)))) O s row (readAll O s plots (laid (answerWords (handedAll O s plots)) row)) .session) ≡ true
+      go true true true true q = noted-session plots q
+      go true true true false q = h
+      go true true false c q = h
+      go true false d c q = h
+      go false b d c q = h
 
   -- ---- a write
 

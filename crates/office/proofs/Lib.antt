@@ -9,7 +9,6 @@ pub mod KeepWrite
 pub mod KeepSession
 pub mod KeptSession
 pub mod Kept
-pub mod NoneOver
 pub mod Numbers
 pub mod OwnCodes
 pub mod Alone

@@ -22,7 +22,7 @@ use Rattle.frame.proofs.Bounds.{carrying, loaded}
 use Rattle.frame.proofs.Cases.{entryA, entryB}
 use Rattle.store.specs.Offices.{bestOwn, bestTo, better, clockOf, consider, current, entryAt, gapless, heldOk, hold, made, maxTo, officeOf, reveal, settingsOk, slotWords, slotsTo, soundOffice, soundStore, storeWords}
 use Rattle.store.specs.Reveal.{revealed, steps}
-use Rattle.office.specs.Calls.{Result, allNoneOver, answerWords, entryCode, handed, holdAll, holdNew, jointCode, jointOn, missing, newEntry, noneOver, noted, notedAll, openOffice, ownCode, plotsOk, readCode, readJoint, readOn, readPlot, receive, receiveCode, receiveOn, receiveSends, receivedBy, sentOf, threeWords, write, writeCode, writeOn, wroteSession}
+use Rattle.office.specs.Calls.{Result, answerWords, entryCode, handed, holdAll, holdNew, jointCode, jointOn, missing, newEntry, noted, notedAll, openOffice, ownCode, plotsOk, readCode, readJoint, readOn, readPlot, receive, receiveCode, receiveOn, receiveSends, receivedBy, sentOf, threeWords, write, writeCode, writeOn, wroteSession}
 use Rattle.office.proofs.Bounds.{made32, otherDeps, otherPlot, otherValue}
 use Rattle.office.proofs.Cases.{before, gotA, gotB, readB}
 
@@ -67,15 +67,14 @@ pub record Reading : Type 0 where
   pub order-3-4 : codes (readOn before stranger 64) (readOn before (freshContent 3) 64) ≡ 3 ∷ 4 ∷ []
   pub order-4-12 : codes (readOn before readB 64) (readOn before readB 5) ≡ 4 ∷ 12 ∷ []
 
--- "Read jointly. 2, 3 as before. 4 .. 8 .. 12 .. 13"
+-- "Read jointly. 2, 3 as before. 4 .. 8 .. 12"; then nothing (02, (i)), also where an own entry stands above what is presented
 pub record Joint : Type 0 where
   pub order-2-3 : codes (readJoint [] stranger [] []) (readJoint opened stranger [] []) ≡ 2 ∷ 3 ∷ []
   pub order-3-4 : codes (jointOn before stranger (64 ∷ []) row) (jointOn before (freshContent 3) (64 ∷ []) row) ≡ 3 ∷ 4 ∷ []
   pub order-4-8 : codes (jointOn before (freshContent 3) (64 ∷ []) []) (jointOn before (freshContent 3) (63 ∷ []) []) ≡ 4 ∷ 8 ∷ []
   pub order-17-8 : codes (jointOn before (freshContent 3) (replicate 17 5) []) (jointOn before (freshContent 3) (replicate 16 5) []) ≡ 4 ∷ 8 ∷ []
   pub order-8-12 : codes (jointOn before readB (5 ∷ []) []) (jointOn before readB (5 ∷ []) row) ≡ 8 ∷ 12 ∷ []
-  pub order-12-13 : codes (jointOn before (readBWith (elsewhere ∷ [])) (7 ∷ []) row)
-      (jointOn gotB (readBWith (elsewhere ∷ [])) (7 ∷ []) row) ≡ 12 ∷ 13 ∷ []
+  pub last-12 : codes (jointOn before (readBWith (elsewhere ∷ [])) (7 ∷ []) row) (jointOn gotB (readBWith (elsewhere ∷ [])) (7 ∷ []) row) ≡ 12 ∷ 0 ∷ []
 
 -- "Write. 2, 3, 4 as before. 5 .. 7 .. 6 .. 12 as before. Then for each own entry in order: 10 .. 11 .. 8"
 pub record Writing : Type 0 where
@@ -125,7 +124,7 @@ pub record Orders : Type 0 where
   pub receiving : Receiving
 
 pub orders : Orders
-unfolding both ringOk settingsOk openOffice trailingZeros either implies allBelow check orElse part tab sumBelow eqWords bit has isIn unite minus inserted wordIn subsetOf lowestIn lowestOf join higher ranksAbove outranks clockWords clockFrom idWordIf idWordsTo idWords idsFrom total summed clockPlaceOk clockOk idsPlaceOk idsOk boundsOk entryOk sameContent bodyWords frameWords frameOk frameOf accepts laid idsOf ownOk sessionOk rowsOf steps revealed made maxTo clockOf reveal hold better consider bestTo current bestOwn entryCode ownCode noted readCode handed plotsOk noneOver allNoneOver jointCode notedAll threeWords answerWords newEntry missing sentOf writeCode holdAll wroteSession receiveCode holdNew receivedBy receiveSends readOn jointOn writeOn receiveOn entryAt officeOf slotWords slotsTo storeWords heldOk gapless soundOffice soundStore readPlot readJoint write receive
+unfolding both ringOk settingsOk openOffice trailingZeros either implies allBelow check orElse part tab sumBelow eqWords bit has isIn unite minus inserted wordIn subsetOf lowestIn lowestOf join higher ranksAbove outranks clockWords clockFrom idWordIf idWordsTo idWords idsFrom total summed clockPlaceOk clockOk idsPlaceOk idsOk boundsOk entryOk sameContent bodyWords frameWords frameOk frameOf accepts laid idsOf ownOk sessionOk rowsOf steps revealed made maxTo clockOf reveal hold better consider bestTo current bestOwn entryCode ownCode noted readCode handed plotsOk jointCode notedAll threeWords answerWords newEntry missing sentOf writeCode holdAll wroteSession receiveCode holdNew receivedBy receiveSends readOn jointOn writeOn receiveOn entryAt officeOf slotWords slotsTo storeWords heldOk gapless soundOffice soundStore readPlot readJoint write receive
 orders =
     record {
       opening =
@@ -145,7 +144,7 @@ orders =
             order-4-8 = refl;
             order-17-8 = refl;
             order-8-12 = refl;
-            order-12-13 = refl;
+            last-12 = refl;
           };
       writing =
           record {

@@ -73,21 +73,21 @@ own-none O f n z = rw z refl
 
 -- ---- every number is one of the paper's
 
-pub check-le : (A : Bool) (k B : ℕ) → k ≤ 13 → B ≤ 13 → check A k B ≤ 13
+pub check-le : (A : Bool) (k B : ℕ) → k ≤ 12 → B ≤ 12 → check A k B ≤ 12
 unfolding check
 check-le true k B h l = l
 check-le false k B h l = h
 
-pub or-le : (a b : ℕ) → a ≤ 13 → b ≤ 13 → orElse a b ≤ 13
+pub or-le : (a b : ℕ) → a ≤ 12 → b ≤ 12 → orElse a b ≤ 12
 unfolding orElse
 or-le zero b h l = l
 or-le (suc a) b h l = h
 
-pub entry-le : (O : Office) (e : Entry) → entryCode O e ≤ 13
+pub entry-le : (O : Office) (e : Entry) → entryCode O e ≤ 12
 unfolding entryCode
 entry-le O e = check-le _ 10 _ (omega arith) (check-le _ 11 0 (omega arith) (omega arith))
 
-pub own-le : (O : Office) (es : List Entry) → ownCode O es ≤ 13
+pub own-le : (O : Office) (es : List Entry) → ownCode O es ≤ 12
 unfolding ownCode
 own-le O [] = omega arith
 own-le O (e ∷ es) = or-le (entryCode O e) (ownCode O es) (entry-le O e) (own-le O es)

@@ -1,7 +1,7 @@
 -- The calls of an office: for each, on contents, its refusal number (0: none) in the paper's order and what it does; and the call on words,
 -- which is that between reading the store and writing it. Paper 01, "Operations". Assumes nothing.
 use Prim.Native.Nat.{ℕ, zero, suc, _+_, _-_, _*_}
-use mathlib.Core.Bool.{Bool, true, false, cond, not}
+use mathlib.Core.Bool.{Bool, true, false, cond}
 use mathlib.Core.List.{List, [], _∷_, _++_, map}
 use lib.Dec.{leb, ltb, eqb}
 use lib.ListN.{length, set}
@@ -12,7 +12,7 @@ use Rattle.causal.specs.Sets.{isIn, unite, inserted, subsetOf}
 use Rattle.causal.specs.Clocks.{join}
 use Rattle.frame.specs.declared.entry.Entry.{Entry}
 use Rattle.frame.specs.declared.entry.Frame.{Frame}
-use Rattle.frame.specs.Entries.{idOf, nameOf, outranks, sameContent}
+use Rattle.frame.specs.Entries.{idOf, nameOf, sameContent}
 use Rattle.frame.specs.Frames.{framed, frameWords, frameOf, accepts}
 use Rattle.frame.specs.Calls.{laid}
 use Rattle.frame.specs.Sessions.{Content, sessionOk, freshContent, idsOf}
@@ -30,10 +30,22 @@ unfoldable pub ownCode : Office → List Entry → ℕ
 ownCode O [] = 0
 ownCode O (e ∷ es) = orElse (entryCode O e) (ownCode O es)
 
--- what a reading adds to the session: "add the presented entry's name to the read names and join its clock into the errand's"
+-- ---- Readings of one plot and of several
+
+-- "hand back the higher-ranked of that entry and the errand's own entries on the plot, or none"; paper 02, (i): a joint reading "hands back, per
+-- plot, the higher-ranked of the presented entry and her own, as a single reading does"
+unfoldable pub handed : Office → Content → ℕ → Found
+handed O s plot = bestOwn plot (current O plot) (s .own)
+
+-- what a reading adds to the session: "add the presented entry's name to the read names and join its clock into the errand's"; 02, (i): "The
+-- errand's read names still take the presented entries"
 unfoldable pub noted : Found → Content → Content
 noted None s = s
 noted (Some e) s = record { offices = s .offices; clock = join (s .clock) (e .clock); read = inserted (s .read) (idOf e); own = s .own }
+
+unfoldable pub notedAll : Office → List ℕ → Content → Content
+notedAll O [] s = s
+notedAll O (q ∷ qs) s = notedAll O qs (noted (current O q) s)
 
 -- ---- Read one plot
 
@@ -41,45 +53,26 @@ unfoldable pub readCode : Office → Content → ℕ → ℕ
 readCode O s plot =
     check (sessionOk (O .offices) (O .plots) s) 3 (check (ltb plot (O .plots)) 4 (check (subsetOf (s .read) (O .held)) 12 0))
 
--- "hand back the higher-ranked of that entry and the errand's own entries on the plot, or none"
-unfoldable pub handed : Office → Content → ℕ → Found
-handed O s plot = bestOwn plot (current O plot) (s .own)
-
 -- ---- Read jointly
 
 unfoldable pub plotsOk : ℕ → List ℕ → Bool
 plotsOk p [] = true
 plotsOk p (q ∷ qs) = both (ltb q p) (plotsOk p qs)
 
--- no "own entry that outranks the entry that would be presented there, or .. an own entry where none would be presented"
-unfoldable pub noneOver : ℕ → Found → List Entry → Bool
-noneOver plot b [] = true
-noneOver plot None (e ∷ es) = both (not (eqb (e .plot) plot)) (noneOver plot None es)
-noneOver plot (Some b) (e ∷ es) = both (not (both (eqb (e .plot) plot) (outranks e b))) (noneOver plot (Some b) es)
-
-unfoldable pub allNoneOver : Office → Content → List ℕ → Bool
-allNoneOver O s [] = true
-allNoneOver O s (q ∷ qs) = both (noneOver q (current O q) (s .own)) (allNoneOver O s qs)
-
 unfoldable pub jointCode : Office → Content → List ℕ → ℕ → ℕ
 jointCode O s plots room =
     check (sessionOk (O .offices) (O .plots) s) 3
     (check (both (leb (length plots) 16) (plotsOk (O .plots) plots)) 4
-    (check (leb (3 * length plots) room) 8
-    (check (subsetOf (s .read) (O .held)) 12 (check (allNoneOver (reveal O (s .read)) s plots) 13 0))))
-
-unfoldable pub notedAll : Office → List ℕ → Content → Content
-notedAll O [] s = s
-notedAll O (q ∷ qs) s = notedAll O qs (noted (current O q) s)
+    (check (leb (3 * length plots) room) 8 (check (subsetOf (s .read) (O .held)) 12 0)))
 
 -- "three words each: 1, value, name payload; or 0, 0, 0"
 unfoldable pub threeWords : Found → List ℕ
 threeWords None = 0 ∷ 0 ∷ 0 ∷ []
 threeWords (Some e) = 1 ∷ e .value ∷ nameOf e ∷ []
 
-unfoldable pub answerWords : Office → List ℕ → List ℕ
-answerWords O [] = []
-answerWords O (q ∷ qs) = threeWords (current O q) ++ answerWords O qs
+unfoldable pub answerWords : List Found → List ℕ
+answerWords [] = []
+answerWords (f ∷ fs) = threeWords f ++ answerWords fs
 
 -- ---- Write
 
@@ -178,31 +171,27 @@ given (suc c) a s row r = refusal (suc c) a s row
 
 -- ---- on contents
 
-unfoldable pub readOn : Office → Content → ℕ → Result Office Frame
-readOn O s plot =
-    given (readCode O s plot) O s []
-    (record {
-      code = 0;
-      count = 0;
-      found = handed (reveal O (s .read)) s plot ∷ [];
-      store = reveal O (s .read);
-      session = noted (current (reveal O (s .read)) plot) s;
-      row = [];
-      sent = [];
-    })
+-- what plots hand back once the read names are brought out, and an accepted reading of them, with the lent row as it leaves it
+abbrev pub handedAll : Office → Content → List ℕ → List Found
+handedAll O s plots = map (handed (reveal O (s .read)) s) plots
 
-unfoldable pub jointOn : Office → Content → List ℕ → List ℕ → Result Office Frame
-jointOn O s plots row =
-    given (jointCode O s plots (length row)) O s row
-    (record {
+abbrev pub readAll : Office → Content → List ℕ → List ℕ → Result Office Frame
+readAll O s plots row =
+    record {
       code = 0;
       count = 0;
-      found = map (current (reveal O (s .read))) plots;
+      found = handedAll O s plots;
       store = reveal O (s .read);
       session = notedAll (reveal O (s .read)) plots s;
-      row = laid (answerWords (reveal O (s .read)) plots) row;
+      row = row;
       sent = [];
-    })
+    }
+
+unfoldable pub readOn : Office → Content → ℕ → Result Office Frame
+readOn O s plot = given (readCode O s plot) O s [] (readAll O s (plot ∷ []) [])
+
+unfoldable pub jointOn : Office → Content → List ℕ → List ℕ → Result Office Frame
+jointOn O s plots row = given (jointCode O s plots (length row)) O s row (readAll O s plots (laid (answerWords (handedAll O s plots)) row))
 
 -- "The number of words written is returned"
 unfoldable pub writeOn : Office → Content → ℕ → ℕ → List ℕ → Result Office Frame

@@ -13,7 +13,7 @@ ghost use Rattle.office.specs.Decide.{bare, startCode};
 
 // The answer of a number.
 pub fn status_of(code: u32) -> Status
-    requires { ⌜ code ≤ 13 ⌝ }
+    requires { ⌜ code ≤ 12 ⌝ }
     ensures { λ r. ⌜ codeOf r ≡ code ⌝ }
 {
     if code == 0 {

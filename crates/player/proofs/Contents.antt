@@ -13,7 +13,7 @@ use Rattle.frame.specs.declared.entry.Entry.{Entry}
 use Rattle.frame.specs.declared.session.Session.{Session}
 use Rattle.store.specs.Offices.{Found, None, Office, Some, current, officeOf, reveal, soundStore}
 use Rattle.office.specs.Answers.{anyFound, entryFound, extendedBy, notedIn, readPlotSession, sessionIf}
-use Rattle.office.specs.Calls.{newEntry, noted, readCode, readOn, readPlot, write, writeCode, writeOn, wroteSession}
+use Rattle.office.specs.Calls.{newEntry, readPlot, write, writeCode, writeOn, wroteSession}
 use Rattle.ring.proofs.WriteKeeps.{last-snoc}
 use Rattle.script.specs.declared.reply.Reply.{Reply}
 use Rattle.script.specs.declared.reply.Reply.the-variants.{Wrote}
@@ -59,17 +59,6 @@ unfolding write writeOn
 accepted-session ws s plot value row h =
     let z = no-refusal (soundStore ws) (writeCode (officeOf ws) s plot value (length row)) ws (officeOf ws) s row _ h in rw (z .0, z .1)
 
-accepted-reading : (ws : List ℕ) (s : Content) (plot : ℕ) → readPlot ws s plot .code ≡ 0
-    → readPlot ws s plot .session ≡ noted (current (reveal (officeOf ws) (s .read)) plot) s
-unfolding readPlot readOn
-accepted-reading ws s plot h =
-    let z = no-refusal (soundStore ws) (readCode (officeOf ws) s plot) ws (officeOf ws) s [] _ h in rw (z .0, z .1)
-
-noted-is : (s : Session) (f : Found) → contentOf (notedIn f s) ≡ noted f (contentOf s)
-unfolding notedIn noted contentOf
-noted-is s None = refl
-noted-is s (Some e) = refl
-
 noted-size : (s : Session) (f : Found) → length (notedIn f s .own) ≡ length (s .own)
 unfolding notedIn
 noted-size s None = refl
@@ -91,14 +80,9 @@ module _ (ws : List ℕ) (s : Session) (size : length (s .own) ≡ 16) where
   unfolding extendedBy
   write-size e = length-set (s .own) (s .count) e ∙ size
 
-  module _ (plot : ℕ) (z : readPlot ws (contentOf s) plot .code ≡ 0) where
-    pub read-session : readPlot ws (contentOf s) plot .session ≡ contentOf (readPlotSession ws s plot)
-    unfolding readPlotSession sessionIf contentOf
-    read-session = accepted-reading ws (contentOf s) plot z ∙ sym (rw z (noted-is s (current (reveal (officeOf ws) (s .read)) plot)))
-
-    pub read-size : length (readPlotSession ws s plot .own) ≡ 16
-    unfolding readPlotSession sessionIf
-    read-size = rw z (noted-size s (current (reveal (officeOf ws) (s .read)) plot) ∙ size)
+  pub read-size : (plot : ℕ) → readPlot ws (contentOf s) plot .code ≡ 0 → length (readPlotSession ws s plot .own) ≡ 16
+  unfolding readPlotSession sessionIf
+  read-size plot z = rw z (noted-size s (current (reveal (officeOf ws) (s .read)) plot) ∙ size)
 
 pub found-is : (fs : List Found) → entryReply (anyFound fs) (entryFound fs) ≡ readReply fs
 unfolding anyFound entryFound readReply

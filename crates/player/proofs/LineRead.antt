@@ -19,6 +19,7 @@ use Rattle.office.specs.Answers.{readPlotSession, sessionIf}
 use Rattle.office.specs.Calls.{Result, readPlot}
 use Rattle.office.specs.Promises.{ReadPromise}
 use Rattle.office.proofs.Refused.{read-words-refused}
+use Rattle.reading.proofs.Answers.{read-content}
 use Rattle.script.specs.declared.line.Line.the-variants.{Read}
 use Rattle.script.specs.declared.reply.Reply.{Reply}
 use Rattle.script.specs.declared.reply.Reply.the-variants.{Refused}
@@ -27,7 +28,7 @@ use Rattle.player.specs.Play.{Scene}
 use Rattle.player.specs.Shows.{Shows}
 use Rattle.player.specs.Steps.{Plays, entryReply}
 use Rattle.player.proofs.Accepted.{Reads, reads}
-use Rattle.player.proofs.Contents.{found-is, read-session, read-size}
+use Rattle.player.proofs.Contents.{found-is, read-size}
 use Rattle.player.proofs.PlayRead.{read-done, read-refused}
 use Rattle.player.proofs.Refusals.{refused-as, status-accepted, status-refused}
 use Rattle.player.proofs.Scenes.{store-same}
@@ -75,7 +76,7 @@ module _ (g : Scene) (d : Desk) (stores lines : List ℕ) (S : Shows g d stores 
       subst (λ (x : Desk × (Reply × List ℕ)). Plays row g (Read i plot) (record { desk = x .0; reply = x .1 .0 }) (x .1 .1) lines)
       (λ j. (withSession d i (sym (A .3) j), (sym (q ∙ (λ k. entryReply (A .1 k) (A .2 k)) ∙ found-is (R .found)) j, sym left-is j)))
       (read-done g d stores lines S i il plot row code (F .offices) (F .plots) (ap length (sym (A .4)) ∙ size) _
-      (read-session ws (sessionAt d i) (S .session i il .size) plot code) (read-size ws (sessionAt d i) (S .session i il .size) plot code))
+      (sym (read-content ws (sessionAt d i) plot)) (read-size ws (sessionAt d i) (S .session i il .size) plot code))
     where
       code : R .code ≡ 0
       code = status-accepted status (R .code) (A .0) e

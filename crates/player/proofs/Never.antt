@@ -12,6 +12,7 @@ use Rattle.causal.specs.Tests.{both}
 use Rattle.causal.proofs.Tests.{both-true}
 use Rattle.store.specs.Offices.{Office, officeOf}
 use Rattle.ring.specs.Run.{Call, Tracked, at, contentsRun, onWords, run, wordsRun}
+use Rattle.ring.proofs.RunAppend.{run-append}
 use Rattle.ring.proofs.Steps.{contents-ok, ok-whole}
 use Rattle.ring.proofs.Theorem.{demand3}
 use Rattle.script.specs.declared.line.Line.{Line}
@@ -20,7 +21,7 @@ use Rattle.script.specs.declared.reply.Reply.{Reply}
 use Rattle.script.specs.declared.reply.Reply.the-variants.{Full, Moved, Odd, Refused}
 use Rattle.player.specs.Play.{Ring, Scene, called, crowded, moved, opening, placeOf, play, playAll, playRead, playReceive, playWrite, settled, starts}
 use Rattle.player.proofs.Enough.{never-8-at}
-use Rattle.player.proofs.Runs.{play-run, run-append}
+use Rattle.player.proofs.Runs.{play-run}
 
 -- ---- where the sessions are
 
@@ -102,7 +103,7 @@ module _ (rows : ℕ → List ℕ) (long : (o : ℕ) → o < 3 → 1747 ≤ leng
       let t = play-run row g line in
       record {
         calls = R .calls ++ t .0;
-        is = t .1 ∙ ap (λ (x : Ring). run onWords 3 x (t .0)) (R .is) ∙ sym (run-append _ (R .calls) (t .0));
+        is = t .1 ∙ ap (λ (x : Ring). run onWords 3 x (t .0)) (R .is) ∙ sym (run-append onWords 3 _ (R .calls) (t .0));
         placed = play-place row g line (R .placed);
       }
 

@@ -3,7 +3,7 @@ use Prim.Native.Nat.{ℕ, suc}
 use mathlib.Core.Path.{_∙_, _≡_, ap, refl, subst, sym}
 use Rattle.frame.specs.Refusals.{Reply, codeOf, numberOf, replyOf}
 use Rattle.frame.specs.declared.refusal.Refusal.{Refusal}
-use Rattle.frame.specs.declared.refusal.Refusal.the-variants.{Content, Different, Format, Missing, OfficeFull, OwnWrite, Plot, Room, SessionFull, Settings, Store, Unmade, Value}
+use Rattle.frame.specs.declared.refusal.Refusal.the-variants.{Content, Different, Format, Missing, OfficeFull, Plot, Room, SessionFull, Settings, Store, Unmade, Value}
 use Rattle.frame.specs.declared.refusal.Status.{Status}
 use Rattle.frame.specs.declared.refusal.Status.the-variants.{Accepted, Refused}
 use Rattle.frame.specs.declared.refusal.Written.{Written}
@@ -24,7 +24,6 @@ number-some Format = (8, refl)
 number-some Unmade = (9, refl)
 number-some Different = (10, refl)
 number-some Missing = (11, refl)
-number-some OwnWrite = (12, refl)
 
 pub refused-as : (P : ℕ → Type 0) (code : ℕ) → ((c : ℕ) → code ≡ suc c → P (suc c)) → (k : ℕ) (x : Refusal) → k ≡ numberOf x → code ≡ numberOf x → P k
 refused-as P code f k x e h = let t = number-some x in subst P (sym (e ∙ t .1)) (f (t .0) (h ∙ t .1))

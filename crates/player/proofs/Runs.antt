@@ -9,6 +9,7 @@ use lib.ListN.{length}
 use Rattle.causal.specs.Tests.{both}
 use Rattle.ring.specs.Holds.{Holds}
 use Rattle.ring.specs.Run.{Call, Tracked, at, contentsRun, onWords, run, step, wordsRun}
+use Rattle.ring.proofs.RunAppend.{run-append}
 use Rattle.ring.proofs.Theorem.{demand3}
 use Rattle.script.specs.declared.line.Line.{Line}
 use Rattle.script.specs.declared.line.Line.the-variants.{Move, Other, Read, Receive, Write}
@@ -28,13 +29,8 @@ one : (g : Ring) (c : Call) → After g (step onWords 3 g c)
 unfolding run
 one g c = (c ∷ [], refl)
 
-pub run-append : (g : Ring) (cs ds : List Call) → run onWords 3 g (cs ++ ds) ≡ run onWords 3 (run onWords 3 g cs) ds
-unfolding run
-run-append g [] ds = refl
-run-append g (c ∷ cs) ds = run-append (step onWords 3 g c) cs ds
-
 then : (g h k : Ring) → After g h → After h k → After g k
-then g h k (cs, p) (ds, q) = (cs ++ ds, q ∙ ap (λ (x : Ring). run onWords 3 x ds) p ∙ sym (run-append g cs ds))
+then g h k (cs, p) (ds, q) = (cs ++ ds, q ∙ ap (λ (x : Ring). run onWords 3 x ds) p ∙ sym (run-append onWords 3 g cs ds))
 
 settled-run : (g : Scene) (c : Call) (k : ℕ) (reply : Reply) → After (g .ring) (settled g c k reply .0 .ring)
 unfolding settled
@@ -88,7 +84,7 @@ pub script-holds : (rows : ℕ → List ℕ) → ((o : ℕ) → o < 3 → 1747 �
 unfolding wordsRun
 script-holds rows long ls =
     let t = all-run (opening rows) ls in
-    let e : playAll (opening rows) ls .0 .ring ≡ wordsRun 3 64 rows (starts ++ t .0) = t .1 ∙ sym (run-append _ starts (t .0)) in
+    let e : playAll (opening rows) ls .0 .ring ≡ wordsRun 3 64 rows (starts ++ t .0) = t .1 ∙ sym (run-append onWords 3 _ starts (t .0)) in
     record {
       calls = starts ++ t .0;
       is = e;

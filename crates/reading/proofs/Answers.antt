@@ -6,11 +6,11 @@ use lib.ListN.{length}
 use Rattle.frame.specs.declared.session.Session.{Session}
 use Rattle.frame.specs.Sessions.{contentOf}
 use Rattle.store.specs.Offices.{Office, officeOf, reveal, current, Found, None, Some}
-use Rattle.office.specs.Calls.{Result, noted, notedAll, readPlot, readJoint}
+use Rattle.office.specs.Calls.{noted, notedAll, readPlot, readJoint}
 use Rattle.office.specs.Answers.{sessionIf, notedIn, notedAllIn, readPlotSession, readJointSession}
 use Rattle.reading.specs.Readings.{readRefusal, jointRefusal}
-use Rattle.reading.proofs.Readings.{readResult, read-is}
-use Rattle.reading.proofs.JointReads.{jointResult, joint-is}
+use Rattle.reading.proofs.Readings.{Res, readResult, read-is}
+use Rattle.reading.proofs.JointReads.{answered, joint-is}
 
 pub content-noted : (f : Found) (s : Session) → contentOf (notedIn f s) ≡ noted f (contentOf s)
 unfolding contentOf notedIn noted
@@ -22,14 +22,11 @@ unfolding notedAllIn notedAll
 content-all O [] s = refl
 content-all O (q ∷ qs) s = content-all O qs (notedIn (current O q) s) ∙ ap (notedAll O qs) (content-noted (current O q) s)
 
-abbrev Res : Type 0
-Res = Result (List ℕ) (List ℕ)
-
 pub read-content : (ws : List ℕ) (s : Session) (plot : ℕ) → contentOf (readPlotSession ws s plot) ≡ readPlot ws (contentOf s) plot .session
-unfolding readPlotSession sessionIf contentOf
+unfolding readPlotSession sessionIf contentOf notedAll
 read-content ws s plot = go (readRefusal ws (contentOf s) plot) (read-is ws (contentOf s) plot)
   where
-    go : (c : ℕ) → readPlot ws (contentOf s) plot ≡ readResult ws (contentOf s) plot c
+    go : (c : ℕ) → readPlot ws (contentOf s) plot ≡ readResult ws (contentOf s) (plot ∷ []) [] [] c
         → contentOf (sessionIf (readPlot ws (contentOf s) plot .code) s (notedIn (current (reveal (officeOf ws) (s .read)) plot) s)) ≡ readPlot ws (contentOf s) plot .session
     go zero r =
         ap (λ (x : Res). contentOf (sessionIf (x .code) s (notedIn (current (reveal (officeOf ws) (s .read)) plot) s))) r
@@ -41,7 +38,7 @@ pub joint-content : (ws : List ℕ) (s : Session) (plots row : List ℕ) → con
 unfolding readJointSession sessionIf contentOf
 joint-content ws s plots row = go (jointRefusal ws (contentOf s) plots (length row)) (joint-is ws (contentOf s) plots row)
   where
-    go : (c : ℕ) → readJoint ws (contentOf s) plots row ≡ jointResult ws (contentOf s) plots row c
+    go : (c : ℕ) → readJoint ws (contentOf s) plots row ≡ readResult ws (contentOf s) plots row (answered ws (contentOf s) plots row) c
         → contentOf (sessionIf (readJoint ws (contentOf s) plots row .code) s (notedAllIn (reveal (officeOf ws) (s .read)) plots s)) ≡ readJoint ws (contentOf s) plots row .session
     go zero r =
         ap (λ (x : Res). contentOf (sessionIf (x .code) s (notedAllIn (reveal (officeOf ws) (s .read)) plots s))) r

@@ -1,4 +1,5 @@
 pub mod Readings
 pub mod JointReads
 pub mod Answers
+pub mod OnePlot
 pub mod Contract

@@ -25,13 +25,12 @@ use Rattle.store.specs.Current.{currentAt}
 use Rattle.store.specs.Reveal.{revealed}
 use Rattle.store.specs.declared.reveal.Revealed.{Revealed}
 use Rattle.store.proofs.SoundChanges.{reveal-store, reveal-held, reveal-ids, reveal-current}
-use Rattle.office.specs.Calls.{Result, refusal, given, worded, handed, noted, readCode, readOn, readPlot}
+use Rattle.office.specs.Calls.{Result, given, worded, handed, readAll, readCode, readOn, readPlot}
 use Rattle.office.specs.Answers.{anyFound, entryFound, sessionIf, notedIn, readPlotSession}
 use Rattle.office.specs.Decide.{startCode, placeNumber, foundIn, Reaches, notedSeen, seenOf, withSeen}
 use Rattle.reading.specs.Readings.{readRefusal, bestFrom, bestOf, bestAbove, bestTo}
 use Rattle.office.specs.declared.note.Seen.{Seen}
-use Rattle.reading.specs.declared.read.Best.{Best}
-use Rattle.office.proofs.KeepCalls.{readOne}
+use Rattle.reading.specs.declared.best.Best.{Best}
 use Rattle.office.proofs.Numbers.{start-facts, few-own, number-current, noted-with, with-own}
 
 -- ---- the best of what was found and the own writes
@@ -116,38 +115,35 @@ answer-is ws s plot k best seen b d =
 
 -- ---- the whole call
 
--- what is left with the refusal number c
-abbrev pub readResult : List ℕ → Content → ℕ → ℕ → Result (List ℕ) (List ℕ)
-readResult ws s plot zero =
-    record {
-      code = 0;
-      count = 0;
-      found = handed (reveal (officeOf ws) (s .read)) s plot ∷ [];
-      store = storeWords ws (reveal (officeOf ws) (s .read));
-      session = noted (current (reveal (officeOf ws) (s .read)) plot) s;
-      row = [];
-      sent = [];
-    }
-readResult ws s plot (suc c) = refusal (suc c) ws s []
+abbrev pub Res : Type 0
+Res = Result (List ℕ) (List ℕ)
+
+-- what a reading of plots leaves with the refusal number c: row and row′ are the lent row as it came and as an accepted one leaves it
+abbrev pub readResult : List ℕ → Content → List ℕ → List ℕ → List ℕ → ℕ → Res
+readResult ws s plots row row′ c = worded true ws s row (given c (officeOf ws) s row (readAll (officeOf ws) s plots row′))
+
+pub result-code : (ws : List ℕ) (s : Content) (plots row row′ : List ℕ) (c : ℕ) → readResult ws s plots row row′ c .code ≡ c
+result-code ws s plots row row′ zero = refl
+result-code ws s plots row row′ (suc c) = refl
 
 module _ (ws : List ℕ) (s : Content) (plot : ℕ) where
-  pub read-is : readPlot ws s plot ≡ readResult ws s plot (readRefusal ws s plot)
+  pub read-is : readPlot ws s plot ≡ readResult ws s (plot ∷ []) [] [] (readRefusal ws s plot)
   unfolding readPlot readOn readCode readRefusal startCode check orElse officeOf
   read-is = go (soundStore ws) (sessionOk (getD ws 0 0) (getD ws 2 0) s) (ltb plot (getD ws 2 0)) (subsetOf (s .read) (part ws 3 8))
     where
-      go : (a b c d : Bool) → worded a ws s [] (given (check b 3 (check c 4 (check d 12 0))) (officeOf ws) s [] (readOne (officeOf ws) s plot))
-          ≡ readResult ws s plot (orElse (check a 2 (check b 3 0)) (check c 4 (check d 12 0)))
+      go : (a b c d : Bool) → worded a ws s [] (given (check b 3 (check c 4 (check d 12 0))) (officeOf ws) s [] (readAll (officeOf ws) s (plot ∷ []) []))
+          ≡ readResult ws s (plot ∷ []) [] [] (orElse (check a 2 (check b 3 0)) (check c 4 (check d 12 0)))
       go false b c d = refl
       go true false c d = refl
       go true true false d = refl
       go true true true false = refl
       go true true true true = refl
 
-  pub read-small : readRefusal ws s plot ≤ 13
+  pub read-small : readRefusal ws s plot ≤ 12
   unfolding readRefusal startCode check orElse
   read-small = go (soundStore ws) (sessionOk (getD ws 0 0) (getD ws 2 0) s) (ltb plot (getD ws 2 0)) (subsetOf (s .read) (part ws 3 8))
     where
-      go : (a b c d : Bool) → orElse (check a 2 (check b 3 0)) (check c 4 (check d 12 0)) ≤ 13
+      go : (a b c d : Bool) → orElse (check a 2 (check b 3 0)) (check c 4 (check d 12 0)) ≤ 12
       go false b c d = omega arith
       go true false c d = omega arith
       go true true false d = omega arith
@@ -184,9 +180,6 @@ module _ (ws : List ℕ) (words : (i : ℕ) → getD ws i 0 < 2 ^ 32) (s : Sessi
       let at = number-current ws (r .visible) plot k (q .sound) eight sees-held n in
       (at .0, reveal-current ws words (q .sound) (s .read) ids (q .held) r e plot ∙ sym (at .1))
 
-abbrev Res : Type 0
-Res = Result (List ℕ) (List ℕ)
-
 module _ (ws : List ℕ) (s : Session) (plot : ℕ) where
   abbrev R : Res
   R = readPlot ws (contentOf s) plot
@@ -199,8 +192,8 @@ module _ (ws : List ℕ) (s : Session) (plot : ℕ) where
   ReadSays status found e x left =
       (codeOf status ≡ R .code) × (found ≡ anyFound (R .found)) × (e ≡ entryFound (R .found)) × (withSeen s x ≡ readPlotSession ws s plot) × (left ≡ R .store)
 
-  by-result : (c : ℕ) → c ≡ readRefusal ws (contentOf s) plot → readResult ws (contentOf s) plot c ≡ R
-  by-result c e = ap (readResult ws (contentOf s) plot) e ∙ sym (read-is ws (contentOf s) plot)
+  by-result : (c : ℕ) → c ≡ readRefusal ws (contentOf s) plot → readResult ws (contentOf s) (plot ∷ []) [] [] c ≡ R
+  by-result c e = ap (readResult ws (contentOf s) (plot ∷ []) [] []) e ∙ sym (read-is ws (contentOf s) plot)
 
   pub read-refused : (c : ℕ) (status : Status) (e : Entry) → c ≡ readRefusal ws (contentOf s) plot → (c ≡ 0 → ⊥) → codeOf status ≡ c → e ≡ blankEntry → ReadSays status false e (seenOf s) ws
   unfolding readPlotSession anyFound entryFound sessionIf

@@ -1,39 +1,36 @@
 -- The readings as code goes through them: refusal numbers from the store's words, own writes one after the other, several plots.
 -- proofs/Readings.antt, proofs/JointReads.antt: they say what Calls says. Assumes nothing.
-use Prim.Native.Nat.{ℕ, zero, suc, _*_, _<_}
+use Prim.Native.Nat.{ℕ, zero, suc, _*_, _<_, _≤_}
 use mathlib.Core.Path.{_≡_}
-use mathlib.Core.Bool.{Bool, true, false, cond, not}
-use mathlib.Core.List.{List, [], _++_}
+use mathlib.Core.Bool.{true, false, cond}
+use mathlib.Core.List.{List, [], _++_, _∷_}
 use lib.Dec.{leb, ltb, eqb}
 use lib.ListN.{length, getD}
-use Rattle.causal.specs.Tests.{both, allBelow}
+use Rattle.causal.specs.Tests.{both}
 use Rattle.causal.specs.Codes.{check, orElse}
 use Rattle.causal.specs.Lists.{part}
 use Rattle.causal.specs.Sets.{subsetOf}
 use Rattle.frame.specs.declared.entry.Entry.{Entry}
-use Rattle.frame.specs.Entries.{outranks, blankEntry}
+use Rattle.frame.specs.Entries.{blankEntry, nameOf, outranks}
 use Rattle.frame.specs.Sessions.{Content, nobody}
-use Rattle.store.specs.Offices.{officeOf, reveal, Found, None, Some}
+use Rattle.store.specs.Offices.{Found, None, Some, bestOwn}
 use Rattle.store.specs.Current.{currentAt}
-use Rattle.office.specs.Calls.{plotsOk, allNoneOver, threeWords}
+use Rattle.office.specs.Calls.{plotsOk, threeWords}
 use Rattle.office.specs.Decide.{startCode, placeNumber, foundIn, Reaches, notedSeen}
+use Rattle.office.specs.Steps.{ownAt, ownTo}
 use Rattle.office.specs.declared.note.Seen.{Seen}
-use Rattle.reading.specs.declared.read.Best.{Best}
+use Rattle.reading.specs.declared.best.Best.{Best}
 
 -- ---- refusals
 
 unfoldable pub readRefusal : List ℕ → Content → ℕ → ℕ
 readRefusal ws s plot = orElse (startCode ws s) (check (ltb plot (getD ws 2 0)) 4 (check (subsetOf (s .read) (part ws 3 8)) 12 0))
 
--- all but 13
-unfoldable pub jointStart : List ℕ → Content → List ℕ → ℕ → ℕ
-jointStart ws s plots room =
+unfoldable pub jointRefusal : List ℕ → Content → List ℕ → ℕ → ℕ
+jointRefusal ws s plots room =
     orElse (startCode ws s)
     (check (both (leb (length plots) 16) (plotsOk (getD ws 2 0) plots)) 4
     (check (leb (3 * length plots) room) 8 (check (subsetOf (s .read) (part ws 3 8)) 12 0)))
-
-unfoldable pub jointRefusal : List ℕ → Content → List ℕ → ℕ → ℕ
-jointRefusal ws s plots room = orElse (jointStart ws s plots room) (check (allNoneOver (reveal (officeOf ws) (s .read)) s plots) 13 0)
 
 -- ---- the best of what was found and the own writes
 
@@ -51,6 +48,17 @@ unfoldable pub bestTo : List Entry → ℕ → Best → ℕ → Best
 bestTo own plot b zero = b
 bestTo own plot b (suc i) = cond (eqb (getD own i nobody .plot) plot) (bestAbove (getD own i nobody) (bestTo own plot b i)) (bestTo own plot b i)
 
+-- as three words
+unfoldable pub bestWords : Best → List ℕ
+bestWords b = cond (b .found) (1 ∷ b .entry .value ∷ nameOf (b .entry) ∷ []) (0 ∷ 0 ∷ 0 ∷ [])
+
+-- office and serial are small, so that the name payload fits a word; so of the first own writes
+abbrev pub Named : Entry → Type 0
+Named e = (e .office < 8) × (e .serial ≤ 32)
+
+abbrev pub OwnNamed : List Entry → ℕ → Type 0
+OwnNamed own count = (i : ℕ) → i < count → Named (ownAt own i)
+
 -- ---- several plots
 
 -- the slots of the first n of some numbers lie in a store of m words
@@ -64,17 +72,9 @@ PlacesTo ws visible plots n ks = (j : ℕ) → j < n → getD ks j 0 ≡ placeNu
 unfoldable pub foundAmong : List ℕ → List ℕ → ℕ → Found
 foundAmong ws ks j = foundIn ws (getD ks j 0)
 
--- an own write is over what is current
-unfoldable pub ownOver : Found → Entry → Bool
-ownOver None e = true
-ownOver (Some b) e = outranks e b
-
--- over what is current on none of the first n plots
-unfoldable pub overNoneTo : (ℕ → Found) → List ℕ → Entry → ℕ → Bool
-overNoneTo g plots e n = allBelow n (λ j. not (both (eqb (e .plot) (getD plots j 0)) (ownOver (g j) e)))
-
-unfoldable pub overAll : List ℕ → List Entry → ℕ → List ℕ → List ℕ → Bool
-overAll ws own count plots ks = allBelow count (λ i. overNoneTo (foundAmong ws ks) plots (getD own i nobody) (length plots))
+-- what is handed back on each: the best of that and the first own writes
+unfoldable pub handedAmong : List ℕ → List Entry → ℕ → List ℕ → List ℕ → ℕ → Found
+handedAmong ws own count plots ks j = bestOwn (getD plots j 0) (foundAmong ws ks j) (ownTo own count)
 
 unfoldable pub wordsTo : (ℕ → Found) → ℕ → List ℕ
 wordsTo g zero = []

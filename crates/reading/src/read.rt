@@ -12,7 +12,7 @@ ghost use Rattle.frame.specs.Sessions.{contentOf};
 ghost use Rattle.store.specs.Offices.{bestOwn};
 ghost use Rattle.office.specs.Answers.{anyFound, entryFound};
 ghost use Rattle.office.specs.Decide.{alone, bare, foundIn, Reaches, notedSeen, seenOf, withSeen};
-ghost use Rattle.reading.specs.Readings.{readRefusal, bestFrom, bestAbove, bestTo};
+ghost use Rattle.reading.specs.Readings.{readRefusal};
 ghost use Rattle.office.specs.Promises.{ReadPromise};
 
 pub struct PlotRead {
@@ -28,12 +28,6 @@ pub struct PlotSeen {
     pub found: bool,
     pub entry: Entry, // a blank where none is found
     pub seen: Seen,
-}
-
-// An entry, or a blank where none is found.
-pub struct Best {
-    pub found: bool,
-    pub entry: Entry,
 }
 
 // 4: plot out of range. 12: a read id not held.
@@ -57,67 +51,6 @@ fn read_code(store: &[u32], s: Session, plot: u32) -> u32
     0
 }
 
-// Entry k of the store.
-fn best_at(store: &[u32], k: usize) -> Best
-    requires { ⌜ Reaches (length (now store)) k ⌝ }
-    ensures { λ r. ⌜ r ≡ bestFrom (foundIn (now (store .entry)) k) ⌝ }
-{
-    if k >= 256 {
-        let entry = frame::entry::blank_entry();
-        return Best {
-            found: false,
-            entry,
-        };
-    }
-    let entry = store::layout::entry_at(store, k);
-    Best { found: true, entry }
-}
-
-// The better of an own write on the plot and the best so far, which stays where they tie.
-fn best_above(e: Entry, best: Best) -> Best
-    ensures { λ r. ⌜ r ≡ bestAbove e best ⌝ }
-{
-    let b = best.entry;
-    if best.found {
-        if !frame::entry::outranks(e, b) {
-            return best;
-        }
-    }
-    Best {
-        found: true,
-        entry: e,
-    }
-}
-
-// The best of the own writes on the plot and what was found.
-fn best_own(own: [Entry; 16], count: usize, plot: u32, first: Best) -> Best
-    requires { ⌜ count ≤ 16 ⌝ }
-    ensures { λ r. ⌜ r ≡ bestTo own plot first count ⌝ }
-{
-    let mut best = first;
-    for i in 0..count {
-        if own[i].plot == plot {
-            let next = best_above(own[i], best);
-            best = next;
-        }
-    }
-    best
-}
-
-// The best of entry k and the own writes on the plot, which are not looked at where there are none.
-fn best_with(store: &[u32], s: Session, plot: u32, k: usize) -> Best
-    requires { ⌜ (s .count ≤ 16) × Reaches (length (now store)) k ⌝ }
-    ensures { λ r. ⌜ r ≡ bestTo (s .own) plot (bestFrom (foundIn (now (store .entry)) k)) (s .count) ⌝ }
-{
-    let first = best_at(store, k);
-    let count = s.count;
-    if count == 0 {
-        return first;
-    }
-    let own = s.own;
-    best_own(own, count, plot, first)
-}
-
 // What a reading answers where entry k is current.
 fn answer_at(store: &[u32], s: Session, plot: u32, k: usize) -> PlotSeen
     requires { ⌜ (s .count ≤ 16) × Reaches (length (now store)) k ⌝ }
@@ -126,7 +59,7 @@ fn answer_at(store: &[u32], s: Session, plot: u32, k: usize) -> PlotSeen
         × (r .entry ≡ entryFound (bestOwn plot (foundIn (now (store .entry)) k) (contentOf s .own) ∷ []))
         × (r .seen ≡ notedSeen (foundIn (now (store .entry)) k) (seenOf s)) ⌝ }
 {
-    let best = best_with(store, s, plot, k);
+    let best = crate::best::best_with(store, s, plot, k);
     let clock = s.clock;
     let read = s.read;
     let seen = office::note::note(store, k, Seen { clock, read });
@@ -206,7 +139,7 @@ pub fn see_alone(
     let shown = store::reveal::revealed_by(store, read);
     let all = shown.visible;
     let k = office::note::place_number(store::current::current(store, all, plot));
-    let best = best_at(store, k);
+    let best = crate::best::best_at(store, k);
     let found = best.found;
     let entry = best.entry;
     let seen = office::note::note(store, k, Seen { clock, read });

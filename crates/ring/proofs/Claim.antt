@@ -2,7 +2,7 @@
 -- it. Assumes nothing.
 use Prim.Native.Nat.{ℕ, _<_, _≤_, suc, zero}
 use mathlib.Core.Bool.{Bool, cond, false, true}
-use mathlib.Core.List.{List, List·Memᴰ, List·Memᴰ·not-nil, Memᴰ·append-right, Memᴰ·map, Memᴰ·of-map, [], _++_, _∷_, map, map-append}
+use mathlib.Core.List.{List, List·Memᴰ, List·Memᴰ·head, List·Memᴰ·not-nil, Memᴰ·append-right, Memᴰ·map, Memᴰ·of-map, [], _++_, _∷_, map, map-append}
 use mathlib.Core.Logic.{_⊎_, inl, inr, ⊎-elim}
 use mathlib.Core.Path.{_∙_, _≡_, ap, refl, sym}
 use native.Mathlib.Omega.{arith}
@@ -25,16 +25,15 @@ use Rattle.frame.specs.declared.entry.Frame.{Frame}
 use Rattle.frame.specs.declared.session.Session.{Session}
 use Rattle.frame.proofs.Entries.{entry-facts}
 use Rattle.frame.proofs.OwnTurns.{content-back}
-use Rattle.store.specs.Offices.{Office, Some, current, emptyOffice, need, officeOf, reveal, settingsOk, soundStore, storeWords}
-use Rattle.store.proofs.Best.{current-from}
-use Rattle.office.specs.Calls.{Result, answerWords, freshCode, given, jointCode, jointOn, notedAll, openOffice, parsed, readCode, readJoint, readOn, readPlot, receive, receiveCode, receiveOn, worded, write, writeCode, writeOn}
+use Rattle.store.specs.Offices.{Found, Office, Some, emptyOffice, need, officeOf, reveal, settingsOk, soundStore, storeWords}
+use Rattle.office.specs.Calls.{Result, answerWords, freshCode, given, handed, jointCode, jointOn, openOffice, parsed, readAll, readCode, readJoint, readOn, readPlot, receive, receiveCode, receiveOn, worded, write, writeCode, writeOn}
 use Rattle.office.specs.Promises.{JointPromise, ReadPromise, ReceivePromise, WritePromise}
 use Rattle.office.proofs.Refused.{receive-words-refused, write-words-refused}
 use Rattle.ring.specs.Answers.{ReadAnswer, SessionAnswer, WriteAnswer, Carried, Ring, Said, contentIn, jointBack, jointSaid, namedIn, ownOf, readSaid, receivedSaid, shown, tokenWritten, wroteSaid}
 use Rattle.ring.specs.Claim.{Absent, Claim, Opened, Runs, Step, absent, begins-fresh, begun, copies-session, copies-token, more, none, reads, reads-jointly, reads-token, receives, receives-words, writes, writes-token}
 use Rattle.ring.specs.Holds.{Holds, Same}
-use Rattle.ring.specs.Run.{Call, Made, Tracked, TrackedToken, answered, at, begins, contentsRun, copy-session, copy-token, copySession, copyToken, fresh, startBy, fromToken, fromTokenAt, joint, jointAt, nextOf, noted-event, onContents, onWords, readAt, readBy, readLeft, reading, receiveAt, receiveBy, receiveLeft, receiving, receiving-words, refused, refusedBy, run, starting, step, token-reading, token-writing, tokenAt, tokenBy, turned, turnedBy, upd, withSession, wordsBy, wordsRun, writeAt, writeBy, writeLeft, writerPast, writing}
-use Rattle.ring.proofs.Base.{held-made, visible-held}
+use Rattle.ring.specs.Run.{Call, Event, Made, Tracked, TrackedToken, answered, at, begins, contentsRun, copy-session, copy-token, copySession, copyToken, fresh, startBy, fromToken, fromTokenAt, joint, jointAt, nextOf, noted-event, onContents, onWords, readAt, readBy, readLeft, reading, receiveAt, receiveBy, receiveLeft, receiving, receiving-words, refused, refusedBy, run, starting, step, token-reading, token-writing, tokenAt, tokenBy, turned, turnedBy, upd, withSession, wordsBy, wordsRun, writeAt, writeBy, writeLeft, writerPast, writing}
+use Rattle.ring.proofs.Together.{together-to}
 use Rattle.ring.proofs.Cuts.{cut-row, found-row, named-is}
 use Rattle.ring.proofs.Fit.{Agrees, Sys, Whole, upd-same}
 use Rattle.ring.proofs.Log.{entryIn, log-agrees}
@@ -247,16 +246,13 @@ module _ (n p : ℕ) (two : 2 ≤ n) (eight : n ≤ 8) (one : 1 ≤ p) (p64 : p 
       ap (accepts n p) (sym (t .2))
       ∙ accepts-frame n p two eight one p64 (entryIn (c .log)) (writerPast (c .log)) c (ok-whole n p two eight c k) o (t .0) (t .1)
 
-  -- what an office shows is in the log under its name
-  current-named : (c : Sys) → Ok n p two eight c → (o : ℕ) → o < n → (q : ℕ) (e : Entry) → current (c .stores o) q ≡ Some e
+  -- what a reading handed back is in the log under its name
+  handed-named : (c : Sys) → Ok n p two eight c → (v : Event) → List·Memᴰ v (c .events) → (q : ℕ) (e : Entry) → List·Memᴰ (q, Some e) (v .reads)
       → namedIn (c .log) (nameOf e) ≡ e
-  current-named c k o lt q e h =
-      let s = current-from (c .stores o) q e h in
-      let hh = visible-held n p two eight (entryIn (c .log)) (writerPast (c .log)) c w o (s .0) lt (s .2) in
-      let t = Memᴰ·of-map (λ (m : Made). idOf (m .entry)) (c .log) (held-made n p two eight (entryIn (c .log)) (writerPast (c .log)) c w o (s .0) hh) in
-      let is : t .0 .entry ≡ e =
-      sym (A .entry (t .0) (t .1)) ∙ ap (entryIn (c .log)) (t .2) ∙ sym (w .offices o .entry-is (s .0) hh) ∙ sym (s .3)
-      in
+  handed-named c k v i q e m =
+      let h = w .events v i .handed q e m in
+      let t = Memᴰ·of-map (λ (m : Made). idOf (m .entry)) (c .log) (h .2) in
+      let is : t .0 .entry ≡ e = sym (A .entry (t .0) (t .1)) ∙ ap (entryIn (c .log)) (t .2) ∙ sym (h .1) in
       named-is (c .log) e (t .0) (t .1) is (only e (t .0) (t .1) is)
     where
       w : Whole n p two (entryIn (c .log)) (writerPast (c .log)) c
@@ -420,31 +416,20 @@ module _ (n p : ℕ) (two : 2 ≤ n) (eight : n ≤ 8) (one : 1 ≤ p) (p64 : p 
       unfolding jointOn jointBack laid
       found-J = go (jointCode (c .stores o) (contentOf (s .session)) plots (length row)) joint-ok
         where
-          O : Office
-          O = reveal (c .stores o) (contentOf (s .session) .read)
+          h : ℕ → Found
+          h = handed (reveal (c .stores o) (contentOf (s .session) .read)) (contentOf (s .session))
 
           res : ℕ → Result Office Frame
-          res y =
-              given y (c .stores o) (contentOf (s .session)) row
-              (record {
-                code = 0;
-                count = 0;
-                found = map (current O) plots;
-                store = O;
-                session = notedAll O plots (contentOf (s .session));
-                row = laid (answerWords O plots) row;
-                sent = [];
-              })
+          res y = given y (c .stores o) (contentOf (s .session)) row (readAll (c .stores o) (contentOf (s .session)) plots (laid (answerWords (map h plots)) row))
 
           go : (y : ℕ) → Ok n p two eight (readBy onContents n c o i (contentIn s) plots (res y) (res y .code))
               → jointBack (res y .code) (c .log) plots (res y .row) ≡ res y .found
           go zero K =
-              ap (λ (l : List ℕ). jointBack 0 (c .log) plots (laid l row)) (answers-joined O plots)
-              ∙ found-row (c .log) (current O)
-              (λ q x h.
-              current-named (readBy onContents n c o i (contentIn s) plots (res 0) 0) K o lt q x
-              (ap (λ (y : Office). current y q) (upd-same (c .stores) o O) ∙ h))
-              plots _
+              ap (λ (l : List ℕ). jointBack 0 (c .log) plots (laid l row)) (answers-joined (map h plots))
+              ∙ found-row (c .log) h plots _
+              (λ q x m e.
+              handed-named (readBy onContents n c o i (contentIn s) plots (res 0) 0) K _ (Memᴰ·append-right (c .events) (List·Memᴰ·head refl)) q x
+              (rw e at (together-to h plots q m)))
           go (suc y) K = refl
 
       joint-holds : (r : SessionAnswer) (ws′ row′ : List ℕ) → JointPromise (σ .stores o) (s .session) plots row (r .code) (r .session) ws′ row′

@@ -229,7 +229,7 @@ module _ (n p : ℕ) (two : 2 ≤ n) (eight : n ≤ 8) (E : ℕ → Entry) (P : 
           (given-store (λ X. made (g .stores o) ≤ made X) (readCode (g .stores o) (r .session) plot) (g .stores o) (r .session) [] _
           (omega arith) visible)
           (given-session (λ x. ClockFit n E (g .stores) x) (readCode (g .stores o) (r .session) plot) (g .stores o) (r .session) [] _ (K .sessions r in-r)
-          (noted-fit n E (g .stores) (current (reveal (g .stores o) (r .session .read)) plot) (r .session) eight (F .fit .read-set) (cur-fit plot) (K .sessions r in-r))) c
+          (noted-all (plot ∷ []) (r .session) (F .fit .read-set) (K .sessions r in-r))) c
 
       pub joint-clocks : (plots row : List ℕ) → (c : ℕ)
           → Clocks n E (readBy onContents n g o i r plots (jointOn (g .stores o) (r .session) plots row) c)

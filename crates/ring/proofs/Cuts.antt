@@ -94,15 +94,15 @@ named-is (x ∷ log) e m i q h =
     (λ y j. h y (List·Memᴰ·tail j))))
     (eq-or-ne (nameOf (x .entry)) (nameOf e))
 
-pub found-row : (log : List Made) (h : ℕ → Found) → ((q : ℕ) (e : Entry) → h q ≡ Some e → namedIn log (nameOf e) ≡ e) → (plots rest : List ℕ)
+pub found-row : (log : List Made) (h : ℕ → Found) (plots rest : List ℕ) → ((q : ℕ) (e : Entry) → List·Memᴰ q plots → h q ≡ Some e → namedIn log (nameOf e) ≡ e)
     → foundIn log plots (joined (map threeWords (map h plots)) ++ rest) ≡ map h plots
 unfolding foundIn foundAs joined threeWords
-found-row log h ok [] rest = refl
-found-row log h ok (q ∷ qs) rest = one (h q) refl (found-row log h ok qs rest)
+found-row log h [] rest ok = refl
+found-row log h (q ∷ qs) rest ok = one (h q) refl (found-row log h qs rest (λ x e m. ok x e (List·Memᴰ·tail m)))
   where
     below : List ℕ
     below = joined (map threeWords (map h qs))
 
     one : (f : Found) → h q ≡ f → foundIn log qs (below ++ rest) ≡ map h qs → foundIn log (q ∷ qs) ((threeWords f ++ below) ++ rest) ≡ f ∷ map h qs
     one None e ih = ap (λ (l : List Found). None ∷ l) ih
-    one (Some x) e ih = ap₂ (λ (y : Entry) (l : List Found). Some y ∷ l) (ok q x e) ih
+    one (Some x) e ih = ap₂ (λ (y : Entry) (l : List Found). Some y ∷ l) (ok q x (List·Memᴰ·head refl) e) ih

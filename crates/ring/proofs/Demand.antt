@@ -9,6 +9,7 @@ use Rattle.host.proofs.Contract.{host-contracts}
 use Rattle.ring.specs.Demand.{ThirdDemand}
 use Rattle.ring.proofs.Chain.{all-answered}
 use Rattle.ring.proofs.Claim.{claim}
+use Rattle.ring.proofs.JointTogether.{joint-together}
 use Rattle.ring.proofs.Settings.{settings-stay}
 use Rattle.ring.proofs.Theorem.{demand3, opens}
 
@@ -27,4 +28,5 @@ third-demand =
       opens = opens;
       demand3 = demand3;
       settings = settings-stay;
+      joint-together = joint-together;
     }

@@ -23,7 +23,7 @@ use Rattle.frame.specs.Words.{clockFrom, clockWords, idWordIf, idWords, idWords
 use Rattle.frame.proofs.Cases.{entryA, entryB, rowA, rowB}
 use Rattle.store.specs.Offices.{None, Some, bestOwn, bestTo, better, clockOf, consider, current, hold, made, maxTo, need, reveal, settingsOk}
 use Rattle.store.specs.Reveal.{revealed, steps}
-use Rattle.office.specs.Calls.{allNoneOver, answerWords, entryCode, freshCode, handed, holdAll, holdNew, jointCode, jointOn, missing, newEntry, noneOver, noted, notedAll, ownCode, plotsOk, readCode, readOn, receiveCode, receiveOn, receiveSends, receivedBy, sentOf, threeWords, writeCode, writeOn, wroteSession}
+use Rattle.office.specs.Calls.{answerWords, entryCode, freshCode, handed, holdAll, holdNew, jointCode, jointOn, missing, newEntry, noted, notedAll, ownCode, plotsOk, readCode, readOn, receiveCode, receiveOn, receiveSends, receivedBy, sentOf, threeWords, writeCode, writeOn, wroteSession}
 use Rattle.ring.specs.Holds.{Same, tokenOn}
 use Rattle.ring.specs.Run.{Call, Event, Made, Tracked, TrackedToken, at, contentsRun, copy-session, copy-token, fresh, gained, joint, lastOf, nextOf, onContents, reading, receiving, receiving-words, run, step, together, token-reading, token-writing, upd, wordsRun, writerPast, writing}
 use Rattle.ring.proofs.Theorem.{demand3}
@@ -64,7 +64,7 @@ others =
     ∷ receiving-words 0 (1 ∷ 2 ∷ []) row  -- no frame: 9
     ∷ writing 1 5 3 8 row  -- 1.2, by a copy of a session read from a token
     ∷ receiving 2 []  -- 8, and its frame stays
-    ∷ joint 0 5 (3 ∷ []) row  -- 13
+    ∷ joint 0 5 (3 ∷ []) row  -- its own 1.2, which that office does not hold
     ∷ fresh 9  -- 1
     ∷ writing 0 0 64 1 row  -- 4
     ∷ reading 0 1 64  -- 4
@@ -116,7 +116,7 @@ pub record Led (events : List Event) (sessions : List Tracked) (log : List Made)
   -- the script; then `others`; `absent` leaves no reply
   pub codes : map (λ (v : Event). v .code) events
       ≡ 0 ∷ 0 ∷ 0 ∷ 0 ∷ 0 ∷ 0 ∷ 0 ∷ 0 ∷ 0 ∷ 0 ∷ 0 ∷ 0 ∷ 0
-      ∷ 0 ∷ 8 ∷ 0 ∷ 8 ∷ 0 ∷ 9 ∷ 9 ∷ 0 ∷ 8 ∷ 13 ∷ 1 ∷ 4 ∷ 4 ∷ 1 ∷ 0 ∷ 3 ∷ []
+      ∷ 0 ∷ 8 ∷ 0 ∷ 8 ∷ 0 ∷ 9 ∷ 9 ∷ 0 ∷ 8 ∷ 0 ∷ 1 ∷ 4 ∷ 4 ∷ 1 ∷ 0 ∷ 3 ∷ []
   -- the script's last reading, and the joint one: what was handed back, the past, the answer row
   pub last-read : map (λ (v : Event). v .reads) (at events 12) ≡ ((5, Some entryA) ∷ []) ∷ []
   pub last-past : map (λ (v : Event). v .past) (at events 12) ≡ (0 ∷ 32 ∷ 0 ∷ []) ∷ []
@@ -124,11 +124,14 @@ pub record Led (events : List Event) (sessions : List Tracked) (log : List Made)
       ≡ ((5, Some entryA) ∷ (6, Some entryB) ∷ (7, None) ∷ (5, Some entryA) ∷ []) ∷ []
   pub joint-past : map (λ (v : Event). v .past) (at events 13) ≡ past-1 ∷ []
   pub joint-row : map (λ (v : Event). take 13 (v .row)) (at events 13) ≡ (1 ∷ 709 ∷ 1 ∷ 1 ∷ 1 ∷ 257 ∷ 0 ∷ 0 ∷ 0 ∷ 1 ∷ 709 ∷ 1 ∷ 0 ∷ []) ∷ []
+  -- .. and one that hands back an own entry, with its writer's past
+  pub own-read : map (λ (v : Event). v .reads) (at events 22) ≡ ((3, Some (frameOf rowC .entry)) ∷ []) ∷ []
+  pub own-row : map (λ (v : Event). take 4 (v .row)) (at events 22) ≡ (1 ∷ 8 ∷ 258 ∷ 0 ∷ []) ∷ []
   -- the token's words in its row
   pub token-count : map (λ (v : Event). v .count) (at events 15) ≡ 7 ∷ []
   pub token-row : map (λ (v : Event). take 7 (v .row)) (at events 15) ≡ token ∷ []
   -- sessions read from tokens, and copies, keep the past of their origin
-  pub pasts : map (λ (r : Tracked). r .past) sessions ≡ (32 ∷ 0 ∷ []) ∷ past-1 ∷ [] ∷ [] ∷ past-1 ∷ (33 ∷ past-1) ∷ [] ∷ []
+  pub pasts : map (λ (r : Tracked). r .past) sessions ≡ (32 ∷ 0 ∷ []) ∷ past-1 ∷ [] ∷ [] ∷ past-1 ∷ (33 ∷ (past-1 ++ (33 ∷ past-1))) ∷ [] ∷ []
   pub entries-made : map (λ (m : Made). idOf (m .entry)) log ≡ 0 ∷ 32 ∷ 33 ∷ []
 
 -- .. and frames and tokens
@@ -155,7 +158,7 @@ pub record Computed : Type 0 where
   pub tokens : map tokenOn (contentsRun 3 64 everyCall .tokens) ≡ twice
 
 pub computed : Computed
-unfolding trailingZeros both either implies allBelow check orElse part tab sumBelow eqWords bit has isIn unite minus inserted wordIn subsetOf lowestIn lowestOf join higher ranksAbove outranks clockWords clockFrom idWordIf idWordsTo idWords idsFrom total summed clockPlaceOk clockOk idsPlaceOk idsOk boundsOk entryOk sameContent ringOk bodyWords frameWords frameOk frameOf accepts laid laidIf idsOf ownOk sessionOk writeTokenCode writeTokenRow tokenWords rowsOf steps revealed settingsOk made maxTo clockOf reveal hold better consider bestTo current bestOwn entryCode ownCode noted notedAll plotsOk noneOver allNoneOver jointCode jointOn threeWords answerWords readCode handed newEntry missing sentOf writeCode holdAll wroteSession receiveCode holdNew receivedBy receiveSends readOn writeOn receiveOn freshCode at upd nextOf writerPast gained together lastOf step run onContents contentsRun
+unfolding trailingZeros both either implies allBelow check orElse part tab sumBelow eqWords bit has isIn unite minus inserted wordIn subsetOf lowestIn lowestOf join higher ranksAbove outranks clockWords clockFrom idWordIf idWordsTo idWords idsFrom total summed clockPlaceOk clockOk idsPlaceOk idsOk boundsOk entryOk sameContent ringOk bodyWords frameWords frameOk frameOf accepts laid laidIf idsOf ownOk sessionOk writeTokenCode writeTokenRow tokenWords rowsOf steps revealed settingsOk made maxTo clockOf reveal hold better consider bestTo current bestOwn entryCode ownCode noted notedAll plotsOk jointCode jointOn threeWords answerWords readCode handed newEntry missing sentOf writeCode holdAll wroteSession receiveCode holdNew receivedBy receiveSends readOn writeOn receiveOn freshCode at upd nextOf writerPast gained together lastOf step run onContents contentsRun
 computed =
     record {
       led =
@@ -166,6 +169,8 @@ computed =
             joint-read = refl;
             joint-past = refl;
             joint-row = refl;
+            own-read = refl;
+            own-row = refl;
             token-count = refl;
             token-row = refl;
             pasts = refl;

@@ -3,6 +3,7 @@ pub mod ByCases
 pub mod Change
 pub mod Base
 pub mod ReceiveKeeps
+pub mod Together
 pub mod ReadKeeps
 pub mod Clocks
 pub mod Log
@@ -13,6 +14,8 @@ pub mod SameRun
 pub mod Theorem
 pub mod Corrects
 pub mod Settings
+pub mod RunAppend
+pub mod JointTogether
 pub mod Promises
 pub mod EveryCall
 pub mod NoCall

@@ -19,9 +19,9 @@ use Rattle.frame.specs.declared.session.Session.{Session}
 use Rattle.frame.proofs.Changed.{token-sound}
 use Rattle.frame.proofs.OwnTurns.{content-back}
 use Rattle.frame.proofs.Sessions.{session-facts}
-use Rattle.store.specs.Offices.{Found, None, Office, Some, current, officeOf, reveal, soundStore}
+use Rattle.store.specs.Offices.{Found, None, Office, Some, officeOf, reveal, soundStore}
 use Rattle.office.specs.Answers.{anyFound, entryFound, freshBy}
-use Rattle.office.specs.Calls.{Result, answerWords, freshCode, given, handed, holdAll, jointCode, jointOn, noted, notedAll, openOffice, parsed, readCode, readJoint, readOn, readPlot, receive, receiveCode, receiveOn, receiveSends, receivedBy, sentOf, threeWords, worded, write, writeCode, writeOn, writeSends, wroteSession}
+use Rattle.office.specs.Calls.{Result, answerWords, freshCode, given, handed, handedAll, holdAll, jointCode, jointOn, notedAll, openOffice, parsed, readAll, readCode, readJoint, readOn, readPlot, receive, receiveCode, receiveOn, receiveSends, receivedBy, sentOf, threeWords, worded, write, writeCode, writeOn, writeSends, wroteSession}
 use Rattle.office.specs.Promises.{FreshPromise, JointPromise, OpenPromise, ReadPromise, ReceivePromise, WritePromise}
 use Rattle.reading.proofs.Answers.{joint-content, read-content}
 use Rattle.writing.proofs.Answers.{write-content}
@@ -92,7 +92,7 @@ read-found ws s plot =
           count = 0;
           found = f ∷ [];
           store = reveal (officeOf ws) (s .read);
-          session = noted (current (reveal (officeOf ws) (s .read)) plot) s;
+          session = notedAll (reveal (officeOf ws) (s .read)) (plot ∷ []) s;
           row = [];
           sent = [];
         }))
@@ -119,10 +119,10 @@ pub joint-step : (ws : List ℕ) (s : Session) (plots row : List ℕ) (r : Sessi
 unfolding onWords
 joint-step ws s plots row r ws′ row′ h = (h .0, ap contentOf (h .1) ∙ joint-content ws s plots row, h .2, h .3)
 
-pub answers-joined : (O : Office) (plots : List ℕ) → answerWords O plots ≡ joined (map threeWords (map (current O) plots))
+pub answers-joined : (fs : List Found) → answerWords fs ≡ joined (map threeWords fs)
 unfolding answerWords joined
-answers-joined O [] = refl
-answers-joined O (q ∷ qs) = ap (λ (l : List ℕ). threeWords (current O q) ++ l) (answers-joined O qs)
+answers-joined [] = refl
+answers-joined (f ∷ fs) = ap (λ (l : List ℕ). threeWords f ++ l) (answers-joined fs)
 
 -- what a joint reading handed back stands in its row
 pub joint-found : (ws : List ℕ) (s : Content) (plots row : List ℕ)
@@ -130,25 +130,11 @@ pub joint-found : (ws : List ℕ) (s : Content) (plots row : List ℕ)
 unfolding onWords readJoint jointOn joined laid
 joint-found ws s plots row = go (soundStore ws) (jointCode (officeOf ws) s plots (length row))
   where
-    shown : Office
-    shown = reveal (officeOf ws) (s .read)
-
     res : Bool → ℕ → Result (List ℕ) (List ℕ)
-    res t c =
-        worded t ws s row
-        (given c (officeOf ws) s row
-        (record {
-          code = 0;
-          count = 0;
-          found = map (current shown) plots;
-          store = shown;
-          session = notedAll shown plots s;
-          row = laid (answerWords shown plots) row;
-          sent = [];
-        }))
+    res t c = worded t ws s row (given c (officeOf ws) s row (readAll (officeOf ws) s plots (laid (answerWords (handedAll (officeOf ws) s plots)) row)))
 
     go : (t : Bool) (c : ℕ) → res t c .row ≡ laid (joined (map threeWords (res t c .found))) row
-    go true zero = ap (λ (l : List ℕ). laid l row) (answers-joined shown plots)
+    go true zero = ap (λ (l : List ℕ). laid l row) (answers-joined (handedAll (officeOf ws) s plots))
     go true (suc c) = refl
     go false c = refl
 

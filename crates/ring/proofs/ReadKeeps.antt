@@ -2,7 +2,7 @@
 -- Assumes nothing.
 use Prim.Native.Nat.{ℕ, _*_, _/_, _<_, _≤_}
 use mathlib.Core.Bool.{Bool, cond, false, true}
-use mathlib.Core.List.{List, List·Memᴰ, List·Memᴰ·append-cases, List·Memᴰ·cases-cons, List·Memᴰ·eq-of-singleton, List·Memᴰ·head, List·Memᴰ·not-nil, List·Memᴰ·tail, Memᴰ·append-left, Memᴰ·append-right, Memᴰ·map, Memᴰ·of-map, [], _++_, _∷_, map}
+use mathlib.Core.List.{List, List·Memᴰ, List·Memᴰ·append-cases, List·Memᴰ·cases-cons, List·Memᴰ·head, List·Memᴰ·not-nil, List·Memᴰ·tail, Memᴰ·append-left, Memᴰ·append-right, Memᴰ·map, Memᴰ·of-map, [], _++_, _∷_, map}
 use mathlib.Core.Logic.{_⊎_, inl, inr, ⊎-elim}
 use mathlib.Core.Path.{_∙_, _≡_, ap, refl, sym}
 use native.Mathlib.Omega.{arith}
@@ -21,10 +21,9 @@ use Rattle.frame.specs.Sessions.{Content, sessionOk}
 use Rattle.frame.specs.declared.entry.Entry.{Entry}
 use Rattle.frame.specs.declared.entry.Frame.{Frame}
 use Rattle.frame.proofs.Ids.{inserted-new}
-use Rattle.store.specs.Offices.{Found, None, Office, Some, bestOwn, current, reveal}
+use Rattle.store.specs.Offices.{Found, None, Office, Some, current, reveal}
 use Rattle.store.proofs.Best.{Over, current-from, current-over, own-from, own-keeps, own-over}
-use Rattle.office.specs.Calls.{Result, allNoneOver, answerWords, given, handed, jointCode, jointOn, noted, notedAll, plotsOk, readCode, readOn, refusal}
-use Rattle.office.proofs.NoneOver.{all-none-over, none-over}
+use Rattle.office.specs.Calls.{Result, answerWords, given, handed, handedAll, jointCode, jointOn, noted, notedAll, plotsOk, readAll, readCode, readOn, refusal}
 use Rattle.mesh.specs.Ring.{Shape}
 use Rattle.mesh.specs.Sessions.{SoundSession, TakesIn}
 use Rattle.mesh.specs.World.{Inv, Reach, Reveal, self}
@@ -35,6 +34,7 @@ use Rattle.ring.specs.Run.{Event, Made, Tracked, gained, onContents, rea
 use Rattle.ring.proofs.Base.{Fine, dep-made, events-more, held-made, made-range, read-held, read-within, refused-whole, revealing, visible-held}
 use Rattle.ring.proofs.Change.{Changed, Never}
 use Rattle.ring.proofs.Fit.{Agrees, OfficeFit, Sys, TrackedFit, Whole, ids, mem-set, seen, shape, upd-case, upd-said, upd-same, world, wpast}
+use Rattle.ring.proofs.Together.{together-from, together-in}
 
 -- ---- what a reading notes
 
@@ -167,7 +167,7 @@ writer-is E P (x ∷ l) A k m =
     go false t ih =
         ih (⊎-elim (λ (e : k ≡ idOf (x .entry)). false-true (sym t ∙ eq-eqb (idOf (x .entry)) k (sym e))) (λ i. i) (List·Memᴰ·cases-cons m))
 
-gained-keeps : (log : List Made) (fs : List Found) (past : List ℕ) (q : ℕ) → List·Memᴰ q past → List·Memᴰ q (gained log fs past)
+pub gained-keeps : (log : List Made) (fs : List Found) (past : List ℕ) (q : ℕ) → List·Memᴰ q past → List·Memᴰ q (gained log fs past)
 unfolding gained
 gained-keeps log [] past q m = m
 gained-keeps log (None ∷ fs) past q m = gained-keeps log fs past q m
@@ -195,14 +195,6 @@ pub reading-adds : (n : ℕ) (g : Sys) (o i : ℕ) (r : Tracked) (plots : List �
     × ((v : Event) × (readIn onContents n g o i r plots R .events ≡ g .events ++ (v ∷ [])) × ((k : ℕ) → List·Memᴰ k (r .past) → List·Memᴰ k (v .past)))
 reading-adds n g o i r plots R =
     ((_, refl, λ k m. gained-keeps (g .log) (R .found) (r .past) k m), (_, refl, λ k m. gained-keeps (g .log) (R .found) (r .past) k m))
-
-together-in : (qs : List ℕ) (fs : List Found) (q : ℕ) (f : Found) → List·Memᴰ (q, f) (together qs fs) → List·Memᴰ f fs
-unfolding together
-together-in [] fs q f m = absurd (List·Memᴰ·not-nil m)
-together-in (x ∷ qs) [] q f m = absurd (List·Memᴰ·not-nil m)
-together-in (x ∷ qs) (y ∷ fs) q f m =
-    ⊎-elim (λ (e : _≡_ {A = ℕ × Found} (q, f) (x, y)). List·Memᴰ·head (ap (λ (z : ℕ × Found). z .1) e)) (λ i. List·Memᴰ·tail (together-in qs fs q f i))
-    (List·Memᴰ·cases-cons m)
 
 -- ---- a reading of plots that hands back fs and leaves the session s′
 
@@ -406,39 +398,24 @@ module _ (n p : ℕ) (two : 2 ≤ n) (eight : n ≤ 8) (E : ℕ → Entry) (P : 
               fit = record { clock8 = K .clock8; read-set = K .read-set; own-is = λ e m. F .fit .own-is e (rw (K .own-are) at m) };
             }
 
-  -- ---- read one plot
+  -- ---- a reading of plots, one or several
 
-  one-reads : (plot : ℕ) → Reads O1 s (noted (current O1 plot) s) (plot ∷ []) (handed O1 s plot ∷ [])
-  unfolding handed together
-  one-reads plot =
+  all-reads : (plots : List ℕ) → Reads O1 s (notedAll O1 plots s) plots (map (handed O1 s) plots)
+  unfolding handed
+  all-reads plots =
       record {
-        handed = λ h m. let e : Some h ≡ bestOwn plot (current O1 plot) (s .own) = List·Memᴰ·eq-of-singleton m in
-            ⊎-elim (λ (c : current O1 plot ≡ Some h). inl (plot, h, List·Memᴰ·head refl, c, refl)) (λ c. inr (c .0))
-            (own-from plot (s .own) (current O1 plot) h (sym e));
-        on-plot = λ q h m. let x = List·Memᴰ·eq-of-singleton m in
-            let a : q ≡ plot = ap (λ (y : ℕ × Found). y .0) x in
-            let b : Some h ≡ bestOwn plot (current O1 plot) (s .own) = ap (λ (y : ℕ × Found). y .1) x in
-            rw a (own-from plot (s .own) (current O1 plot) h (sym b));
-        reads-from =
-            λ k h.
-            ⊎-elim (λ (t : (h : Entry) × (current O1 plot ≡ Some h) × (k ≡ idOf h)). inl (plot, t .0, List·Memᴰ·head refl, t .1, t .2))
-            (λ m. inr m) (noted-from (current O1 plot) s (cur-small plot) (F .fit .read-set) k h);
-        reads-to = noted-to (current O1 plot) s (cur-small plot) (F .fit .read-set);
-        reads-new =
-            λ k t.
-            let e : t .0 ≡ plot = List·Memᴰ·eq-of-singleton (t .2) in
-            rw (t .4) (noted-new (current O1 plot) s (cur-small plot) (F .fit .read-set) (t .1) (ap (current O1) (sym e) ∙ t .3));
-        own-are = noted-own (current O1 plot) s;
-        read-set = noted-set (current O1 plot) s (F .fit .read-set);
-        clock8 = noted-clock (current O1 plot) s (F .fit .clock8);
-        over-visible = λ q f m e v. let x = List·Memᴰ·eq-of-singleton m in
-            let a : q ≡ plot = ap (λ (y : ℕ × Found). y .0) x in
-            let b : f ≡ bestOwn plot (current O1 plot) (s .own) = ap (λ (y : ℕ × Found). y .1) x in
-            rw b (own-keeps plot (s .own) (current O1 plot) e (rw a at v));
-        over-own = λ q f m e c v. let x = List·Memᴰ·eq-of-singleton m in
-            let a : q ≡ plot = ap (λ (y : ℕ × Found). y .0) x in
-            let b : f ≡ bestOwn plot (current O1 plot) (s .own) = ap (λ (y : ℕ × Found). y .1) x in
-            rw b (own-over plot (s .own) (current O1 plot) e c (v ∙ a));
+        handed = λ h m. let t = Memᴰ·of-map (handed O1 s) plots m in
+            ⊎-elim (λ (c : current O1 (t .0) ≡ Some h). inl (t .0, h, t .1, c, refl)) (λ c. inr (c .0))
+            (own-from (t .0) (s .own) (current O1 (t .0)) h (t .2));
+        on-plot = λ q h m. own-from q (s .own) (current O1 q) h (sym (together-from (handed O1 s) plots q (Some h) m .1));
+        reads-from = all-from O1 cur-small plots s (F .fit .read-set);
+        reads-to = all-to O1 cur-small plots s (F .fit .read-set);
+        reads-new = all-new O1 cur-small plots s (F .fit .read-set);
+        own-are = all-own O1 cur-small plots s;
+        read-set = all-sets O1 cur-small plots s (F .fit .read-set);
+        clock8 = all-clock O1 cur-small plots s (F .fit .clock8);
+        over-visible = λ q f m e v. rw (together-from (handed O1 s) plots q f m .1) (own-keeps q (s .own) (current O1 q) e v);
+        over-own = λ q f m e c v. rw (together-from (handed O1 s) plots q f m .1) (own-over q (s .own) (current O1 q) e c v);
       }
 
   refused : (c : ℕ) (row : List ℕ) → Fine c
@@ -449,77 +426,34 @@ module _ (n p : ℕ) (two : 2 ≤ n) (eight : n ≤ 8) (E : ℕ → Entry) (P : 
   unfolding readCode check
   read-code plot = rw (read-held n p two eight E P g w o lt s (r .past) F)
 
-  abbrev R1 : ℕ → Result Office Frame
-  R1 plot = record { code = 0; count = 0; found = handed O1 s plot ∷ []; store = O1; session = noted (current O1 plot) s; row = []; sent = [] }
-
   pub one-whole : (plot : ℕ) → Whole n p two E P (readBy onContents n g o i r (plot ∷ []) (readOn O s plot) (readOn O s plot .code))
   unfolding readOn check
   one-whole plot = rw (read-code plot) (go (sessionOk (O .offices) (O .plots) s) (ltb plot (O .plots)))
     where
-      go : (t u : Bool) → Whole n p two E P (readBy onContents n g o i r (plot ∷ []) (given (check t 3 (check u 4 0)) O s [] (R1 plot))
-          (given (check t 3 (check u 4 0)) O s [] (R1 plot) .code))
-      go true true = read-whole (plot ∷ []) (handed O1 s plot ∷ []) (noted (current O1 plot) s) [] (one-reads plot)
+      go : (t u : Bool) → Whole n p two E P (readBy onContents n g o i r (plot ∷ []) (given (check t 3 (check u 4 0)) O s [] (readAll O s (plot ∷ []) []))
+          (given (check t 3 (check u 4 0)) O s [] (readAll O s (plot ∷ []) []) .code))
+      go true true = read-whole (plot ∷ []) (handedAll O s (plot ∷ [])) (notedAll O1 (plot ∷ []) s) [] (all-reads (plot ∷ []))
       go true false = refused 4 [] (λ e. omega arith, λ e. omega arith, λ e. omega arith)
       go false u = refused 3 [] (λ e. omega arith, λ e. omega arith, λ e. omega arith)
-
-  -- ---- read jointly
-
-  together-from : (c : ℕ → Found) (qs : List ℕ) (q : ℕ) (f : Found) → List·Memᴰ (q, f) (together qs (map c qs)) → List·Memᴰ q qs × (f ≡ c q)
-  unfolding together
-  together-from c [] q f m = absurd (List·Memᴰ·not-nil m)
-  together-from c (x ∷ qs) q f m =
-      ⊎-elim
-      (λ (e : _≡_ {A = ℕ × Found} (q, f) (x, c x)).
-      let a : q ≡ x = ap (λ (y : ℕ × Found). y .0) e in (List·Memᴰ·head a, ap (λ (y : ℕ × Found). y .1) e ∙ ap c (sym a)))
-      (λ i. let t = together-from c qs q f i in (List·Memᴰ·tail (t .0), t .1)) (List·Memᴰ·cases-cons m)
-
-  joint-reads : (plots : List ℕ) → allNoneOver O1 s plots ≡ true → Reads O1 s (notedAll O1 plots s) plots (map (current O1) plots)
-  joint-reads plots none =
-      record {
-        handed = λ h m. let t = Memᴰ·of-map (current O1) plots m in inl (t .0, h, t .1, t .2, refl);
-        on-plot = λ q h m. inl (sym (together-from (current O1) plots q (Some h) m .1));
-        reads-from = all-from O1 cur-small plots s (F .fit .read-set);
-        reads-to = all-to O1 cur-small plots s (F .fit .read-set);
-        reads-new = all-new O1 cur-small plots s (F .fit .read-set);
-        own-are = all-own O1 cur-small plots s;
-        read-set = all-sets O1 cur-small plots s (F .fit .read-set);
-        clock8 = all-clock O1 cur-small plots s (F .fit .clock8);
-        over-visible = λ q f m e v. rw (together-from (current O1) plots q f m .1) v;
-        over-own =
-            λ q f m e c v.
-            let t = together-from (current O1) plots q f m in
-            rw (t .1) (none-over q (s .own) (current O1 q) (all-none-over q O1 s plots none (t .0)) e c v);
-      }
 
   module _ (plots row : List ℕ) where
     abbrev T4 : Bool
     T4 = both (leb (length plots) 16) (plotsOk (O .plots) plots)
 
-    joint-code : jointCode O s plots (length row) ≡ check (sessionOk (O .offices) (O .plots) s) 3 (check T4 4 (check (leb (3 * length plots) (length row)) 8 (check (allNoneOver O1 s plots) 13 0)))
+    joint-code : jointCode O s plots (length row) ≡ check (sessionOk (O .offices) (O .plots) s) 3 (check T4 4 (check (leb (3 * length plots) (length row)) 8 0))
     unfolding jointCode check
     joint-code = rw (read-held n p two eight E P g w o lt s (r .past) F)
 
     abbrev RJ : Result Office Frame
-    RJ =
-        record {
-          code = 0;
-          count = 0;
-          found = map (current O1) plots;
-          store = O1;
-          session = notedAll O1 plots s;
-          row = laid (answerWords O1 plots) row;
-          sent = [];
-        }
+    RJ = readAll O s plots (laid (answerWords (handedAll O s plots)) row)
 
     pub joint-whole : Whole n p two E P (readBy onContents n g o i r plots (jointOn O s plots row) (jointOn O s plots row .code))
     unfolding jointOn check
-    joint-whole = rw joint-code (go (sessionOk (O .offices) (O .plots) s) T4 (leb (3 * length plots) (length row)) (allNoneOver O1 s plots) refl)
+    joint-whole = rw joint-code (go (sessionOk (O .offices) (O .plots) s) T4 (leb (3 * length plots) (length row)))
       where
-        go : (t u v x : Bool) → allNoneOver O1 s plots ≡ x
-            → Whole n p two E P (readBy onContents n g o i r plots (given (check t 3 (check u 4 (check v 8 (check x 13 0)))) O s row RJ) (given (check t 3 (check u 4 (check v 8 (check x 13 0)))) O s row RJ .code))
-        go true true true true e =
-            read-whole plots (map (current O1) plots) (notedAll O1 plots s) (laid (answerWords O1 plots) row) (joint-reads plots e)
-        go true true true false e = refused 13 row (λ e. omega arith, λ e. omega arith, λ e. omega arith)
-        go true true false x e = refused 8 row (λ e. omega arith, λ e. omega arith, λ e. omega arith)
-        go true false v x e = refused 4 row (λ e. omega arith, λ e. omega arith, λ e. omega arith)
-        go false u v x e = refused 3 row (λ e. omega arith, λ e. omega arith, λ e. omega arith)
+        go : (t u v : Bool)
+            → Whole n p two E P (readBy onContents n g o i r plots (given (check t 3 (check u 4 (check v 8 0))) O s row RJ) (given (check t 3 (check u 4 (check v 8 0))) O s row RJ .code))
+        go true true true = read-whole plots (handedAll O s plots) (notedAll O1 plots s) (RJ .row) (all-reads plots)
+        go true true false = refused 8 row (λ e. omega arith, λ e. omega arith, λ e. omega arith)
+        go true false v = refused 4 row (λ e. omega arith, λ e. omega arith, λ e. omega arith)
+        go false u v = refused 3 row (λ e. omega arith, λ e. omega arith, λ e. omega arith)

@@ -8,7 +8,8 @@
 --                               every list of calls has such answers (specs/Claim.antt; what is read off an answer: specs/Answers.antt)
 --   run → Holds                 in `claim` too; given apart, since the program stands on them: `opens`, `demand3`: openings in range are accepted, and
 --                               every run keeps what paper 01 asks of it (specs/Run.antt, specs/Holds.antt)
---                               Beside it `settings`, of the call that paper 01 does not have: specs/Settings.antt
+--                               Beside it `settings`, of the call that paper 01 does not have: specs/Settings.antt; `joint-together`, what the
+--                               replies of a joint reading show together: specs/Joint.antt
 -- Assumes nothing.
 use base.Logic.{SProp}
 use contract.Monad.{Fun}
@@ -26,6 +27,7 @@ use Rattle.lent.proofs.Contract.{LentContracts}
 use Rattle.host.proofs.Contract.{HostContracts}
 use Rattle.ring.specs.Claim.{Answered, Claim}
 use Rattle.ring.specs.Holds.{Demand3, Opens}
+use Rattle.ring.specs.Joint.{JointTogether}
 use Rattle.ring.specs.Settings.{SettingsStay}
 
 -- for every model of memory
@@ -45,3 +47,4 @@ pub record ThirdDemand : Type 2 where
   pub opens : Opens
   pub demand3 : Demand3
   pub settings : SettingsStay
+  pub joint-together : JointTogether

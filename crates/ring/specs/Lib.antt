@@ -3,4 +3,5 @@ pub mod Holds
 pub mod Answers
 pub mod Claim
 pub mod Settings
+pub mod Joint
 pub mod Demand

@@ -79,7 +79,7 @@ pub early-own : (b : Bool) (O : Office) (s : Content) (plot value x : ℕ) → c
 unfolding earlyCode check orElse
 early-own b O s plot value x z w e = let a = check-none b 2 _ (omega arith) z in rw (a .0, a .1, w) e
 
-pub early-le : (b : Bool) (O : Office) (s : Content) (plot value : ℕ) → check b 2 (earlyCode O s plot value) ≤ 13
+pub early-le : (b : Bool) (O : Office) (s : Content) (plot value : ℕ) → check b 2 (earlyCode O s plot value) ≤ 12
 unfolding earlyCode firstCodes secondCodes
 early-le b O s plot value =
     check-le b 2 _ (omega arith)

@@ -60,13 +60,25 @@ impl Office {
         &self.store
     }
 
-    /// Reads one plot. What the session has read is shown here from now on.
+    /// Reads one plot: the higher-ranked of the shown entry and the session's own. What the session
+    /// has read is shown here from now on.
     pub fn read(&mut self, session: &mut Session, plot: u32) -> Result<Option<Entry>, Refusal> {
         let found = ffi::read_plot(&mut self.store, &mut session.inner, plot)?;
         Ok(found.map(Entry::from))
     }
 
-    /// Reads up to 16 plots at one moment.
+    /// Reads up to 16 plots at one moment, each as [`read`](Office::read) does.
+    ///
+    /// ```
+    /// # use burial_register::{Office, Refusal, Ring, Session};
+    /// # let ring = Ring { offices: 3, plots: 64 };
+    /// # let (mut office, mut session) = (Office::open(ring, 0)?, Session::fresh(ring)?);
+    /// office.write(&mut session, 5, 709)?;
+    /// let found = office.read_joint(&mut session, &[5, 6])?;
+    /// assert_eq!(found[0].unwrap().to_string(), "709 by 0.1");
+    /// assert_eq!(found[1], None);
+    /// # Ok::<(), Refusal>(())
+    /// ```
     pub fn read_joint(
         &mut self,
         session: &mut Session,

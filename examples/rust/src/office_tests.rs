@@ -114,6 +114,35 @@ fn plots_are_read_jointly_in_the_order_asked() {
     assert_eq!(last.read_joint(&mut reader, &[]), Ok(vec![]));
 }
 
+#[test]
+fn own_entries_are_read_jointly_beside_those_of_others() {
+    let ((mut first, mut writer), (mut office, mut session)) = (opened(0), opened(1));
+    office.write(&mut session, 5, 1).unwrap();
+    office.write(&mut session, 6, 2).unwrap();
+    let (five, six) = (Some(entry(1, 1, 5, 1)), Some(entry(1, 2, 6, 2)));
+    assert_eq!(office.read_joint(&mut session, &[5, 6, 7, 5]), Ok(vec![five, six, None, five]));
+    assert_eq!(office.read_joint(&mut opened(1).1, &[5, 6]), Ok(vec![None, None]));
+
+    // What office 0 wrote on plot 5 stands above hers, and is shown at office 2.
+    let (mut last, frame) = (opened(2).0, first.write(&mut writer, 5, 709).unwrap().remove(0));
+    last.hear(&office.hear(&frame).unwrap().unwrap()).unwrap();
+    let shown = Some(entry(0, 1, 5, 709));
+    assert_eq!(last.read_joint(&mut session, &[5, 6]), Ok(vec![shown, six]));
+    office.write(&mut session, 5, 710).unwrap();
+    let corrected = Some(entry(1, 3, 5, 710));
+    assert_eq!(last.read_joint(&mut session, &[5, 6]), Ok(vec![corrected, six]));
+}
+
+#[test]
+fn a_joint_reading_of_one_plot_is_the_reading_of_it() {
+    let (mut office, mut session) = opened(1);
+    office.write(&mut session, 5, 709).unwrap();
+    for plot in [5, 6] {
+        let found = office.read(&mut session, plot).unwrap();
+        assert_eq!(office.read_joint(&mut session, &[plot]), Ok(vec![found]));
+    }
+}
+
 /// A frame of office 0 that depends on one which has not been heard.
 fn early_frame() -> Frame {
     let (mut office, mut session) = opened(0);

@@ -29,8 +29,6 @@ pub enum Refusal {
     Different,
     /// 12: an entry that was read or is depended on is not held.
     Missing,
-    /// 13: an own entry stands above what a joint reading would present.
-    OwnEntry,
     /// A number that this version of the library does not give.
     Unknown(u32),
 }
@@ -38,7 +36,7 @@ pub enum Refusal {
 use Refusal::*;
 
 /// By number, from 1 on.
-const NUMBERED: [Refusal; 13] = [
+const NUMBERED: [Refusal; 12] = [
     BadSettings,
     BadStore,
     BadContent,
@@ -51,11 +49,10 @@ const NUMBERED: [Refusal; 13] = [
     Unmade,
     Different,
     Missing,
-    OwnEntry,
 ];
 
 /// By number, from 0 on; word for word those of the header.
-const TEXTS: [&str; 14] = [
+const TEXTS: [&str; 13] = [
     "not refused",
     "ring size, own office or plots out of range",
     "the store is not sound, or too short",
@@ -69,7 +66,6 @@ const TEXTS: [&str; 14] = [
     "an entry names this office and was not made here",
     "an entry is held with other content",
     "an entry that was read or is depended on is not held",
-    "an own entry stands above what would be presented",
 ];
 
 /// What a number that a call replies means, 0 included.

@@ -51,24 +51,19 @@ returns-11 c = sym (c .match .keys11)
 
 returns-12 : tie.Need-returns-12
 unfolding numberOf
-returns-12 c = sym (c .match .keys12)
-
-returns-13 : tie.Need-returns-13
-unfolding numberOf
-returns-13 c = let k = c .before .args .code in
+returns-12 c = let k = c .before .args .code in
     let a1 : 1 ≤ k = c .before .pre .0 in
-    let a2 : 2 ≤ k = omega (arith, c .match .rest .0 .0 .0 .0 .0 .0 .0 .0 .0 .0 .0 .1) in
-    let a3 : 3 ≤ k = omega (arith, c .match .rest .0 .0 .0 .0 .0 .0 .0 .0 .0 .0 .1) in
-    let a4 : 4 ≤ k = omega (arith, c .match .rest .0 .0 .0 .0 .0 .0 .0 .0 .0 .1) in
-    let a5 : 5 ≤ k = omega (arith, c .match .rest .0 .0 .0 .0 .0 .0 .0 .0 .1) in
-    let a6 : 6 ≤ k = omega (arith, c .match .rest .0 .0 .0 .0 .0 .0 .0 .1) in
-    let a7 : 7 ≤ k = omega (arith, c .match .rest .0 .0 .0 .0 .0 .0 .1) in
-    let a8 : 8 ≤ k = omega (arith, c .match .rest .0 .0 .0 .0 .0 .1) in
-    let a9 : 9 ≤ k = omega (arith, c .match .rest .0 .0 .0 .0 .1) in
-    let a10 : 10 ≤ k = omega (arith, c .match .rest .0 .0 .0 .1) in
-    let a11 : 11 ≤ k = omega (arith, c .match .rest .0 .0 .1) in
-    let a12 : 12 ≤ k = omega (arith, c .match .rest .0 .1) in
-    let a13 : 13 ≤ k = omega (arith, c .match .rest .1) in
+    let a2 : 2 ≤ k = omega (arith, c .match .rest .0 .0 .0 .0 .0 .0 .0 .0 .0 .0 .1) in
+    let a3 : 3 ≤ k = omega (arith, c .match .rest .0 .0 .0 .0 .0 .0 .0 .0 .0 .1) in
+    let a4 : 4 ≤ k = omega (arith, c .match .rest .0 .0 .0 .0 .0 .0 .0 .0 .1) in
+    let a5 : 5 ≤ k = omega (arith, c .match .rest .0 .0 .0 .0 .0 .0 .0 .1) in
+    let a6 : 6 ≤ k = omega (arith, c .match .rest .0 .0 .0 .0 .0 .0 .1) in
+    let a7 : 7 ≤ k = omega (arith, c .match .rest .0 .0 .0 .0 .0 .1) in
+    let a8 : 8 ≤ k = omega (arith, c .match .rest .0 .0 .0 .0 .1) in
+    let a9 : 9 ≤ k = omega (arith, c .match .rest .0 .0 .0 .1) in
+    let a10 : 10 ≤ k = omega (arith, c .match .rest .0 .0 .1) in
+    let a11 : 11 ≤ k = omega (arith, c .match .rest .0 .1) in
+    let a12 : 12 ≤ k = omega (arith, c .match .rest .1) in
     omega (arith, c .before .pre .1)
 
 pub refusal-of-spec : {M : Type 1} → statement M
@@ -86,5 +81,4 @@ refusal-of-spec =
     returns-9
     returns-10
     returns-11
-    returns-12
-    returns-13)
+    returns-12)

@@ -1,7 +1,7 @@
 //! The foreman's story. In a ring of three offices he writes at one, goes to the next with a token
 //! in his pocket while the line is slow, and writes again. A visitor who reads the second entry is
 //! shown the first one too, wherever she goes. The calls are in the order of scripts/foreman.txt;
-//! newcomers who look in, refusals and a night are added.
+//! his look at both entries, newcomers who look in, refusals and a night are added.
 
 mod house;
 
@@ -27,12 +27,18 @@ fn read(house: &mut House, own: u32, who: (&str, &mut Session), plot: u32) -> To
     Ok(found)
 }
 
-/// Both plots at one moment, for someone who comes in new.
-fn newcomer(house: &mut House, own: u32) -> Told<Vec<String>> {
-    let found = house.office(own).read_joint(&mut Session::fresh(RING)?, &[5, 6])?;
+/// What someone finds on both plots at one moment.
+fn read_both(house: &mut House, own: u32, who: (&str, &mut Session)) -> Told<Vec<String>> {
+    let (name, session) = who;
+    let found = house.office(own).read_joint(session, &[5, 6])?;
     let found: Vec<String> = found.into_iter().map(say).collect();
-    println!("office {own}: a newcomer reads plots 5 and 6 jointly: {}", found.join("; "));
+    println!("office {own}: {name} reads plots 5 and 6 jointly: {}", found.join("; "));
     Ok(found)
+}
+
+/// The same for someone who comes in new.
+fn newcomer(house: &mut House, own: u32) -> Told<Vec<String>> {
+    read_both(house, own, ("a newcomer", &mut Session::fresh(RING)?))
 }
 
 /// An office hears the oldest frame of its line.
@@ -52,13 +58,17 @@ fn foreman_leaves(house: &mut House) -> Told<Token> {
     Ok(token)
 }
 
-/// At office 1 he finds what he wrote; with his next entry the first is sent from here as well.
+/// At office 1 he finds what he wrote; with his next entry the first is sent from here as well. He
+/// sees both, and nobody else does yet.
 fn foreman_arrives(house: &mut House, token: &Token) -> Told<()> {
     let mut foreman = Session::from_token(RING, token)?;
     assert_eq!(read(house, 1, ("the foreman", &mut foreman), 5)?, "709 by 0.1");
     let sent = house.write(1, &mut foreman, 6, 1)?;
     println!("office 1: he writes 1 to plot 6: {} and {} are sent", sent[0], sent[1]);
     assert_eq!([sent[0].to_string(), sent[1].to_string()], ["0.1", "1.1"]);
+    let found = read_both(house, 1, ("the foreman", &mut foreman))?;
+    assert_eq!(found, ["709 by 0.1", "1 by 1.1"]);
+    assert_eq!(newcomer(house, 1)?, ["none", "none"]);
     Ok(())
 }
 
