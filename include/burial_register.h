@@ -164,7 +164,9 @@ extern "C" {
 #define BURIAL_TOKEN_WORDS  4538u       /* a token: 8 offices, all read, 16 own entries */
 
 /* 65536 * major + 256 * minor + patch. Another major version has other calls, or words of stores,
- * frames or tokens that this one does not read: keep the number beside what is kept. */
+ * frames or tokens that this one does not read: keep the number beside what is kept. Versions of
+ * one major number read each other's words; another minor number answers some calls otherwise
+ * (1.1: no refusal 13). */
 #define BURIAL_VERSION      0x010100u
 
 /* The version of the archive that is linked: a host that starts compares it with BURIAL_VERSION,
@@ -206,8 +208,9 @@ uint32_t burial_version(void);
 /* A read id or a dependency is not held. Of a frame: one before it was not heard yet; hear that
  * one first, and then this one again. Of a session: as above. */
 #define BURIAL_MISSING      12u
-/* 13 is never given: version 1.0 refused a joint reading of a plot with an own entry above the
- * shown one; it now hands back that entry (section 9). */
+/* 13 is never given. Version 1.0 gave it (BURIAL_OWN_ENTRY) to a joint reading of a plot with an
+ * own entry of the session that ranked above the shown one, or where none was shown. Such a
+ * reading now hands back the own entry (section 9). */
 
 /* A refusal in words, for people. */
 static inline const char *burial_refusal_text(uint32_t refusal)
@@ -376,12 +379,13 @@ struct burial_written burial_receive(uint32_t *store, size_t store_len,
 
 /* ---- 9 Reading
  *
- * A reading hands back, of each plot that is asked for, the higher-ranked of the shown entry and
- * the session's own entries on the plot; where an own entry has the same office and clock as the
- * shown one, the shown one. A joint reading of one plot is the reading of that plot.
- * Store: before that, all that the session has read is shown, with what that depends on, and so on.
- * Session: the shown entry of each plot that is asked for is added to what it has read, and
- * that entry's clock is joined into its own. An own entry that is handed back adds nothing. */
+ * Store: first, all that the session has read is shown, with what that depends on, and so on.
+ * A reading then hands back, of each plot that is asked for, the higher-ranked of the highest
+ * shown entry of the plot (below: the shown entry) and the session's own entries there; where an
+ * own entry has the same office and clock as the shown one, the shown one.
+ * Session: after that the shown entry of each of these plots is added to what it has read, and
+ * its clock is joined into the session's: also where an own entry is handed back. The own entry
+ * itself adds nothing. */
 
 /* found is 1 with the entry that is handed back; or 0 with an entry of zeros, where the plot has
  * none. On refusal found and entry are zeros. */
@@ -398,9 +402,10 @@ struct burial_plot_found burial_lent_read_plot(uint32_t *store, size_t store_len
                                                struct burial_session *session, uint32_t plot);
 
 /* Reads up to 16 plots at one moment, the same plot more than once if asked; with no plot at all
- * it only shows what the session has read. What it hands back goes together: where a reply is an
- * entry, the reply on each other listed plot is no entry below what that entry's writer had read
- * or written there.
+ * it only shows what the session has read. With one plot it answers, shows and adds to the session
+ * as the reading of that plot does. What it hands back goes together, in a ring that keeps the
+ * rules of section 3: if the writer of an entry that is handed back had read or written an entry
+ * on a listed plot, the reply on that plot is that entry or one that does not rank below it.
  * Answer: for each plot, in order, three words of the entry that is handed back: 1, value, id
  * (burial_id_office, burial_id_serial); or 0, 0, 0 where there is none.
  * Refusals: BURIAL_BAD_STORE, BURIAL_BAD_CONTENT, BURIAL_BAD_PLOT, BURIAL_NO_ROOM (answer_len

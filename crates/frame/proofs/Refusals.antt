@@ -1,4 +1,4 @@
--- Refusals as numbers are 1 to 12, so no call that answers a refusal answers 13 (paper 02, (i)). Assumes nothing.
+-- Refusals as numbers are at most 12, so no call that answers a refusal answers 13 (paper 02, (i)). Assumes nothing.
 use Prim.Native.Nat.{_≤_}
 use native.Mathlib.Omega.{arith}
 use Rattle.frame.specs.Refusals.{codeOf, numberOf, replyOf}

@@ -1,5 +1,5 @@
 -- The calls of an office: for each, on contents, its refusal number (0: none) in the paper's order and what it does; and the call on words,
--- which is that between reading the store and writing it. Paper 01, "Operations". Assumes nothing.
+-- which is that between reading the store and writing it. Paper 01, "Operations", as paper 02 changes it. Assumes nothing.
 use Prim.Native.Nat.{ℕ, zero, suc, _+_, _-_, _*_}
 use mathlib.Core.Bool.{Bool, true, false, cond}
 use mathlib.Core.List.{List, [], _∷_, _++_, map}
@@ -32,8 +32,9 @@ ownCode O (e ∷ es) = orElse (entryCode O e) (ownCode O es)
 
 -- ---- Readings of one plot and of several
 
--- "hand back the higher-ranked of that entry and the errand's own entries on the plot, or none"; paper 02, (i): a joint reading "hands back, per
--- plot, the higher-ranked of the presented entry and her own, as a single reading does"
+-- "hand back the higher-ranked of that entry and the errand's own entries on the plot, or none"; where one "ties with the presented one, the
+-- presented one is handed back"; paper 02, (i): a joint reading "hands back, per plot, the higher-ranked of the presented entry and her own, as a
+-- single reading does"
 unfoldable pub handed : Office → Content → ℕ → Found
 handed O s plot = bestOwn plot (current O plot) (s .own)
 
@@ -59,6 +60,7 @@ unfoldable pub plotsOk : ℕ → List ℕ → Bool
 plotsOk p [] = true
 plotsOk p (q ∷ qs) = both (ltb q p) (plotsOk p qs)
 
+-- "Refusal 13 then never occurs" (02, (i))
 unfoldable pub jointCode : Office → Content → List ℕ → ℕ → ℕ
 jointCode O s plots room =
     check (sessionOk (O .offices) (O .plots) s) 3
@@ -171,10 +173,11 @@ given (suc c) a s row r = refusal (suc c) a s row
 
 -- ---- on contents
 
--- what plots hand back once the read names are brought out, and an accepted reading of them, with the lent row as it leaves it
+-- what a reading hands back on each plot, once the read names are brought out
 abbrev pub handedAll : Office → Content → List ℕ → List Found
 handedAll O s plots = map (handed (reveal O (s .read)) s) plots
 
+-- an accepted reading of plots, one or several; row: the lent row as it leaves it
 abbrev pub readAll : Office → Content → List ℕ → List ℕ → Result Office Frame
 readAll O s plots row =
     record {

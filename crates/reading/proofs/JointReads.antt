@@ -176,6 +176,12 @@ words-turn ws own n plots ks l m r i best b e q =
     let t : bestWords best ≡ threeWords f = ap bestWords (b ∙ best-all own (getD plots i 0) (foundIn ws (getD ks i 0)) n) ∙ three-best f in
     words-more (handedAmong ws own n plots ks) l m r i e (q ∙ ap (sets m (3 * i)) t)
 
+-- of no own writes none is better
+pub words-alone : (ws : List ℕ) (own : List Entry) (n : ℕ) (plots ks l m : List ℕ) (k : ℕ) → n ≡ 0 → m ≡ sets l 0 (wordsTo (foundAmong ws ks) k)
+    → m ≡ sets l 0 (wordsTo (handedAmong ws own n plots ks) k)
+unfolding handedAmong bestOwn tab
+words-alone ws own n plots ks l m k z e = rw z e
+
 -- three stores
 pub three-sets : (l : List ℕ) (at a b c : ℕ) → set (set (set l at a) (at + 1) b) (at + 2) c ≡ sets l at (a ∷ b ∷ c ∷ [])
 three-sets l at a b c =

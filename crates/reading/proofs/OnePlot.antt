@@ -2,7 +2,7 @@
 -- leaves the session alike, and its row has what the other hands back. Assumes nothing.
 use Prim.Native.Nat.{ℕ, suc, zero, _≤_}
 use mathlib.Core.Bool.{Bool, false, true}
-use mathlib.Core.List.{List, [], _∷_}
+use mathlib.Core.List.{List, [], _∷_, map}
 use mathlib.Core.Path.{_≡_, _∙_, ap, refl}
 use lib.Dec.{ltb}
 use lib.ListN.{length}
@@ -11,6 +11,7 @@ use Rattle.causal.specs.Codes.{check}
 use Rattle.causal.specs.Sets.{subsetOf}
 use Rattle.causal.specs.Tests.{both}
 use Rattle.frame.specs.Calls.{laid}
+use Rattle.frame.specs.Frames.{frameWords}
 use Rattle.frame.specs.Sessions.{Content, contentOf, sessionOk}
 use Rattle.frame.specs.declared.entry.Frame.{Frame}
 use Rattle.frame.specs.declared.session.Session.{Session}
@@ -18,7 +19,7 @@ use Rattle.store.specs.Offices.{Office, current, officeOf, reveal, soundStore}
 use Rattle.office.specs.Answers.{notedAllIn, notedIn, readJointSession, readPlotSession, sessionIf}
 use Rattle.office.specs.Calls.{Result, answerWords, given, handedAll, jointCode, jointOn, plotsOk, readAll, readCode, readJoint, readOn, readPlot, stored, worded}
 
--- a: what the joint reading leaves of a row; b: what the single reading leaves
+-- a: the result of the joint reading, which was lent the row; b: that of the single reading
 pub record Alike {A B : Type 0} (row : List ℕ) (a b : Result A B) : Type 0 where
   pub code : a .code ≡ b .code
   pub count : a .count ≡ b .count
@@ -26,6 +27,7 @@ pub record Alike {A B : Type 0} (row : List ℕ) (a b : Result A B) : Type 0 whe
   pub store : a .store ≡ b .store
   pub session : a .session ≡ b .session
   pub words : a .row ≡ laid (answerWords (b .found)) row
+  pub sent : a .sent ≡ b .sent
 
 module _ (O : Office) (s : Content) (plot : ℕ) (row : List ℕ) (room : 3 ≤ length row) where
   one-code : jointCode O s (plot ∷ []) (length row) ≡ readCode O s plot
@@ -43,8 +45,8 @@ module _ (O : Office) (s : Content) (plot : ℕ) (row : List ℕ) (room : 3 ≤ 
     where
       go : (c : ℕ)
           → Alike row (given c O s row (readAll O s (plot ∷ []) (laid (answerWords (handedAll O s (plot ∷ []))) row))) (given c O s [] (readAll O s (plot ∷ []) []))
-      go zero = record { code = refl; count = refl; found = refl; store = refl; session = refl; words = refl }
-      go (suc c) = record { code = refl; count = refl; found = refl; store = refl; session = refl; words = refl }
+      go zero = record { code = refl; count = refl; found = refl; store = refl; session = refl; words = refl; sent = refl }
+      go (suc c) = record { code = refl; count = refl; found = refl; store = refl; session = refl; words = refl; sent = refl }
 
 module _ (ws : List ℕ) (plot : ℕ) (row : List ℕ) (room : 3 ≤ length row) where
   pub one-plot : (s : Content) → Alike row (readJoint ws s (plot ∷ []) row) (readPlot ws s plot)
@@ -60,8 +62,9 @@ module _ (ws : List ℕ) (plot : ℕ) (row : List ℕ) (room : 3 ≤ length row)
             store = ap (λ (c : ℕ). stored c ws (a .store)) (h .code) ∙ ap (stored (b .code) ws) (h .store);
             session = h .session;
             words = h .words;
+            sent = ap (map frameWords) (h .sent);
           }
-      go false a b h = record { code = refl; count = refl; found = refl; store = refl; session = refl; words = refl }
+      go false a b h = record { code = refl; count = refl; found = refl; store = refl; session = refl; words = refl; sent = refl }
 
   -- the session as the struct that is handed back
   pub one-plot-session : (s : Session) → readJointSession ws s (plot ∷ []) row ≡ readPlotSession ws s plot

@@ -33,28 +33,6 @@ fn put_best(best: Best, answer: &mut [u32], at: usize)
     put_three(1, e.value, 256 * e.office + e.serial, &mut *answer, at);
 }
 
-// For each plot the best of what is current there and the own writes.
-pub fn put_answers(
-    store: &[u32],
-    s: Session,
-    plots: &[u32],
-    places: [usize; 16],
-    answer: &mut [u32],
-)
-    requires { ⌜ (s .count ≤ 16) × OwnNamed (s .own) (s .count) × (length (now plots) ≤ 16) × (3 * length (now plots) ≤ length (now answer))
-        × AllReach (length (now store)) (length (now plots)) places ⌝ }
-    ensures { λ _. ⌜ now (answer .exit) ≡ sets (now (answer .entry)) 0 (wordsTo (handedAmong (now (store .entry)) (s .own) (s .count) (now (plots .entry)) places) (length (now (plots .entry)))) ⌝ }
-{
-    let own = s.own;
-    for i in 0..plots.len() {
-        let first = crate::best::best_at(store, places[i]);
-        let best = crate::best::best_own(own, s.count, plots[i], first);
-        put_best(best, &mut *answer, 3 * i);
-    }
-}
-
-// ---- the same for a session that carries nothing: no own write stands above what is current
-
 // Entry k of the store as three words, or zeros.
 fn put_current(store: &[u32], k: usize, answer: &mut [u32], at: usize)
     requires { ⌜ Reaches (length (now store)) k × (at + 3 ≤ length (now answer)) ⌝ }
@@ -68,7 +46,7 @@ fn put_current(store: &[u32], k: usize, answer: &mut [u32], at: usize)
     put_three(1, store[19 + 18 * k + 1], name, &mut *answer, at);
 }
 
-// For each plot what is current there.
+// For each plot what is current there, for a session that carries nothing.
 pub fn put_alone(store: &[u32], places: [usize; 16], n: usize, answer: &mut [u32])
     requires { ⌜ (n ≤ 16) × (3 * n ≤ length (now answer)) × AllReach (length (now store)) n places ⌝ }
     ensures { λ _. ⌜ now (answer .exit) ≡ sets (now (answer .entry)) 0 (wordsTo (foundAmong (now (store .entry)) places) n) ⌝ }
@@ -77,4 +55,37 @@ pub fn put_alone(store: &[u32], places: [usize; 16], n: usize, answer: &mut [u32
         let k = places[i];
         put_current(store, k, &mut *answer, 3 * i);
     }
+}
+
+// For each plot the best of what is current there and the own writes.
+fn put_handed(store: &[u32], s: Session, plots: &[u32], places: [usize; 16], answer: &mut [u32])
+    requires { ⌜ (s .count ≤ 16) × OwnNamed (s .own) (s .count) × (length (now plots) ≤ 16) × (3 * length (now plots) ≤ length (now answer))
+        × AllReach (length (now store)) (length (now plots)) places ⌝ }
+    ensures { λ _. ⌜ now (answer .exit) ≡ sets (now (answer .entry)) 0 (wordsTo (handedAmong (now (store .entry)) (s .own) (s .count) (now (plots .entry)) places) (length (now (plots .entry)))) ⌝ }
+{
+    let own = s.own;
+    for i in 0..plots.len() {
+        let first = crate::best::best_at(store, places[i]);
+        let best = crate::best::best_own(own, s.count, plots[i], first);
+        put_best(best, &mut *answer, 3 * i);
+    }
+}
+
+// For each plot what is handed back. Where there are no own writes they are not looked at.
+pub fn put_answers(
+    store: &[u32],
+    s: Session,
+    plots: &[u32],
+    places: [usize; 16],
+    answer: &mut [u32],
+)
+    requires { ⌜ (s .count ≤ 16) × OwnNamed (s .own) (s .count) × (length (now plots) ≤ 16) × (3 * length (now plots) ≤ length (now answer))
+        × AllReach (length (now store)) (length (now plots)) places ⌝ }
+    ensures { λ _. ⌜ now (answer .exit) ≡ sets (now (answer .entry)) 0 (wordsTo (handedAmong (now (store .entry)) (s .own) (s .count) (now (plots .entry)) places) (length (now (plots .entry)))) ⌝ }
+{
+    if s.count == 0 {
+        put_alone(store, places, plots.len(), &mut *answer);
+        return;
+    }
+    put_handed(store, s, plots, places, &mut *answer);
 }

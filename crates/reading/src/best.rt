@@ -13,7 +13,7 @@ pub struct Best {
     pub entry: Entry,
 }
 
-// Entry k of the store.
+// Entry k of the store, or none where k is 256 or more.
 pub fn best_at(store: &[u32], k: usize) -> Best
     requires { ⌜ Reaches (length (now store)) k ⌝ }
     ensures { λ r. ⌜ r ≡ bestFrom (foundIn (now (store .entry)) k) ⌝ }

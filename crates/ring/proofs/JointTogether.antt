@@ -1,22 +1,23 @@
 -- `JointTogether`, specs/Joint.antt: the joint reading is the last call of a run, whose `Holds` has it. Assumes nothing.
 use Prim.Native.Nat.{ℕ, _<_, _≤_}
 use mathlib.Core.Bool.{cond}
-use mathlib.Core.List.{List, List·Memᴰ, List·Memᴰ·head, Memᴰ·append-right, [], _++_, _∷_}
+use mathlib.Core.List.{List, List·Memᴰ, List·Memᴰ·cases-cons, List·Memᴰ·head, Memᴰ·append-right, [], _++_, _∷_}
 use mathlib.Core.Logic.{⊎-elim}
 use mathlib.Core.Path.{_∙_, _≡_, ap, refl, subst}
 use lib.Dec.{ltb}
 use lib.ListN.{length}
 use borrow.Author.Tests.{lt-ltb}
-use Rattle.store.specs.Offices.{Found, need, officeOf, reveal}
+use Rattle.frame.specs.Entries.{idOf}
+use Rattle.store.specs.Offices.{Found, Some, need, officeOf, reveal}
 use Rattle.office.specs.Calls.{Result, handed, readJoint}
 use Rattle.reading.proofs.JointReads.{joint-hands}
 use Rattle.ring.specs.Holds.{Holds}
 use Rattle.ring.specs.Joint.{JointTogether, Replies}
-use Rattle.ring.specs.Run.{Call, Event, State, Tracked, at, contentsRun, gained, joint, jointAt, onWords, readBy, readIn, run, step, together, wordsRun}
+use Rattle.ring.specs.Run.{Call, Event, Made, State, Tracked, at, contentsRun, gained, joint, jointAt, onWords, readBy, readIn, run, step, together, wordsRun}
 use Rattle.ring.proofs.ReadKeeps.{gained-keeps}
 use Rattle.ring.proofs.RunAppend.{run-append}
 use Rattle.ring.proofs.Theorem.{demand3}
-use Rattle.ring.proofs.Together.{together-to}
+use Rattle.ring.proofs.Together.{together-plots}
 
 abbrev WState : Type 0
 WState = State (List ℕ) (List ℕ) (List ℕ)
@@ -65,13 +66,19 @@ module _ (n p : ℕ) (two : 2 ≤ n) (eight : n ≤ 8) (one : 1 ≤ p) (p64 : p 
   pub replies : Replies (g .log) (s .past) plots (together plots (R .found))
   replies =
       record {
-        listed = λ q m. (shows q, rw (joint-hands (g .stores o) (s .session) plots row z) (together-to shows plots q m));
+        listed = rw (joint-hands (g .stores o) (s .session) plots row z) (together-plots shows plots);
         over =
             λ d j b f m.
             H .reads v last (d .entry .plot) f m d j
-            (⊎-elim (λ k. gained-keeps (g .log) (R .found) (s .past) _ k) (λ t. H .counted v last (t .0) (t .1) (t .2) (t .3) .1 _ (t .4)) b) refl;
+            (⊎-elim (λ k. gained-keeps (g .log) (R .found) (s .past) _ k) (λ t. back (t .0) (t .1) (t .2) (t .3) (idOf (d .entry)) (t .4)) b) refl;
       }
     where
+      back : (q : ℕ) (m : Made) → List·Memᴰ m (g .log) → List·Memᴰ (q, Some (m .entry)) (together plots (R .found)) → (k : ℕ)
+          → List·Memᴰ k (idOf (m .entry) ∷ m .past) → List·Memᴰ k (v .past)
+      back q m j r k i =
+          let t = H .counted v last q m j r in
+          ⊎-elim (λ (x : k ≡ idOf (m .entry)). rw x (t .0)) (λ x. t .1 k x) (List·Memᴰ·cases-cons i)
+
       shows : ℕ → Found
       shows = handed (reveal (officeOf (g .stores o)) (s .session .read)) (s .session)
 

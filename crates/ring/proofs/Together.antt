@@ -2,7 +2,7 @@
 use Prim.Native.Nat.{ℕ}
 use mathlib.Core.List.{List, List·Memᴰ, List·Memᴰ·cases-cons, List·Memᴰ·head, List·Memᴰ·not-nil, List·Memᴰ·tail, [], _∷_, map}
 use mathlib.Core.Logic.{⊎-elim}
-use mathlib.Core.Path.{_∙_, _≡_, ap, sym}
+use mathlib.Core.Path.{_∙_, _≡_, ap, refl, sym}
 use Rattle.store.specs.Offices.{Found}
 use Rattle.ring.specs.Run.{together}
 
@@ -29,3 +29,8 @@ unfolding together
 together-to c [] q m = absurd (List·Memᴰ·not-nil m)
 together-to c (x ∷ qs) q m =
     ⊎-elim (λ (e : q ≡ x). List·Memᴰ·head (ap (λ (y : ℕ). (y, c y)) e)) (λ i. List·Memᴰ·tail (together-to c qs q i)) (List·Memᴰ·cases-cons m)
+
+pub together-plots : (c : ℕ → Found) (qs : List ℕ) → map (λ (r : ℕ × Found). r .0) (together qs (map c qs)) ≡ qs
+unfolding together
+together-plots c [] = refl
+together-plots c (q ∷ qs) = ap (λ (l : List ℕ). q ∷ l) (together-plots c qs)
