@@ -6,11 +6,13 @@ use mathlib.Core.Bool.{true, false, cond}
 use mathlib.Core.List.{List, [], _++_, _∷_}
 use lib.Dec.{leb, ltb, eqb}
 use lib.ListN.{length, getD}
+use lib.Seq.{sets}
 use Rattle.causal.specs.Tests.{both}
 use Rattle.causal.specs.Codes.{check, orElse}
 use Rattle.causal.specs.Lists.{part}
 use Rattle.causal.specs.Sets.{subsetOf}
 use Rattle.frame.specs.declared.entry.Entry.{Entry}
+use Rattle.frame.specs.declared.session.Session.{Session}
 use Rattle.frame.specs.Entries.{blankEntry, nameOf, outranks}
 use Rattle.frame.specs.Sessions.{Content, nobody}
 use Rattle.store.specs.Offices.{Found, None, Some, bestOwn}
@@ -79,6 +81,14 @@ handedAmong ws own count plots ks j = bestOwn (getD plots j 0) (foundAmong ws ks
 unfoldable pub wordsTo : (ℕ → Found) → ℕ → List ℕ
 wordsTo g zero = []
 wordsTo g (suc n) = wordsTo g n ++ threeWords (g n)
+
+-- what is handed back on plots can be put into the row: there is room, names fit a word, and numbers reach; and the row with it
+abbrev pub Answerable : List ℕ → Session → List ℕ → List ℕ → List ℕ → Type 0
+Answerable ws s plots ks row =
+    (s .count ≤ 16) × OwnNamed (s .own) (s .count) × (length plots ≤ 16) × (3 * length plots ≤ length row) × AllReach (length ws) (length plots) ks
+
+abbrev pub answersIn : List ℕ → Session → List ℕ → List ℕ → List ℕ → List ℕ
+answersIn ws s plots ks row = sets row 0 (wordsTo (handedAmong ws (s .own) (s .count) plots ks) (length plots))
 
 unfoldable pub seenTo : (ℕ → Found) → ℕ → Seen → Seen
 seenTo g zero x = x

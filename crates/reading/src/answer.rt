@@ -8,7 +8,7 @@ ghost use lib.ListN.{length};
 ghost use lib.Seq.{sets};
 ghost use Rattle.office.specs.Calls.{threeWords};
 ghost use Rattle.office.specs.Decide.{foundIn, Reaches};
-ghost use Rattle.reading.specs.Readings.{AllReach, Named, OwnNamed, bestWords, foundAmong, handedAmong, wordsTo};
+ghost use Rattle.reading.specs.Readings.{AllReach, Answerable, Named, answersIn, bestWords, foundAmong, wordsTo};
 
 // Three words from `at` on.
 fn put_three(known: u32, value: u32, name: u32, answer: &mut [u32], at: usize)
@@ -59,9 +59,8 @@ pub fn put_alone(store: &[u32], places: [usize; 16], n: usize, answer: &mut [u32
 
 // For each plot the best of what is current there and the own writes.
 fn put_handed(store: &[u32], s: Session, plots: &[u32], places: [usize; 16], answer: &mut [u32])
-    requires { ⌜ (s .count ≤ 16) × OwnNamed (s .own) (s .count) × (length (now plots) ≤ 16) × (3 * length (now plots) ≤ length (now answer))
-        × AllReach (length (now store)) (length (now plots)) places ⌝ }
-    ensures { λ _. ⌜ now (answer .exit) ≡ sets (now (answer .entry)) 0 (wordsTo (handedAmong (now (store .entry)) (s .own) (s .count) (now (plots .entry)) places) (length (now (plots .entry)))) ⌝ }
+    requires { ⌜ Answerable (now store) s (now plots) places (now answer) ⌝ }
+    ensures { λ _. ⌜ now (answer .exit) ≡ answersIn (now (store .entry)) s (now (plots .entry)) places (now (answer .entry)) ⌝ }
 {
     let own = s.own;
     for i in 0..plots.len() {
@@ -79,9 +78,8 @@ pub fn put_answers(
     places: [usize; 16],
     answer: &mut [u32],
 )
-    requires { ⌜ (s .count ≤ 16) × OwnNamed (s .own) (s .count) × (length (now plots) ≤ 16) × (3 * length (now plots) ≤ length (now answer))
-        × AllReach (length (now store)) (length (now plots)) places ⌝ }
-    ensures { λ _. ⌜ now (answer .exit) ≡ sets (now (answer .entry)) 0 (wordsTo (handedAmong (now (store .entry)) (s .own) (s .count) (now (plots .entry)) places) (length (now (plots .entry)))) ⌝ }
+    requires { ⌜ Answerable (now store) s (now plots) places (now answer) ⌝ }
+    ensures { λ _. ⌜ now (answer .exit) ≡ answersIn (now (store .entry)) s (now (plots .entry)) places (now (answer .entry)) ⌝ }
 {
     if s.count == 0 {
         put_alone(store, places, plots.len(), &mut *answer);
