@@ -76,6 +76,7 @@ const ACCEPTED: &[&str] = &[
     "read_plot: own",
     "read_joint: one plot alone",
     "read_joint: goes together",
+    "read_joint: keeps the session's past",
     "write: accepted",
     "write: carried",
     "receive: brought out",

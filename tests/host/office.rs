@@ -59,7 +59,7 @@ const OUTCOMES: &[(&str, &[&str])] = &[
     ("read_joint, lent", joint::ACCEPTED),
     ("read_joint", JOINT),
     ("read_joint, lent", JOINT),
-    ("read_joint", &["goes together"]),
+    ("read_joint", &["goes together", "keeps the session's past"]),
     ("write", WRITE),
     ("write, lent", WRITE),
     ("receive", RECEIVE),

@@ -70,10 +70,19 @@ impl Ring {
     }
 
     fn read_joint(&mut self, twin: &mut Twin, office: usize, at: usize) {
-        let plots = some_plots(&mut twin.random, self.plots, &self.sessions[at]);
-        let answer = twin.read_joint(&mut self.stores[office], &mut self.sessions[at], &plots);
-        if let Some(holds) = answer.and_then(|answer| self.pasts.goes_together(&plots, &answer)) {
-            twin.report.check("read_joint: goes together", holds, || format!("plots {plots:?}"));
+        let before = self.sessions[at];
+        let plots = some_plots(&mut twin.random, self.plots, &before);
+        let Some(answer) = twin.read_joint(&mut self.stores[office], &mut self.sessions[at], &plots) else {
+            return;
+        };
+        let claims = [
+            ("read_joint: goes together", self.pasts.goes_together(&plots, &answer)),
+            ("read_joint: keeps the session's past", self.pasts.keeps_past(&before, &plots, &answer)),
+        ];
+        for (claim, holds) in claims {
+            if let Some(holds) = holds {
+                twin.report.check(claim, holds, || format!("plots {plots:?}, answer {answer:?}"));
+            }
         }
     }
 
