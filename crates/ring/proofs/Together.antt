@@ -6,6 +6,12 @@ use mathlib.Core.Path.{_∙_, _≡_, ap, refl, sym}
 use Rattle.store.specs.Offices.{Found}
 use Rattle.ring.specs.Run.{together}
 
+-- where each plot q hands back c q: the pairs have the plots, in order
+pub together-plots : (c : ℕ → Found) (qs : List ℕ) → map (λ (r : ℕ × Found). r .0) (together qs (map c qs)) ≡ qs
+unfolding together
+together-plots c [] = refl
+together-plots c (q ∷ qs) = ap (λ (l : List ℕ). q ∷ l) (together-plots c qs)
+
 pub together-in : (qs : List ℕ) (fs : List Found) (q : ℕ) (f : Found) → List·Memᴰ (q, f) (together qs fs) → List·Memᴰ f fs
 unfolding together
 together-in [] fs q f m = absurd (List·Memᴰ·not-nil m)
@@ -29,8 +35,3 @@ unfolding together
 together-to c [] q m = absurd (List·Memᴰ·not-nil m)
 together-to c (x ∷ qs) q m =
     ⊎-elim (λ (e : q ≡ x). List·Memᴰ·head (ap (λ (y : ℕ). (y, c y)) e)) (λ i. List·Memᴰ·tail (together-to c qs q i)) (List·Memᴰ·cases-cons m)
-
-pub together-plots : (c : ℕ → Found) (qs : List ℕ) → map (λ (r : ℕ × Found). r .0) (together qs (map c qs)) ≡ qs
-unfolding together
-together-plots c [] = refl
-together-plots c (q ∷ qs) = ap (λ (l : List ℕ). q ∷ l) (together-plots c qs)
