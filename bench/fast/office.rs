@@ -1,7 +1,7 @@
 //! The calls of one office. Each refuses before it changes anything.
 
 use super::entry::{bit_of, payload, rank, refuse_if, settings_ok};
-use super::frame::{length, put_frame, read_words};
+use super::frame::{length, put_frame, put_onward, read_words};
 use super::places::{join, within, Places};
 use super::session;
 use super::store::{self, sound, Held, Store};
@@ -143,7 +143,7 @@ pub fn receive(words: &mut [u32], frame: &[u32], out: &mut [u32]) -> Result<usiz
         store.hold(entry);
     }
     if hops > 0 {
-        return Ok(put_frame(out, entry, store.offices, hops - 1));
+        return Ok(put_onward(out, frame));
     }
     let mut id = [0; 8];
     id[(entry.office & 7) as usize] = bit_of(entry.serial);

@@ -115,6 +115,26 @@ sets-front o vs h = sets-eq vs o 0 (omega arith) ∙ rw zero-add refl
 pub take-front : (o vs : List ℕ) (n : ℕ) → n ≡ length vs → length vs ≤ length o → take n (sets o 0 vs) ≡ vs
 take-front o vs n e h = rw (e, sets-front o vs h) (take-append-seam vs (drop (length vs) o))
 
+-- ---- words copied one by one
+
+pub copy-none : (to from : List ℕ) (a b : ℕ) → to ≡ sets to b (part from a 0)
+unfolding part
+copy-none to from a b = refl
+
+part-none : (ws : List ℕ) (a : ℕ) → part ws a 0 ≡ []
+unfolding part
+part-none ws a = refl
+
+part-more : (ws : List ℕ) (a n : ℕ) → a + n < length ws → part ws a (n + 1) ≡ part ws a n ++ (getD ws (a + n) 0 ∷ [])
+part-more ws a n h = part-add ws a n 1 ∙ ap (λ (l : List ℕ). part ws a n ++ l) (part-cons ws (a + n) 0 h ∙ ap (λ (l : List ℕ). getD ws (a + n) 0 ∷ l) (part-none ws (suc (a + n))))
+
+pub copy-more : (to from : List ℕ) (a b n : ℕ) → a + n < length from → set (sets to b (part from a n)) (b + n) (getD from (a + n) 0) ≡ sets to b (part from a (n + 1))
+copy-more to from a b n h =
+    sym
+    (ap (sets to b) (part-more from a n h)
+    ∙ sets-append to b (part from a n) (getD from (a + n) 0 ∷ [])
+    ∙ ap (λ (x : ℕ). set (sets to b (part from a n)) (b + x) (getD from (a + n) 0)) (part-length from a n (omega arith)))
+
 -- ---- a table
 
 module _ {A : Type 0} where

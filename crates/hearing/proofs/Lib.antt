@@ -1,3 +1,4 @@
+pub mod Forwards
 pub mod Receives
 pub mod Forecasts
 pub mod Contract

@@ -22,7 +22,8 @@ use Rattle.frame.specs.Frames.{ringOk, frameOk, frameWords, frameOf, accepts}
 use Rattle.frame.specs.Refusals.{Reply}
 use Rattle.frame.specs.Tokens.{rowsOf}
 use Rattle.frame.specs.Calls.{laid, readFrameCode, frameIf, readFrame}
-use Rattle.frame.proofs.Entries.{FrameFacts, frame-facts, facts-frame, frame-wider, facts-ring}
+use Rattle.frame.proofs.Entries.{frame-facts, facts-ring}
+use Rattle.frame.proofs.Reading.{told}
 use Rattle.frame.proofs.Sessions.{SaneEntry}
 use Rattle.store.specs.Offices.{Office, need, slotAt, officeOf, storeWords, soundStore, reveal, hold}
 use Rattle.store.specs.Slots.{holdWords}
@@ -148,14 +149,6 @@ module _ (ws : List ℕ) (f : Frame) (out : List ℕ) where
               ∙ ap (λ (b : Bool). storeWords ws (cond b (reveal H (inserted zeros (idOf (f .entry)))) H)) (sym (eq-eqb (f .hops) 0 h))
 
       -- it goes on
-      F : FrameFacts (getD ws 0 0) (getD ws 2 0) f
-      F = frame-facts (getD ws 0 0) (getD ws 2 0) f ok
-
-      pub on-ok : frameOk (onward f .offices) 64 (onward f) ≡ true
-      on-ok =
-          frame-wider (getD ws 0 0) (getD ws 2 0) 64 (onward f) (settings ws sound .to)
-          (facts-frame (getD ws 0 0) (getD ws 2 0) (onward f) (record { ring = F .ring; low = F .low; high = F .high; hops-ok = omega (arith, F .hops-ok); entry = F .entry }))
-
       pub on-room : (f .hops ≡ 0 → ⊥) → length (frameWords (onward f)) ≤ length out
       unfolding either
       on-room h =
@@ -163,28 +156,25 @@ module _ (ws : List ℕ) (f : Frame) (out : List ℕ) where
           let u : leb (length (frameWords (onward f))) (length out) ≡ true = rw (ne-eqb (f .hops) 0 h) at t in
           leb-true (length (frameWords (onward f))) (length out) u
 
-      pub taken-on : (z y : List ℕ) (g : Frame) (m : ℕ) → (f .hops ≡ 0 → ⊥) → z ≡ storeWords ws (holdNew (officeOf ws) (f .entry)) → g ≡ onward f
-          → m ≡ length (frameWords g) → y ≡ laid (frameWords g) out → Takes (record { code = 0; words = m }) z y
+      pub taken-on : (z y : List ℕ) (m : ℕ) → (f .hops ≡ 0 → ⊥) → z ≡ storeWords ws (holdNew (officeOf ws) (f .entry))
+          → m ≡ length (frameWords (onward f)) → y ≡ laid (frameWords (onward f)) out → Takes (record { code = 0; words = m }) z y
       unfolding receiveSends rowsOf receivedBy
-      taken-on z y g m h e q a b = let d = done none in (answer ∙ d .0, stays ∙ d .1, row ∙ d .2)
+      taken-on z y m h e a b = let d = done none in (answer ∙ d .0, stays ∙ d .1, row ∙ d .2)
         where
           sends : rowsOf (receiveSends f) ≡ frameWords (onward f)
           sends = rw (ne-eqb (f .hops) 0 h) (append-nil (frameWords (onward f)))
-
-          same-row : frameWords g ≡ rowsOf (receiveSends f)
-          same-row = ap frameWords q ∙ sym sends
 
           said : ℕ → Reply
           said k = record { code = 0; words = k }
 
           answer : said m ≡ said (length (rowsOf (receiveSends f)))
-          answer = ap said (a ∙ ap length same-row)
+          answer = ap said (a ∙ ap length (sym sends))
 
           stays : z ≡ storeWords ws (receivedBy (officeOf ws) f)
           stays = e ∙ ap (λ (b : Bool). storeWords ws (cond b (reveal H (inserted zeros (idOf (f .entry)))) H)) (sym (ne-eqb (f .hops) 0 h))
 
           row : y ≡ laid (rowsOf (receiveSends f)) out
-          row = b ∙ ap (λ (l : List ℕ). laid l out) same-row
+          row = b ∙ ap (λ (l : List ℕ). laid l out) (sym sends)
 
 -- ---- the call
 
@@ -198,25 +188,32 @@ module _ (ws fr out : List ℕ) where
   unfolding receive
   receive-unsound t = (rw t refl, rw t refl, rw t refl)
 
-  ring : soundStore ws ≡ true → ringOk (getD ws 0 0) (getD ws 2 0) ≡ true
+  -- a sound store has settings that a frame may be read for
+  pub ring : soundStore ws ≡ true → ringOk (getD ws 0 0) (getD ws 2 0) ≡ true
   ring t = facts-ring (getD ws 0 0) (getD ws 2 0) (settings ws t)
 
-  pub receive-format : (x : ℕ) → soundStore ws ≡ true → x ≡ readFrameCode (getD ws 0 0) (getD ws 2 0) fr → (x ≡ 0 → ⊥) → Says (record { code = 9; words = 0 }) ws out
-  unfolding receive officeOf readFrameCode check
-  receive-format x t e n = let a = refused in (rw (t, a) refl, rw (t, a) refl, rw (t, a) refl)
-    where
-      refused : accepts (getD ws 0 0) (getD ws 2 0) fr ≡ false
-      refused = not-so (accepts (getD ws 0 0) (getD ws 2 0) fr) (λ u. n (e ∙ rw (ring t, u) refl))
+  module _ (t : soundStore ws ≡ true) (f : Frame) (q : f ≡ readFrame (getD ws 0 0) (getD ws 2 0) fr) where
+    pub receive-format : f .offices ≡ 0 → Says (record { code = 9; words = 0 }) ws out
+    unfolding receive officeOf readFrameCode check
+    receive-format z = let a = refused in (rw (t, a) refl, rw (t, a) refl, rw (t, a) refl)
+      where
+        refused : accepts (getD ws 0 0) (getD ws 2 0) fr ≡ false
+        refused =
+            not-so (accepts (getD ws 0 0) (getD ws 2 0) fr)
+            (λ u. let n : 9 ≡ 0 = told (getD ws 0 0) (getD ws 2 0) fr (ring t) f q .0 z ∙ rw (ring t, u) refl in omega (arith, n))
 
-  pub read-accepted : (x : ℕ) → soundStore ws ≡ true → x ≡ readFrameCode (getD ws 0 0) (getD ws 2 0) fr → x ≡ 0 → accepts (getD ws 0 0) (getD ws 2 0) fr ≡ true
-  unfolding readFrameCode
-  read-accepted x t e z =
-      let a = check-none (ringOk (getD ws 0 0) (getD ws 2 0)) 1 _ (omega arith) (sym e ∙ z) in
-      check-none (accepts (getD ws 0 0) (getD ws 2 0) fr) 9 0 (omega arith) (a .1) .0
+    code-none : (f .offices ≡ 0 → ⊥) → readFrameCode (getD ws 0 0) (getD ws 2 0) fr ≡ 0
+    code-none n = sym (told (getD ws 0 0) (getD ws 2 0) fr (ring t) f q .1 n)
 
-  pub read-frame : (x : ℕ) → x ≡ readFrameCode (getD ws 0 0) (getD ws 2 0) fr → x ≡ 0 → readFrame (getD ws 0 0) (getD ws 2 0) fr ≡ frameOf fr
-  unfolding readFrame frameIf
-  read-frame x e z = rw (sym e ∙ z) refl
+    pub read-accepted : (f .offices ≡ 0 → ⊥) → accepts (getD ws 0 0) (getD ws 2 0) fr ≡ true
+    unfolding readFrameCode
+    read-accepted n =
+        let a = check-none (ringOk (getD ws 0 0) (getD ws 2 0)) 1 _ (omega arith) (code-none n) in
+        check-none (accepts (getD ws 0 0) (getD ws 2 0) fr) 9 0 (omega arith) (a .1) .0
+
+    pub read-frame : (f .offices ≡ 0 → ⊥) → f ≡ frameOf fr
+    unfolding readFrame frameIf
+    read-frame n = q ∙ rw (code-none n) refl
 
   pub receive-taken : (f : Frame) (r : Reply) (z y : List ℕ) → soundStore ws ≡ true → accepts (getD ws 0 0) (getD ws 2 0) fr ≡ true → f ≡ frameOf fr
       → Takes ws f out r z y → Says r z y

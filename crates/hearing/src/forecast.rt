@@ -12,12 +12,10 @@ pub fn receive_forecast(store: &[u32], frame: &[u32], room: usize) -> u32
     if !store::sound::is_sound(store) {
         return 2;
     }
-    let read = frame::reader::read_frame(frame, store[0], store[2]);
-    let status = read.status;
-    if frame::refusal::code_of(status) != 0 {
+    let f = frame::reader::frame_from(frame, store[0], store[2]);
+    if f.offices == 0 {
         return 9;
     }
-    let f = read.frame;
     let held = store::layout::set_at(store, 3);
-    crate::receive::receive_code(store, held, f, room)
+    crate::receive::receive_code(store, held, f, frame.len(), room)
 }

@@ -4,7 +4,6 @@ use frame::refusal::Refusal;
 use frame::refusal::Written;
 ghost use mathlib.Core.Path.{_≡_};
 ghost use mathlib.Core.Bool.{true};
-ghost use Prim.Native.Nat.{_-_, _≤_};
 ghost use lib.Dec.{eqb, leb};
 ghost use lib.ListN.{length, getD};
 ghost use lib.Seq.{sets};
@@ -12,38 +11,24 @@ ghost use Rattle.causal.specs.Tests.{either};
 ghost use Rattle.causal.specs.Lists.{part, zeros};
 ghost use Rattle.causal.specs.Sets.{IdSet, inserted, subsetOf};
 ghost use Rattle.frame.specs.Refusals.{replyOf};
-ghost use Rattle.frame.specs.Frames.{frameOk, frameWords};
+ghost use Rattle.frame.specs.Frames.{frameOf, frameOk, frameWords};
 ghost use Rattle.store.specs.Offices.{officeOf, soundStore, reveal};
-ghost use Rattle.office.specs.Calls.{onward as onwardOf, receiveCode, receiveOn, stored};
+ghost use Rattle.office.specs.Calls.{receiveCode, receiveOn, stored};
 ghost use Rattle.office.specs.Promises.{ReceivePromise};
 
-// With one fewer still to hear.
-fn onward(f: Frame) -> Frame
-    requires { ⌜ 1 ≤ f .hops ⌝ }
-    ensures { λ r. ⌜ r ≡ onwardOf f ⌝ }
+// 8: a frame of so many words must go on and there is no room for it.
+fn room_ok(hops: u32, words: usize, room: usize) -> bool
+    ensures { λ r. ⌜ r ≡ either (eqb hops 0) (leb words room) ⌝ }
 {
-    let e = f.entry;
-    Frame {
-        offices: f.offices,
-        hops: f.hops - 1,
-        entry: e,
-    }
-}
-
-// 8: the frame must go on and there is no room for it.
-fn room_ok(f: Frame, room: usize) -> bool
-    requires { ⌜ f .offices ≤ 8 ⌝ }
-    ensures { λ r. ⌜ r ≡ either (eqb (f .hops) 0) (leb (length (frameWords (onwardOf f))) room) ⌝ }
-{
-    if f.hops == 0 {
+    if hops == 0 {
         return true;
     }
-    frame::writer::words_of(onward(f)) <= room
+    words <= room
 }
 
-// 10 and 11; 12: a dependency is not held; 8.
-pub fn receive_code(store: &[u32], held: [u32; 8], f: Frame, room: usize) -> u32
-    requires { ⌜ (soundStore (now store) ≡ true) × (held ≡ part (now store) 3 8) × (frameOk (getD (now store) 0 0) (getD (now store) 2 0) f ≡ true) ⌝ }
+// 10 and 11; 12: a dependency is not held; 8. A frame keeps its number of words when it goes on.
+pub fn receive_code(store: &[u32], held: [u32; 8], f: Frame, words: usize, room: usize) -> u32
+    requires { ⌜ (soundStore (now store) ≡ true) × (held ≡ part (now store) 3 8) × (frameOk (getD (now store) 0 0) (getD (now store) 2 0) f ≡ true) × (words ≡ length (frameWords f)) ⌝ }
     ensures { λ r. ⌜ r ≡ receiveCode (officeOf (now (store .entry))) f room ⌝ }
 {
     let e = f.entry;
@@ -55,7 +40,7 @@ pub fn receive_code(store: &[u32], held: [u32; 8], f: Frame, room: usize) -> u32
     if !causal::set::subset(deps, held) {
         return 12;
     }
-    if !room_ok(f, room) {
+    if !room_ok(f.hops, words, room) {
         return 8;
     }
     0
@@ -73,15 +58,15 @@ fn reveal_id(store: &mut [u32], k: usize)
     store::reveal::show(&mut *store, visible);
 }
 
-// A frame for this ring comes in: held, hidden, if new; then revealed where none are still to hear, else sent on.
-fn taken(store: &mut [u32], f: Frame, out: &mut [u32]) -> Written
-    requires { ⌜ (soundStore (now store) ≡ true) × (frameOk (getD (now store) 0 0) (getD (now store) 2 0) f ≡ true) × (length (f .entry .clock) ≡ 8) × IdSet (f .entry .deps) ⌝ }
+// A frame for this ring comes in, f, which is read from `frame`: held, hidden, if new; then revealed where none are still to hear, else sent on.
+fn taken(store: &mut [u32], frame: &[u32], f: Frame, out: &mut [u32]) -> Written
+    requires { ⌜ (soundStore (now store) ≡ true) × (frameOk (getD (now store) 0 0) (getD (now store) 2 0) f ≡ true) × (length (f .entry .clock) ≡ 8) × IdSet (f .entry .deps) × (f ≡ frameOf (now frame)) × (now frame ≡ frameWords f) ⌝ }
     ensures { λ r. ⌜ (replyOf r ≡ record { code = receiveOn (officeOf (now (store .entry))) f (now (out .entry)) .code; words = receiveOn (officeOf (now (store .entry))) f (now (out .entry)) .count })
         × (now (store .exit) ≡ stored (receiveOn (officeOf (now (store .entry))) f (now (out .entry)) .code) (now (store .entry)) (receiveOn (officeOf (now (store .entry))) f (now (out .entry)) .store))
         × (now (out .exit) ≡ receiveOn (officeOf (now (store .entry))) f (now (out .entry)) .row) ⌝ }
 {
     let held = store::layout::set_at(&store[..], 3);
-    let code = receive_code(&store[..], held, f, out.len());
+    let code = receive_code(&store[..], held, f, frame.len(), out.len());
     if code != 0 {
         return Written::NotWritten(frame::refusal::refusal_of(code));
     }
@@ -91,7 +76,8 @@ fn taken(store: &mut [u32], f: Frame, out: &mut [u32]) -> Written
         reveal_id(&mut *store, frame::entry::id_of(e));
         return Written::Words(0);
     }
-    Written::Words(frame::writer::put(onward(f), out))
+    crate::forward::put_onward(frame, out);
+    Written::Words(frame.len())
 }
 
 // 01: hear a frame.
@@ -101,11 +87,9 @@ pub fn receive(store: &mut [u32], frame: &[u32], out: &mut [u32]) -> Written
     if !store::sound::is_sound(store) {
         return Written::NotWritten(Refusal::Store);
     }
-    let read = frame::reader::read_frame(frame, store[0], store[2]);
-    let status = read.status;
-    if frame::refusal::code_of(status) != 0 {
+    let f = frame::reader::frame_from(frame, store[0], store[2]);
+    if f.offices == 0 {
         return Written::NotWritten(Refusal::Format);
     }
-    let f = read.frame;
-    taken(store, f, out)
+    taken(store, frame, f, out)
 }

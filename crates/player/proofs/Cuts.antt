@@ -1,36 +1,16 @@
--- Words copied one by one; where the frames of a row begin. Assumes nothing.
+-- Where the frames of a row begin, and frames put into slots. Assumes nothing.
 use Prim.Native.Nat.{ℕ, suc, zero, _%_, _+_, _<_, _≤_}
-use mathlib.Core.List.{List, [], _∷_, _++_}
+use mathlib.Core.List.{List, [], _∷_}
 use mathlib.Core.Logic.{⊎-elim}
 use mathlib.Core.Path.{_∙_, _≡_, ap, refl, sym}
 use native.Mathlib.Numerals.{add-one}
 use native.Mathlib.Omega.{arith}
-use lib.ListN.{getD, length, set}
+use lib.ListN.{length, set}
 use lib.Seq.{sets}
 use Rattle.causal.specs.Lists.{part}
-use Rattle.causal.proofs.Lists.{part-add, part-cons, part-length, sets-append}
+use Rattle.causal.proofs.Lists.{sets-append}
 use Rattle.causal.proofs.Tests.{lt-or-le}
 use Rattle.player.specs.Desks.{Cut, frameLen, pushed, slotAt, startOf}
-
--- ---- copying
-
-pub copy-none : (to from : List ℕ) (a b : ℕ) → to ≡ sets to b (part from a 0)
-unfolding part
-copy-none to from a b = refl
-
-part-none : (ws : List ℕ) (a : ℕ) → part ws a 0 ≡ []
-unfolding part
-part-none ws a = refl
-
-part-more : (ws : List ℕ) (a n : ℕ) → a + n < length ws → part ws a (n + 1) ≡ part ws a n ++ (getD ws (a + n) 0 ∷ [])
-part-more ws a n h = part-add ws a n 1 ∙ ap (λ (l : List ℕ). part ws a n ++ l) (part-cons ws (a + n) 0 h ∙ ap (λ (l : List ℕ). getD ws (a + n) 0 ∷ l) (part-none ws (suc (a + n))))
-
-pub copy-more : (to from : List ℕ) (a b n : ℕ) → a + n < length from → set (sets to b (part from a n)) (b + n) (getD from (a + n) 0) ≡ sets to b (part from a (n + 1))
-copy-more to from a b n h =
-    sym
-    (ap (sets to b) (part-more from a n h)
-    ∙ sets-append to b (part from a n) (getD from (a + n) 0 ∷ [])
-    ∙ ap (λ (x : ℕ). set (sets to b (part from a n)) (b + x) (getD from (a + n) 0)) (part-length from a n (omega arith)))
 
 -- a frame's length in front of it
 pub push-one : (lines row : List ℕ) (slot at len : ℕ) → at + len ≤ length row → sets (set lines slot len) (slot + 1) (part row at len) ≡ sets lines slot (len ∷ part row at len)

@@ -1,4 +1,4 @@
-// Words copied, and frames put into the slots of a line.
+// Frames put into the slots of a line.
 ghost use mathlib.Core.Path.{_≡_};
 ghost use mathlib.Core.List.{_∷_};
 ghost use Prim.Native.Nat.{ℕ, _+_, _*_, _%_, _<_, _≤_};
@@ -7,16 +7,6 @@ ghost use lib.Seq.{sets};
 ghost use Rattle.causal.specs.Lists.{part};
 ghost use Rattle.ring.specs.Run.{nextOf};
 ghost use Rattle.player.specs.Desks.{Cut, hopsAt, lengthAt, pushed, startOf};
-
-// n words of a row, from word a on, to those of another from word b on.
-pub fn copy_words(from: &[u32], a: usize, to: &mut [u32], b: usize, n: usize)
-    requires { ⌜ (a + n ≤ length (now from)) × (b + n ≤ length (now to)) ⌝ }
-    ensures { λ r. ⌜ now (to .exit) ≡ sets (now (to .entry)) b (part (now (from .entry)) a n) ⌝ }
-{
-    for j in 0..n {
-        to[b + j] = from[a + j];
-    }
-}
 
 // Whom an office of a ring of three sends to.
 pub fn next_of(office: usize) -> usize
@@ -65,7 +55,7 @@ pub fn push_frame(lines: &mut [u32], slot: usize, row: &[u32], at: usize, len: u
     ensures { λ r. ⌜ now (lines .exit) ≡ sets (now (lines .entry)) slot (len ∷ part (now (row .entry)) at len) ⌝ }
 {
     lines[slot] = len as u32;
-    copy_words(row, at, &mut *lines, slot + 1, len);
+    causal::row::copy_words(row, at, &mut *lines, slot + 1, len);
 }
 
 // The first n frames of a row, into the slots of an office from slot q on.

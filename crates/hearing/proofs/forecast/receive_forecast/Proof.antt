@@ -4,13 +4,13 @@ use mathlib.Core.Path.{_≡_, sym, ap, _∙_}
 use lib.ListN.{length, getD}
 use borrow.Author.Tests.{not-true, not-false}
 use Rattle.frame.specs.Refusals.{Reply}
-use Rattle.frame.specs.Frames.{frameOf, frameOk}
-use Rattle.frame.proofs.Back.{accepted-ok}
+use Rattle.frame.specs.Frames.{frameOf, frameOk, frameWords}
+use Rattle.frame.proofs.Back.{accepted-ok, accepted-written}
 use Rattle.store.specs.Offices.{officeOf}
 use Rattle.store.proofs.Rules.{laid}
 use Rattle.office.specs.Calls.{receiveCode}
 use Rattle.hearing.proofs.Forecasts.{receive-number}
-use Rattle.hearing.proofs.Receives.{receive-unsound, receive-format, read-accepted, read-frame}
+use Rattle.hearing.proofs.Receives.{receive-unsound, ring, receive-format, read-accepted, read-frame}
 use borrow.Author.Needs.{needs}
 use Rattle.hearing.proofs.forecast.receive_forecast.Statement.{statement}
 use Rattle.hearing.proofs.forecast.receive_forecast.Tie as tie
@@ -25,59 +25,59 @@ returns c = let s = c .before .before .before .before in
     let t = sym (c .before .is-sound .ensures) ∙ not-true _ (c .if1 .taken) in
     λ row l. ap (λ (r : Reply). r .code) (receive-unsound ws fr row t .0)
 
-shared-slice-read-read-frame : tie.Need-shared-slice-read-read-frame
-shared-slice-read-read-frame c = let s = c .before .before .before .before .before in
+shared-slice-read-frame-from : tie.Need-shared-slice-read-frame-from
+shared-slice-read-frame-from c = let s = c .before .before .before .before .before in
+    let ws = s .args .store .now in
+    let h : 0 < length ws = omega (arith, laid ws (sym (c .before .before .is-sound .ensures) ∙ not-false _ (c .before .if1 .left)) .long) in h
+
+shared-slice-read-frame-from-2 : tie.Need-shared-slice-read-frame-from-2
+shared-slice-read-frame-from-2 c = let s = c .before .before .before .before .before .before in
+    let ws = s .args .store .now in
+    let h : 2 < length ws = omega (arith, laid ws (sym (c .before .before .before .is-sound .ensures) ∙ not-false _ (c .before .before .if1 .left)) .long) in h
+
+frame-from-requires : tie.Need-frame-from-requires
+frame-from-requires c κs = let s = c .before .before .before .before .before .before in
     let ws = s .args .store .now in
     let fr = s .args .frame .now in
-    let t = sym (c .before .before .is-sound .ensures) ∙ not-false _ (c .before .if1 .left) in
-    let h : 0 < length ws = omega (arith, laid ws t .long) in h
-
-shared-slice-read-read-frame-2 : tie.Need-shared-slice-read-read-frame-2
-shared-slice-read-read-frame-2 c = let s = c .before .before .before .before .before .before in
-    let ws = s .args .store .now in
-    let fr = s .args .frame .now in
-    let t = sym (c .before .before .before .is-sound .ensures) ∙ not-false _ (c .before .before .if1 .left) in
-    let h : 2 < length ws = omega (arith, laid ws t .long) in h
-
-read-frame-requires : tie.Need-read-frame-requires
-read-frame-requires c κs = search needs
-
-code-of-requires : tie.Need-code-of-requires
-code-of-requires c κs = search needs
+    ring ws fr fr (sym (c .before .before .before .is-sound .ensures) ∙ not-false _ (c .before .before .if1 .left))
 
 returns-2 : tie.Need-returns-2
 returns-2 c = let s = c .before .before .before .before .before .before .before .before .before in
     let ws = s .args .store .now in
     let fr = s .args .frame .now in
     let t = sym (c .before .before .before .before .before .before .is-sound .ensures) ∙ not-false _ (c .before .before .before .before .before .if1 .left) in
-    let x = c .before .code-of .ensures ∙ c .before .before .read-frame .ensures .0 in
-    λ row l. ap (λ (r : Reply). r .code) (receive-format ws fr row _ t x (c .if2 .taken) .0)
+    λ row l. ap (λ (r : Reply). r .code) (receive-format ws fr row t _ (c .before .before .frame-from .ensures) (c .if2 .taken) .0)
 
 set-at-requires : tie.Need-set-at-requires
-set-at-requires c κs = let s = c .before .before .before .before .before .before .before .before .before .before in
+set-at-requires c κs = let s = c .before .before .before .before .before .before .before .before .before in
     let ws = s .args .store .now in
     let fr = s .args .frame .now in
-    let t = sym (c .before .before .before .before .before .before .before .is-sound .ensures) ∙ not-false _ (c .before .before .before .before .before .before .if1 .left) in
+    let t = sym (c .before .before .before .before .before .before .is-sound .ensures) ∙ not-false _ (c .before .before .before .before .before .if1 .left) in
     omega (arith, laid ws t .long)
 
 receive-code-requires : tie.Need-receive-code-requires
-receive-code-requires c κs = let s = c .before .before .before .before .before .before .before .before .before .before .before in
+receive-code-requires c κs = let s = c .before .before .before .before .before .before .before .before .before .before in
+    let ws = s .args .store .now in
+    let fr = s .args .frame .now in
+    let t = sym (c .before .before .before .before .before .before .before .is-sound .ensures) ∙ not-false _ (c .before .before .before .before .before .before .if1 .left) in
+    let q = c .before .before .before .frame-from .ensures in
+    let a = read-accepted ws fr fr t _ q (c .before .if2 .left) in
+    let e : c .before .before .before .frame-from .result ≡ frameOf fr = read-frame ws fr fr t _ q (c .before .if2 .left) in
+    (
+      t,
+      c .set-at .ensures,
+      ap (frameOk (getD ws 0 0) (getD ws 2 0)) e ∙ accepted-ok (getD ws 0 0) (getD ws 2 0) fr a,
+      ap length (accepted-written (getD ws 0 0) (getD ws 2 0) fr a ∙ ap frameWords (sym e)),
+    )
+
+returns-3 : tie.Need-returns-3
+returns-3 c = let s = c .before .before .before .before .before .before .before .before .before .before .before in
     let ws = s .args .store .now in
     let fr = s .args .frame .now in
     let t = sym (c .before .before .before .before .before .before .before .before .is-sound .ensures) ∙ not-false _ (c .before .before .before .before .before .before .before .if1 .left) in
-    let x = c .before .before .before .code-of .ensures ∙ c .before .before .before .before .read-frame .ensures .0 in
-    let a = read-accepted ws fr fr _ t x (c .before .before .if2 .left) in
-    let e : c .before .before .before .before .read-frame .result .frame ≡ frameOf fr = c .before .before .before .before .read-frame .ensures .1 ∙ read-frame ws fr fr _ x (c .before .before .if2 .left) in
-    (t, c .set-at .ensures, ap (frameOk (getD ws 0 0) (getD ws 2 0)) e ∙ accepted-ok (getD ws 0 0) (getD ws 2 0) fr a)
-
-returns-3 : tie.Need-returns-3
-returns-3 c = let s = c .before .before .before .before .before .before .before .before .before .before .before .before in
-    let ws = s .args .store .now in
-    let fr = s .args .frame .now in
-    let t = sym (c .before .before .before .before .before .before .before .before .before .is-sound .ensures) ∙ not-false _ (c .before .before .before .before .before .before .before .before .if1 .left) in
-    let x = c .before .before .before .before .code-of .ensures ∙ c .before .before .before .before .before .read-frame .ensures .0 in
-    let a = read-accepted ws fr fr _ t x (c .before .before .before .if2 .left) in
-    let e : c .before .before .before .before .before .read-frame .result .frame ≡ frameOf fr = c .before .before .before .before .before .read-frame .ensures .1 ∙ read-frame ws fr fr _ x (c .before .before .before .if2 .left) in
+    let q = c .before .before .before .before .frame-from .ensures in
+    let a = read-accepted ws fr fr t _ q (c .before .before .if2 .left) in
+    let e : c .before .before .before .before .frame-from .result ≡ frameOf fr = read-frame ws fr fr t _ q (c .before .before .if2 .left) in
     λ row l. c .receive-code .ensures ∙ (λ i. receiveCode (officeOf ws) (e i) (sym l i)) ∙ receive-number ws fr row t a
 
 pub receive-forecast-spec : {M : Type 1} → statement M
@@ -86,10 +86,9 @@ receive-forecast-spec =
     (tie.spec
     is-sound-requires
     returns
-    shared-slice-read-read-frame
-    shared-slice-read-read-frame-2
-    read-frame-requires
-    code-of-requires
+    shared-slice-read-frame-from
+    shared-slice-read-frame-from-2
+    frame-from-requires
     returns-2
     set-at-requires
     receive-code-requires

@@ -1,14 +1,18 @@
 use native.Mathlib.Omega.{arith}
-use Prim.Native.Nat.{_<_}
-use mathlib.Core.Path.{_≡_, refl, ap, _∙_}
+use Prim.Native.Nat.{ℕ, _<_}
+use mathlib.Core.Path.{_≡_, refl, sym, ap, _∙_}
+use lib.Dec.{leb, eqb}
 use lib.ListN.{length, getD}
 use Rattle.causal.specs.Lists.{part}
 use Rattle.causal.specs.Sets.{subsetOf}
+use Rattle.causal.specs.Tests.{either}
+use Rattle.frame.specs.Frames.{frameWords}
 use Rattle.causal.proofs.Codes.{codes}
 use Rattle.frame.proofs.Entries.{frame-facts}
 use Rattle.store.specs.Offices.{officeOf}
 use Rattle.store.proofs.Rules.{laid}
-use Rattle.office.specs.Calls.{receiveCode}
+use Rattle.office.specs.Calls.{onward, receiveCode}
+use Rattle.hearing.proofs.Forwards.{length-onward}
 use Rattle.office.proofs.Slots.{slot-of}
 use borrow.Author.Needs.{needs}
 use Rattle.hearing.proofs.receive.receive_code.Statement.{statement}
@@ -45,11 +49,7 @@ returns-2 c = let s = c .before .before .before .before .before .before .before 
     search (codes, arith) depth 9
 
 room-ok-requires : tie.Need-room-ok-requires
-room-ok-requires c κs = let s = c .before .before .before .before .before .before .before .before in
-    let ws = s .args .store .now in
-    let q = laid ws (s .pre .0) in
-    let F = frame-facts (getD ws 0 0) (getD ws 2 0) (s .args .f) (s .pre .2) in
-    omega (arith, F .ring, F .high)
+room-ok-requires c κs = search needs
 
 returns-3 : tie.Need-returns-3
 unfolding receiveCode officeOf
@@ -58,6 +58,7 @@ returns-3 c = let s = c .before .before .before .before .before .before .before 
     let q = laid ws (s .pre .0) in
     let F = frame-facts (getD ws 0 0) (getD ws 2 0) (s .args .f) (s .pre .2) in
     let h : c .before .before .before .subset .result ≡ subsetOf (s .args .f .entry .deps) (part ws 3 8) = c .before .before .before .subset .ensures ∙ ap (subsetOf (s .args .f .entry .deps)) (s .pre .1) in
+    let g : c .before .room-ok .result ≡ either (eqb (s .args .f .hops) 0) (leb (length (frameWords (onward (s .args .f)))) (s .args .room)) = c .before .room-ok .ensures ∙ ap (λ (n : ℕ). either (eqb (s .args .f .hops) 0) (leb n (s .args .room))) (s .pre .3 ∙ sym (length-onward (s .args .f))) in
     search (codes, arith) depth 9
 
 returns-4 : tie.Need-returns-4
@@ -67,6 +68,7 @@ returns-4 c = let s = c .before .before .before .before .before .before .before 
     let q = laid ws (s .pre .0) in
     let F = frame-facts (getD ws 0 0) (getD ws 2 0) (s .args .f) (s .pre .2) in
     let h : c .before .before .before .subset .result ≡ subsetOf (s .args .f .entry .deps) (part ws 3 8) = c .before .before .before .subset .ensures ∙ ap (subsetOf (s .args .f .entry .deps)) (s .pre .1) in
+    let g : c .before .room-ok .result ≡ either (eqb (s .args .f .hops) 0) (leb (length (frameWords (onward (s .args .f)))) (s .args .room)) = c .before .room-ok .ensures ∙ ap (λ (n : ℕ). either (eqb (s .args .f .hops) 0) (leb n (s .args .room))) (s .pre .3 ∙ sym (length-onward (s .args .f))) in
     search (codes, arith) depth 9
 
 pub receive-code-spec : {M : Type 1} → statement M

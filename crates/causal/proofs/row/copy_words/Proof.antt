@@ -5,11 +5,11 @@ use mathlib.Core.Path.{_∙_, _≡_, ap, refl}
 use native.Mathlib.Omega.{arith}
 use lib.ListN.{getD, length, length-set}
 use lib.Seq.{sets}
 use Rattle.causal.specs.Lists.{part}
-use Rattle.player.proofs.Cuts as cuts
+use Rattle.causal.proofs.Lists.{copy-none, copy-more}
 use borrow.Author.Needs.{needs}
-use Rattle.player.proofs.queue.copy_words.Statement.{statement}
-use Rattle.player.proofs.queue.copy_words.Tie as tie
+use Rattle.causal.proofs.row.copy_words.Statement.{statement}
+use Rattle.causal.proofs.row.copy_words.Tie as tie
 
 abbrev Inv-loop : tie.InvT-loop
 Inv-loop from a to₀ b n j₀ to j = (j ≤ n) × (length to ≡ length to₀) × (to ≡ sets to₀ b (part from a j))
@@ -18,7 +18,7 @@ abbrev μ-loop : tie.MeasureT-loop
 μ-loop from a to₀ b n j₀ to j = n - j
 
 loop-holds : tie.Need-loop-holds Inv-loop μ-loop
-loop-holds c = (omega arith, refl, cuts.copy-none _ _ _ _)
+loop-holds c = (omega arith, refl, copy-none _ _ _ _)
 
 add-to : tie.Need-add-to Inv-loop μ-loop
 add-to c = search needs
@@ -45,7 +45,7 @@ loop-less : tie.Need-loop-less Inv-loop μ-loop
 loop-less c = search needs
 
 loop-again : tie.Need-loop-again Inv-loop μ-loop
-loop-again c = (omega arith, simp length-set (c .before .before .loop .inv .1), ap (λ (l : List ℕ). set l (c .before .before .before .args .b + c .before .before .loop .j) (getD (c .before .before .before .args .from .now) (c .before .before .before .args .a + c .before .before .loop .j) 0)) (c .before .before .loop .inv .2) ∙ cuts.copy-more (c .before .before .before .args .to .now) (c .before .before .before .args .from .now) (c .before .before .before .args .a) (c .before .before .before .args .b) (c .before .before .loop .j) (omega arith))
+loop-again c = (omega arith, simp length-set (c .before .before .loop .inv .1), ap (λ (l : List ℕ). set l (c .before .before .before .args .b + c .before .before .loop .j) (getD (c .before .before .before .args .from .now) (c .before .before .before .args .a + c .before .before .loop .j) 0)) (c .before .before .loop .inv .2) ∙ copy-more (c .before .before .before .args .to .now) (c .before .before .before .args .from .now) (c .before .before .before .args .a) (c .before .before .before .args .b) (c .before .before .loop .j) (omega arith))
 
 same-length : tie.Need-same-length Inv-loop μ-loop
 same-length c = search needs
