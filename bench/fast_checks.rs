@@ -81,6 +81,7 @@ const ACCEPTED: &[&str] = &[
     "write: carried",
     "receive: brought out",
     "receive: went on",
+    "receive: went on, the check round",
     "read_frame: accepted",
     "write_frame: accepted",
     "read_token: accepted",

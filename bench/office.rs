@@ -51,7 +51,9 @@ takes it, and by value, there and back (1,360 bytes each way). All check store a
 Not timed: setting store, session and row back, which is done for a whole round before its clock starts.
 Empty: an office that holds nothing, a fresh session. Full: 32 entries of each office held and visible, less
 the one that a write or a frame brings; each depends on all before it; the session has read them all and
-carries 15. No store: lent a store of no words and refused 2 at once, which leaves the cost of crossing.
+carries 15. The frame that an empty office hears is the smallest of its ring, the one that a full office hears
+the largest; from a middle office it goes on. No store: lent a store of no words and refused 2 at once, which
+leaves the cost of crossing.
 Of own entries: the session carries one on each of the four plots, new here and above what is visible there;
 at the empty office it carries only these, at the full one 15, and those four are not held.
 The model is plain Rust, written to be read and not for speed. The fast version is Rust written for speed, with

@@ -255,6 +255,39 @@ static void test_script(void)
     end("the eleven lines, with frames A and B word for word");
 }
 
+/* A frame of office 1 whose value gives its check this payload. */
+static struct burial_frame with_check(uint32_t offices, uint32_t hops, uint32_t check)
+{
+    struct burial_frame frame = { .offices = offices, .hops = hops };
+    uint32_t head = 1u << 24 | 1u << 16 | hops << 12 | offices << 8, plot = 7, clock = 1;
+    frame.entry.office = 1;
+    frame.entry.serial = 1;
+    frame.entry.plot = plot;
+    frame.entry.value = (check - head - plot - clock) & BURIAL_MAX_VALUE;
+    frame.entry.clock[1] = clock;
+    return frame;
+}
+
+/* The head loses an office, 4,096 of its payload: a check below that goes round. */
+static void test_goes_on(void)
+{
+    static const uint32_t checks[] = { 0, 1, 4095, 4096, 4097, BURIAL_MAX_VALUE };
+    uint32_t row[ROW], expected[ROW];
+    for (uint32_t offices = 3; offices <= 8; offices++)
+        for (uint32_t hops = 1; hops <= offices - 2; hops++)
+            for (size_t i = 0; i < sizeof checks / 4; i++) {
+                struct office office = opened(offices, 0);
+                struct burial_frame frame = with_check(offices, hops, checks[i]);
+                size_t len = burial_write_frame(frame, row, ROW).words;
+                expect(len == offices + 4 && row[len - 1] == (0xF0000000 | checks[i]));
+                frame.hops--;
+                expect(burial_write_frame(frame, expected, ROW).words == len);
+                hears(&office, row, len, expected, len);
+                closed(office);
+            }
+    end("a frame goes on with one fewer still to hear, also where its check goes round");
+}
+
 static void test_made(void)
 {
     struct office office = opened(2, 1);
@@ -588,6 +621,7 @@ int main(void)
     test_need();
     test_settings();
     test_script();
+    test_goes_on();
     test_made();
     test_carried();
     test_value();

@@ -41,6 +41,7 @@ const WRITE: &[&str] = &[
 const RECEIVE: &[&str] = &[
     "brought out",
     "went on",
+    "went on, the check round",
     "refused 2",
     "refused 8",
     "refused 9",

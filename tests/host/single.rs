@@ -1,8 +1,8 @@
 //! Calls on one office whose store and session have any content: sound, damaged, or any words.
 
-use crate::frame_cases::{change_one_word, words_of};
+use crate::frame_cases::{change_one_word, low_check, words_of};
 use crate::model::codec::Frame;
-use crate::model::entry::{Entry, VALUES};
+use crate::model::entry::{has, Entry, VALUES};
 use crate::model::session::Session;
 use crate::random::Random;
 use crate::session_cases::{damage_session, different_entry, random_session, some_new_entry, sound_session};
@@ -77,7 +77,11 @@ fn some_entry(random: &mut Random, content: &Content) -> Option<Entry> {
 fn some_frame(random: &mut Random, content: &Content) -> Vec<u32> {
     let Some(entry) = some_entry(random, content) else { return random.row(9) };
     let hops = if random.one_in(2) { 0 } else { random.below(content.offices - 1) };
-    let mut words = words_of(&Frame { offices: content.offices, hops, entry });
+    let mut frame = Frame { offices: content.offices, hops, entry };
+    if !has(&content.held, entry.office, entry.serial) && random.one_in(4) {
+        low_check(random, &mut frame);
+    }
+    let mut words = words_of(&frame);
     match random.below(12) {
         0 => change_one_word(random, &mut words),
         1 => words.truncate(random.index(words.len())),

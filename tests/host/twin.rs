@@ -3,6 +3,7 @@
 
 use crate::archive::forms::{JointRead, PlotRead, Write};
 use crate::archive::{lent, office as archive};
+use crate::frame_cases::check_goes_round;
 use crate::joint;
 use crate::model::entry::Entry;
 use crate::model::office as model;
@@ -220,7 +221,11 @@ impl Twin {
         let archive = Left { reply: archive, store: store_copy, session, row: row_copy };
 
         let result = model::receive(store, frame, &mut row);
-        let outcome = outcome(&result, |&words| if words == 0 { "brought out" } else { "went on" });
+        let outcome = outcome(&result, |&words| match words {
+            0 => "brought out",
+            _ if check_goes_round(frame) => "went on, the check round",
+            _ => "went on",
+        });
         let reply = reply(&result, |&words| words);
         let model = Left { reply, store: store.to_vec(), session, row };
         self.compare("receive", &outcome, &archive, &model);

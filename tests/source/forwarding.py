@@ -12,7 +12,7 @@ import pathlib
 import sys
 
 import rattle
-from forwarding_trials import TRIALS
+from forwarding_trials import FOLLOWED, LENT, SMALL, STRAIGHT, TRIALS
 from rattle import Array, Named, Ref, Slice
 
 # A clock or a set has eight places; a frame that was read has 22 words in its fields, and comes with what was said of it.
@@ -20,11 +20,7 @@ PLACES = 8
 FIELDS = 24
 # Calls into the language's own library: they take and give single numbers.
 NUMERIC = {("std", "num"), ("u32",)}
-
-FOLLOWED = "every call is followed"
-SMALL = "an array has a clock's or a set's places at most"
-LENT = "a row is one that the call was lent"
-STRAIGHT = "a frame's words go to no row but theirs"
+ARITHMETIC = frozenset("+ - * / % | & ^ << >> as".split())
 
 # What a walk begins with, the rows that it is lent, those of them that have a frame's words, where such words may be put, and calls
 # that have a walk of their own. A walk along a row follows only the calls that are lent it.
@@ -242,30 +238,30 @@ class Follower:
                     self.fault(SMALL, function.file, group[0].line, f"an array in {function.path[-1]} has `{text}` in a place")
 
     def bound(self, body, at):
-        """The name that an array is bound to, by the tokens before it."""
-        names = []
-        while at and body[at - 1].text in ("=", ":") or at > 1 and body[at - 1].text in ("u32", "]"):
-            at -= 1
-        if at and body[at - 1].kind == "name" and body[at - 1].text not in rattle.KEYWORDS:
-            names.append(body[at - 1].text)
+        """The name that an array is bound to: the first of its statement."""
+        start = at
+        while start and body[start - 1].text not in (";", "{", "}"):
+            start -= 1
+        names = [t.text for t in body[start:at] if t.kind == "name" and t.text not in rattle.KEYWORDS]
         return names[0] if names else "what is returned"
 
     def is_number(self, element, function, file):
         """Is an element of an array one word? A name alone has to be a parameter that is one; a call has to give one."""
         first = element[0]
-        if first.kind == "number" or first.text in rattle.NUMBERS:
-            return True
-        if first.kind != "name":
-            return first.text in ("(", "*", "-", "!")
+        if first.text == "(" and rattle.end_of(element, 0) == len(element):
+            return self.is_number(element[1:-1], function, file)
+        if first.kind != "name" or first.text in rattle.NUMBERS:
+            return first.kind == "number" or first.text in (*rattle.NUMBERS, "(")
         path, end = rattle.path_at(element, 0)
-        if end < len(element) and element[end].text == "(" and rattle.end_of(element, end) == len(element):
+        follows = element[end].text if end < len(element) else ""
+        if follows == "(" and rattle.end_of(element, end) == len(element):
             called = self.source.functions.get(self.source.resolved(path, file))
             return called is not None and self.source.words(called.result, self.source.files[called.file]) == 1
-        if end == len(element):
+        if not follows:
             types = [f.type for f in function.fields if (f.name,) == path]
             return bool(types) and types[0] in [Named((n,)) for n in rattle.NUMBERS]
-        # an element of another array, or arithmetic on one
-        return element[end].text == "["
+        # an element of another array, or arithmetic
+        return follows in ARITHMETIC or follows == "["
 
     # ---- rows
 
@@ -305,7 +301,7 @@ class Follower:
             name = lent_name(argument)
             if name in rows:
                 inner[field.name] = rows[name]
-            else:
+            elif self.walk.along is None or field.type.mutable:
                 text = " ".join(t.text for t in argument)
                 self.fault(LENT, function.file, call.line, f"{function.path[-1]} lends `{text}` to {called.path[-1]}: no row that it was lent")
         return None if "::".join(called.path) in self.walk.ends else (called, inner)

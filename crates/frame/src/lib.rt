@@ -4,5 +4,5 @@ pub mod reader;
 pub mod refusal;
 pub mod session;
 pub mod token;
-pub mod word;
+mod word;
 pub mod writer;

@@ -63,7 +63,7 @@ fn has_room(f: Frame, room: usize) -> bool
 
 // The words of a frame that may be written, where there is room for them: nothing is asked again. Gives how many. The head is put behind what
 // it counts.
-pub fn put(f: Frame, out: &mut [u32]) -> usize
+fn put(f: Frame, out: &mut [u32]) -> usize
     requires { ⌜ (frameOk (f .offices) 64 f ≡ true) × (length (frameWords f) ≤ length (now out)) ⌝ }
     ensures { λ r. ⌜ (r ≡ length (frameWords f)) × (now (out .exit) ≡ laid (frameWords f) (now (out .entry))) ⌝ }
 {

@@ -62,8 +62,7 @@ receive-code-requires c κs = let s = c .before .before .before .before .before 
     let t = sym (c .before .before .before .before .before .before .before .is-sound .ensures) ∙ not-false _ (c .before .before .before .before .before .before .if1 .left) in
     let q = c .before .before .before .frame-from .ensures in
     let a = read-accepted ws fr fr t _ q (c .before .if2 .left) in
-    let e : c .before .before .before .frame-from .result ≡ frameOf fr = read-frame ws fr fr t _ q (c .before .if2 .left) in
-    (
+    let e : c .before .before .before .frame-from .result ≡ frameOf fr = read-frame ws fr fr t _ q (c .before .if2 .left) in (
       t,
       c .set-at .ensures,
       ap (frameOk (getD ws 0 0) (getD ws 2 0)) e ∙ accepted-ok (getD ws 0 0) (getD ws 2 0) fr a,

@@ -1,8 +1,7 @@
 use native.Mathlib.Omega.{arith}
-use Prim.Native.Nat.{_+_, _-_, _%_, _<_, _≤_}
-use mathlib.Core.Path.{_≡_, ap, _∙_}
+use Prim.Native.Nat.{ℕ, _+_, _-_, _%_, _<_, _≤_}
+use mathlib.Core.Path.{ap, _∙_}
 use mathlib.Core.List.{List}
-use Prim.Native.Nat.{ℕ}
 use lib.ListN.{length, getD, set, length-set}
 use Rattle.hearing.proofs.Forwards.{long, head-large, check-large, put-forward}
 use borrow.Author.Needs.{needs}
@@ -25,7 +24,7 @@ shared-slice-read-out c = let s = c .before .before .before .before .before .bef
 sub-out : tie.Need-sub-out
 sub-out c = let s = c .before .before .before .before .before .before .before in
     let fr = s .args .frame .now in
-    let h : 4096 ≤ getD fr 0 0 = head-large fr (s .pre .0) in h
+    let h : 4096 ≤ getD fr 0 0 = head-large fr (s .pre .0) in search needs
 
 slice-write-out : tie.Need-slice-write-out
 slice-write-out c = let s = c .before .before .before .before .before .before .before in
@@ -44,7 +43,7 @@ shared-slice-read-out-2 c = let s = c .before .before .before .before .before .b
 sub-out-2 : tie.Need-sub-out-2
 sub-out-2 c = let s = c .before .before .before .before .before .before .before .before in
     let fr = s .args .frame .now in
-    let h : 4096 ≤ getD fr (length fr - 1) 0 = check-large fr (s .pre .0) in h
+    let h : 4096 ≤ getD fr (length fr - 1) 0 = check-large fr (s .pre .0) in search needs
 
 add-out : tie.Need-add-out
 add-out c = search needs
