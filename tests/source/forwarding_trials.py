@@ -2,65 +2,94 @@
 
 import collections
 
-FOLLOWED = "every call is followed"
-SMALL = "an array has a clock's or a set's places at most"
-LENT = "a row is one that the call was lent"
-STRAIGHT = "a frame's words go to no row but theirs"
+from follower import FOLLOWED, LENT, SMALL, STRAIGHT
 
-# The rule that has to tell it, None where nothing is to be told; the edits, each (file, old text, new text), and the file and text at
-# whose line it is to be told.
+MADE = "a hearing is made only by what is followed"
+
+# The rule that has to tell it, None where nothing is to be told; the edits, each (file, old text, new text), with no old text for a new
+# file; and the file and text at whose line it is to be told.
 Trial = collections.namedtuple("Trial", "name rule edits at", defaults=[None])
 
 HOST = "crates/host/src/offices.rt"
 RECEIVE = "crates/hearing/src/receive.rt"
 FORWARD = "crates/hearing/src/forward.rt"
+HEARING = "crates/hearing/src/lib.rt"
 ROW = "crates/causal/src/row.rt"
 PLAY = "crates/player/src/play.rt"
 FEED = "crates/ring_program/src/feed.rt"
+MAIN = "crates/ring_program/src/main.rt"
 
+# Lines of the source, in front of which or in place of which something is put.
 TAKEN = "    taken(store, frame, f, out)\n"
 SENT_ON = "    crate::forward::put_onward(frame, out);\n"
-BEGIN = "    let end = frame.len() - 1;\n"
-COPY = "    causal::row::copy_words(frame, 0, &mut *out, 0, frame.len());\n"
 WRITER = "pub fn put_onward(frame: &[u32], out: &mut [u32])\n"
+COPY = "    causal::row::copy_words(frame, 0, &mut *out, 0, frame.len());\n"
 OFFICE = "const ONE_OFFICE: u32 = 0x1000;\n"
+MODULES = "pub mod receive;\n"
+EXPORT = "// 01: hear a frame.\n"
+ROW_FIRST = "// n words of a row"
 LOOP = "    for j in 0..n {\n        to[b + j]"
+PLAY_FIRST = "// The frames that a call left"
 DELIVERED = "    let frames = count_frames(out, words);\n"
+HEARS = "    hearing::receive::receive(&mut stores[a..b], &lines[from..end], out)\n"
 PUSHED = "                    let mid = deliver(board, next, words, &mut *lines, out);\n"
+RECEIVED = "            receive_line(board, office as usize, stores, lines, out)\n"
+FEED_FIRST = "// The bytes from `from` on"
 PLAYED = "                let turn = play_other(board, line, &mut *stores, &mut *lines, &mut *out);\n"
+ENDED = "    let ending = outcome.ending;\n"
+
 SCRATCH = "    let mut scratch = [0u32; 267];\n"
+TWO_ROWS = "(frame: &[u32], out: &mut [u32])"
 KEEP = "fn keep(row: &mut [u32], out: &[u32]) {\n    row[0] = out[0];\n}\n\n"
 KEEP_BYTE = "fn keep(row: &mut [u8], out: &[u32]) {\n    row[0] = out[0] as u8;\n}\n\n"
+EXPORTED = "    hearing::receive::receive(store, frame, out);\n"
+WORD_AT = "pub fn word_at(row: &[u32], i: usize) -> u32 {\n    row[i]\n}\n\n"
+TO_STORE = "    for j in 0..8 {\n        store[j] = words[j];\n    }\n"
+
+
+def copied(row, to):
+    return f"    causal::row::copy_words({row}, 0, {to}, 0, 8);\n"
 
 
 def before(file, old, new):
     return (file, old, new + old)
 
 
-def within(old, new):
-    """In put_onward, in front of a line of it."""
-    return [before(FORWARD, old, new)]
+def put(new):
+    """In put_onward, where it copies."""
+    return before(FORWARD, COPY, new)
 
 
-def hidden(name, rule, edits):
+def declared(new):
+    """Beside put_onward."""
+    return before(FORWARD, OFFICE, new)
+
+
+def taken(new):
+    """In `taken`, which has frame, store and out."""
+    return before(RECEIVE, SENT_ON, new)
+
+
+def hidden(name, rule, *edits):
     """Told at the line where the first new text stands."""
     file, old, new = edits[0]
-    return Trial(name, rule, edits, (file, new.replace(old, "").strip("\n").split("\n")[0]))
+    return Trial(name, rule, list(edits), (file, new.replace(old, "").strip("\n").split("\n")[0]))
 
 
-# Of paper 02's request: the row is there, in the call, a call deeper, and lent.
+def many(form, count=34):
+    return ", ".join(form.format(i) for i in range(count))
+
+
+# As the request has it: in the call, one call deeper and further down, in a function of its own, lent.
 ROWS = [
-    hidden("a scratch array in the call", SMALL, [before(RECEIVE, TAKEN, SCRATCH)]),
-    hidden("one call deeper", SMALL, [before(RECEIVE, SENT_ON, SCRATCH)]),
-    hidden("two calls deeper", SMALL, within(COPY, SCRATCH)),
-    hidden("in a crate below", SMALL, [before(ROW, LOOP, SCRATCH)]),
+    hidden("a scratch array in the call", SMALL, before(RECEIVE, TAKEN, SCRATCH)),
+    hidden("one call deeper", SMALL, taken(SCRATCH)),
+    hidden("two calls deeper", SMALL, put(SCRATCH)),
+    hidden("in a crate below", SMALL, before(ROW, LOOP, SCRATCH)),
     Trial(
         "in a function of its own",
         SMALL,
-        [
-            (FORWARD, COPY, "    through(frame, &mut *out);\n"),
-            before(FORWARD, OFFICE, "fn through(frame: &[u32], out: &mut [u32]) {\n" + SCRATCH + "}\n\n"),
-        ],
+        [(FORWARD, COPY, "    through(frame, &mut *out);\n"), declared(f"fn through{TWO_ROWS} {{\n{SCRATCH}}}\n\n")],
         (FORWARD, SCRATCH),
     ),
     Trial(
@@ -69,7 +98,7 @@ ROWS = [
         [
             (HOST, "frame: &[u32], out: &mut [u32]) -> WordsAnswer", "frame: &[u32], out: &mut [u32], more: &mut [u32]) -> WordsAnswer"),
             (HOST, "receive(store, frame, out);", "receive(store, frame, out, more);"),
-            (RECEIVE, "pub fn receive(store: &mut [u32], frame: &[u32], out: &mut [u32])", "pub fn receive(store: &mut [u32], frame: &[u32], out: &mut [u32], more: &mut [u32])"),
+            (RECEIVE, "frame: &[u32], out: &mut [u32]) -> Written", "frame: &[u32], out: &mut [u32], more: &mut [u32]) -> Written"),
             (RECEIVE, TAKEN, "    taken(store, frame, f, out, more)\n"),
             (RECEIVE, "f: Frame, out: &mut [u32]) -> Written", "f: Frame, out: &mut [u32], more: &mut [u32]) -> Written"),
             (RECEIVE, SENT_ON, "    crate::forward::put_onward(frame, out, more);\n"),
@@ -87,60 +116,111 @@ ROWS = [
         (RECEIVE, "put_onward(frame, out, &mut some)"),
     ),
     Trial(
+        "a local lent as an array",
+        LENT,
+        [declared("fn keep(row: &mut [u32; 8], frame: &[u32]) {\n    row[0] = frame[0];\n}\n\n"), put("    keep(&mut some, frame);\n")],
+        (FORWARD, "keep(&mut some"),
+    ),
+]
+
+# The store as a scratch row.
+STORE = [
+    Trial(
         "the store lent to the writer",
         STRAIGHT,
         [
             (RECEIVE, SENT_ON, "    crate::forward::put_onward(frame, out, &mut *store);\n"),
             (FORWARD, WRITER, "pub fn put_onward(frame: &[u32], out: &mut [u32], more: &mut [u32])\n"),
-            (FORWARD, "    out[0] = frame[0] - ONE_OFFICE;\n", "    more[0] = frame[0];\n    out[0] = more[0] - ONE_OFFICE;\n"),
         ],
-        (FORWARD, "0xF000_0000"),
+        (FORWARD, "out[0] = frame[0]"),
     ),
-    Trial("the row hidden by a local", LENT, within(COPY, "    let out = [0u32; 8];\n"), (FORWARD, "let out = ")),
+    Trial("the store lent to copy to", STRAIGHT, [taken(copied("frame", "&mut *store"))], (ROW, "to[b + j]")),
+    hidden("eight words at a time", STRAIGHT, taken("    let part = store::layout::set_at(frame, 0);\n")),
+    hidden("a word at a time", STRAIGHT, taken("    let word = causal::row::word_at(frame, 0);\n"), before(ROW, ROW_FIRST, WORD_AT)),
+    hidden("another name for the row", LENT, taken("    let words = frame;\n" + TO_STORE)),
+    Trial("another name with a type", STRAIGHT, [taken("    let words: &[u32] = &frame[..];\n" + TO_STORE)], (RECEIVE, "words[j]")),
+    hidden("another name by a match", LENT, taken("    let words = match code { 0 => frame, _ => frame };\n" + TO_STORE)),
+    hidden("a row in parentheses", LENT, taken("    store[0] = (frame)[0];\n")),
+    hidden("a part indexed", LENT, taken("    store[0] = frame[..][0];\n")),
+    hidden("a part in an index", STRAIGHT, taken("    store[0] = frame[causal::row::same(&out[..])];\n")),
+    Trial(
+        "a name bound twice",
+        LENT,
+        [taken("    let part = &mut store[..];\n" + copied("frame", "part") + "    let part = &mut out[..];\n")],
+        (RECEIVE, "let part = &mut out"),
+    ),
+    hidden("a row's name in a block", LENT, taken("    if f.hops == 9 { let store = &mut out[..]; }\n")),
+    hidden("a local of a row's name", LENT, put("    let out = [0u32; 8];\n")),
 ]
 
-# The same in other forms.
+# Other forms of an array.
 FORMS = [
-    hidden("nine places", SMALL, within(COPY, "    let some = [0u32; 9];\n")),
-    hidden("nine places, listed", SMALL, within(COPY, "    let some = [0u32, 1, 2, 3, 4, 5, 6, 7, 8];\n")),
-    hidden("bytes", SMALL, within(COPY, "    let some = [0u8; 1072];\n")),
-    hidden("a byte string", SMALL, within(COPY, '    let some = b"0123456789";\n')),
-    hidden("a type of a local", SMALL, within(COPY, "    let some: [u32; 267] = zeros();\n")),
-    hidden("places by a constant", SMALL, within(COPY, "    let some = [0u32; MOST];\n")),
-    hidden("a constant row", SMALL, within(OFFICE, "const EMPTY: [u32; 267] = [0; 267];\n")),
-    hidden("an array of arrays", SMALL, within(COPY, "    let some = [[0u32; 8]; 8];\n")),
-    Trial(
-        "an array of a local array",
+    hidden("nine places", SMALL, put("    let some = [0u32; 9];\n")),
+    hidden("nine places, listed", SMALL, put("    let some = [0u32, 1, 2, 3, 4, 5, 6, 7, 8];\n")),
+    hidden("bytes", SMALL, put("    let some = [0u8; 1072];\n")),
+    hidden("wider numbers", SMALL, put("    let some = [0u64; 8];\n")),
+    hidden("a byte string", SMALL, put('    let some = b"0123456789";\n')),
+    hidden("a raw byte string", SMALL, put('    let some = *br"0123456789";\n')),
+    hidden("a type of a local", SMALL, put("    let some: [u32; 267] = zeros();\n")),
+    hidden("places by a name", SMALL, put("    let some = [0u32; MOST];\n")),
+    hidden("places by a constant", SMALL, put("    let some = [0u32; MOST];\n"), declared("const MOST: usize = 9;\n")),
+    hidden("a constant row", SMALL, put("    let some = EMPTY;\n"), declared("const EMPTY: [u32; 267] = [0; 267];\n")),
+    hidden(
+        "a constant of another file",
         SMALL,
-        within(COPY, "    let eight = [0u32; 8];\n    let some = [(eight); 8];\n"),
-        (FORWARD, "let some"),
+        put("    let some = crate::EMPTY;\n"),
+        before(HEARING, MODULES, "pub const EMPTY: [u32; 267] = [0; 267];\n"),
     ),
-    hidden("an array of what a call gives", SMALL, within(COPY, "    let some = [frame::entry::mosts(8); 8];\n")),
-    hidden("a field of an array", SMALL, within(COPY, "    let some = [e.clock; 8];\n")),
+    hidden("an array of arrays", SMALL, put("    let some = [[0u32; 8]; 8];\n")),
+    Trial("an array of a local array", SMALL, [put("    let eight = [0u32; 8];\n    let some = [(eight); 8];\n")], (FORWARD, "let some")),
+    hidden("an array of what a call gives", SMALL, put("    let some = [frame::entry::mosts(8); 8];\n")),
+    hidden("an array of fields", SMALL, taken("    let some = [(e).clock; 8];\n")),
+    Trial("many small arrays", SMALL, [put("    let some = [0u32; 8];\n" * 34)], (FORWARD, WRITER)),
+    hidden("many small parameters", SMALL, declared(f"fn keep({many('a{}: [u32; 8]')}) {{}}\n\n"), put(f"    keep({many('z')});\n")),
     Trial(
         "an array in a struct",
         SMALL,
-        [
-            before(FORWARD, OFFICE, "struct Row {\n    words: [u32; 267],\n}\n\nfn keep(row: Row) {}\n\n"),
-            before(FORWARD, COPY, "    keep(other);\n"),
-        ],
+        [declared("struct Row {\n    words: [u32; 267],\n}\n\nfn keep(row: Row) {}\n\n"), put("    keep(other);\n")],
         (FORWARD, "words: [u32; 267]"),
     ),
-    Trial(
-        "many small arrays in a struct",
+    hidden(
+        "small arrays in a struct",
         SMALL,
-        [
-            before(FORWARD, OFFICE, "struct Row {\n    a: [u32; 8],\n    b: [u32; 8],\n    c: [u32; 8],\n    d: [u32; 8],\n}\n\nfn keep(row: Row) {}\n\n"),
-            before(FORWARD, COPY, "    keep(other);\n"),
-        ],
-        (FORWARD, "fn keep(row: Row)"),
+        put(f"    let some = row {{ {many('a{}: z')} }};\n"),
+        declared(f"struct row {{\n    {many('a{}: [u32; 8]')}\n}}\n\n"),
     ),
-    hidden("a session", SMALL, within(COPY, "    let s = frame::session::Session { offices: 0 };\n")),
-    hidden("a method", FOLLOWED, within(COPY, "    out.copy_from_slice(frame);\n")),
-    hidden("a macro", FOLLOWED, within(COPY, "    let some = vec![0u32; 8];\n")),
-    hidden("a call to nowhere", FOLLOWED, within(COPY, "    other::row::copy(frame, &mut *out);\n")),
-    hidden("another name for a type", FOLLOWED, within(OFFICE, "type Row = [u32; 267];\n")),
-    hidden("a struct that holds a row", FOLLOWED, within(OFFICE, "struct Held<'a> {\n    row: &'a [u32],\n}\n")),
+    hidden(
+        "small arrays in an enum",
+        SMALL,
+        put(f"    let some = Row::All({many('z')});\n"),
+        declared(f"enum Row {{\n    None,\n    All({many('[u32; 8]')}),\n}}\n\n"),
+    ),
+    hidden("a session", SMALL, put("    let s = frame::session::Session { offices: 0 };\n")),
+]
+
+# Calls in forms that could hide one.
+CALLS = [
+    hidden("a method", FOLLOWED, put("    out.copy_from_slice(frame);\n")),
+    hidden("a macro", FOLLOWED, put("    let some = vec![0u32; 8];\n")),
+    hidden("a call to nowhere", FOLLOWED, put("    other::row::copy(frame, &mut *out);\n")),
+    hidden("a call in parentheses", FOLLOWED, put("    (through)(frame, &mut *out);\n")),
+    hidden("a name brought in by a body", FOLLOWED, put("    use crate::receive::through;\n")),
+    hidden("another name for a type", FOLLOWED, declared("type Row = [u32; 267];\n")),
+    hidden("a struct that holds a row", FOLLOWED, declared("struct Held<'a> {\n    row: &'a [u32],\n}\n")),
+    hidden("a module in a file", FOLLOWED, put("    deep::through(frame, &mut *out);\n")),
+    Trial("a call of itself", FOLLOWED, [put("    put_onward(frame, &mut *out);\n")], (FORWARD, WRITER)),
+    Trial(
+        "a function with a name like a type's",
+        SMALL,
+        [(FORWARD, COPY, "    Through(frame, &mut *out);\n"), declared(f"fn Through{TWO_ROWS} {{\n{SCRATCH}}}\n\n")],
+        (FORWARD, SCRATCH),
+    ),
+    Trial(
+        "a second root of a crate",
+        FOLLOWED,
+        [("crates/hearing/src/main.rt", "", "fn x() {}\n"), before(HEARING, MODULES, "fn x() {}\n")],
+        ("crates/hearing/src/main.rt", "fn x"),
+    ),
 ]
 
 # Behind a hearing, in the player and the program: from `out` a frame goes to the waiting line.
@@ -148,37 +228,62 @@ BEHIND = [
     Trial(
         "the player keeps words of the out row in its stores",
         STRAIGHT,
-        [before(PLAY, "// The frames that a call left", KEEP), before(PLAY, PUSHED, "                    keep(&mut *stores, out);\n")],
+        [before(PLAY, PLAY_FIRST, KEEP), before(PLAY, PUSHED, "                    keep(&mut *stores, out);\n")],
         (PLAY, "row[0] = out[0]"),
     ),
-    Trial(
-        "the player copies the out row",
-        LENT,
-        [before(PLAY, DELIVERED, "    let mut some = [0u32; 1751];\n    causal::row::copy_words(out, 0, &mut some, 0, words);\n")],
-        (PLAY, "causal::row::copy_words(out"),
+    hidden(
+        "the player is told the out row's words",
+        STRAIGHT,
+        before(PLAY, PUSHED, "                    let word = causal::row::word_at(out, 0);\n"),
+        before(ROW, ROW_FIRST, WORD_AT),
     ),
-    hidden("the player has a row of its own", SMALL, [before(PLAY, DELIVERED, "    let mut some = [0u32; 1751];\n")]),
+    hidden("the player copies the out row", LENT, before(PLAY, DELIVERED, copied("out", "&mut some"))),
+    hidden("the player has a row of its own", SMALL, before(PLAY, DELIVERED, "    let mut some = [0u32; 1751];\n")),
+    Trial(
+        "the player keeps the frame that it hears",
+        STRAIGHT,
+        [before(PLAY, HEARS, copied("lines", "&mut *stores"))],
+        (ROW, "to[b + j]"),
+    ),
+    Trial(
+        "the player hears into a row of its own",
+        LENT,
+        [(PLAY, RECEIVED, RECEIVED.replace("out)", "&mut some)"))],
+        (PLAY, "lines, &mut some)"),
+    ),
     Trial(
         "the program keeps words of the out row in its text",
         STRAIGHT,
-        [before(FEED, "// The bytes from `from` on", KEEP_BYTE), (FEED, PLAYED, PLAYED + "                keep(&mut *text, out);\n")],
+        [before(FEED, FEED_FIRST, KEEP_BYTE), (FEED, PLAYED, PLAYED + "                keep(&mut *text, out);\n")],
         (FEED, "row[0] = out[0]"),
     ),
-    hidden("the program has a word of the out row", STRAIGHT, [before(FEED, PLAYED, "                let first = out[0];\n")]),
-    hidden(
-        "the program copies the out row",
-        LENT,
-        [before(FEED, PLAYED, "                causal::row::copy_words(out, 0, &mut some, 0, 8);\n")],
+    hidden("the program has a word of the out row", STRAIGHT, before(FEED, PLAYED, "                let first = out[0];\n")),
+    hidden("the program is told words of it", STRAIGHT, before(FEED, PLAYED, "    let eight = store::layout::set_at(out, 0);\n")),
+    hidden("the program copies the out row", LENT, before(FEED, PLAYED, copied("out", "&mut some"))),
+    hidden("the program copies it at the end", LENT, before(MAIN, ENDED, copied("&out", "&mut some"))),
+    Trial("the program hears into a row of its own", LENT, [(FEED, PLAYED, PLAYED.replace("&mut *out", "&mut some"))], (FEED, "&mut some")),
+    Trial(
+        "another export hears",
+        MADE,
+        [before(HOST, EXPORT, f"fn hear(store: &mut [u32], {TWO_ROWS[1:]} {{\n{EXPORTED}}}\n\n")],
+        (HOST, EXPORTED + "}"),
     ),
 ]
 
 # Nothing is told.
 FINE = [
     Trial("nothing is edited", None, []),
-    Trial("eight places", None, within(COPY, "    let eight = [0u32; 8];\n")),
-    Trial("a comment", None, within(COPY, "    // let mut scratch = [0u32; 267];\n")),
-    Trial("a part by a name", None, [(FORWARD, COPY, "    let part = &mut out[..];\n    causal::row::copy_words(frame, 0, part, 0, frame.len());\n")]),
-    Trial("a row in a function that no hearing calls", None, within(OFFICE, "fn other() {\n" + SCRATCH + "}\n\n")),
+    Trial("eight places", None, [put("    let eight = [0u32; 8];\n    let two = [frame[0], ONE_OFFICE];\n    let one = [!two[0]; 1];\n")]),
+    Trial("eight places by a constant", None, [put("    let eight = [0u32; EIGHT];\n"), declared("const EIGHT: usize = 8;\n")]),
+    Trial("a comment", None, [put("    // let mut scratch = [0u32; 267];\n")]),
+    Trial("a part by a name", None, [(FORWARD, COPY, "    let part = &mut out[..];\n" + copied("frame", "part"))]),
+    Trial(
+        "a function of single numbers",
+        None,
+        [put("    let ones = u32::count_ones(frame[0]);\n    bump(&mut ones);\n"), declared("fn bump(n: &mut u32) {}\n\n")],
+    ),
+    Trial("a row in a function that no hearing calls", None, [declared("fn other() {\n" + SCRATCH + "}\n\n")]),
+    Trial("a form that is not read, in a file that no hearing needs", None, [("crates/script/src/odd.rt", "", "impl Line {}\n")]),
 ]
 
-TRIALS = [*ROWS, *FORMS, *BEHIND, *FINE]
+TRIALS = [*ROWS, *STORE, *FORMS, *CALLS, *BEHIND, *FINE]

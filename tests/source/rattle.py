@@ -1,6 +1,6 @@
-"""Rattle source, as far as the tests over it read it: the items of a file, types, and what a body calls.
+"""Rattle source, as far as the tests over it read it: the items of a file, types, and what stands in a body.
 
-What is not read is told (Unread), so that nothing hides in a form that the tests do not know.
+A form that is not read is told (Unread), with its line.
 """
 
 import collections
@@ -8,7 +8,7 @@ import re
 
 TOKEN = re.compile(
     r"""(?P<blank>\s+|//[^\n]*|/\*.*?\*/)
-      | (?P<text>b?"(?:\\.|[^"\\])*"|b'(?:\\.|[^'\\])')
+      | (?P<text>(?:br|b|r)?\#*"(?:\\.|[^"\\])*"\#*|b'(?:\\.|[^'\\])')
       | (?P<lifetime>'\w+)
       | (?P<number>\d\w*)
       | (?P<name>[^\W\d]\w*)
@@ -16,18 +16,22 @@ TOKEN = re.compile(
     re.VERBOSE | re.DOTALL,
 )
 KEYWORDS = frozenset("as break const continue crate else enum extern fn for ghost if impl in let loop match mod mut pub".split())
-KEYWORDS |= frozenset("return static struct trait type unsafe use where while".split())
+KEYWORDS |= frozenset("return self static struct super trait type unsafe use where while".split())
 CLOSING = {"(": ")", "[": "]", "{": "}"}
-NUMBERS = frozenset("bool u8 u16 u32 u64 usize i8 i16 i32 i64 isize".split())
+# How many words of 32 bits a number has.
+WIDTHS = {"bool": 1, "u8": 1, "u16": 1, "u32": 1, "i8": 1, "i16": 1, "i32": 1, "f32": 1}
+WIDTHS |= {"u64": 2, "usize": 2, "i64": 2, "isize": 2, "f64": 2}
 
 Token = collections.namedtuple("Token", "kind text line")
-# References, slices, arrays, and names of numbers and declared types. An array that cannot be counted has None places.
+# References, slices, arrays with the tokens of their length, and names of numbers and declared types.
 Ref = collections.namedtuple("Ref", "mutable to")
 Slice = collections.namedtuple("Slice", "of")
-Array = collections.namedtuple("Array", "of places")
+Array = collections.namedtuple("Array", "of length")
 Named = collections.namedtuple("Named", "path")
 Field = collections.namedtuple("Field", "name type line")
-Declared = collections.namedtuple("Declared", "path file line fields choice")
+Constant = collections.namedtuple("Constant", "name type line value")
+# A struct has one group of fields, an enum one for each variant.
+Declared = collections.namedtuple("Declared", "path file line groups choice")
 Function = collections.namedtuple("Function", "path file line public export fields result clauses body")
 Call = collections.namedtuple("Call", "path arguments line")
 
@@ -62,25 +66,24 @@ def end_of(tokens, at):
     raise Unread(tokens[at].line, "a group that does not close")
 
 
+def top(tokens):
+    """The places of the tokens that stand in no group; a group counts by its opening."""
+    at = 0
+    while at < len(tokens):
+        yield at
+        at = end_of(tokens, at) if tokens[at].text in CLOSING else at + 1
+
+
 def split(tokens, sign=","):
     """The parts of a row of tokens between signs that stand in no group."""
-    parts, i = [[]], 0
-    while i < len(tokens):
-        if tokens[i].text == sign:
-            parts.append([])
-            i += 1
-            continue
-        end = end_of(tokens, i) if tokens[i].text in CLOSING else i + 1
-        parts[-1] += tokens[i:end]
-        i = end
+    cuts = [at for at in top(tokens) if tokens[at].text == sign]
+    parts = [tokens[a + 1 : b] for a, b in zip([-1, *cuts], [*cuts, len(tokens)])]
     return parts if parts[-1] else parts[:-1]
 
 
 def numeral(tokens):
-    """The number that a length is, None for any other expression."""
-    if len(tokens) != 1 or tokens[0].kind != "number":
-        return None
-    m = re.fullmatch(r"(0x[0-9A-Fa-f_]+|[0-9][0-9_]*)(?:u\d+|usize)?", tokens[0].text)
+    """The number that stands there alone, None for anything else."""
+    m = re.fullmatch(r"(0x[0-9A-Fa-f_]+|[0-9][0-9_]*)(?:u\d+|usize)?", tokens[0].text if len(tokens) == 1 else "")
     return int(m.group(1).replace("_", ""), 0) if m else None
 
 
@@ -95,11 +98,14 @@ def type_of(tokens):
         return Ref(mutable, type_of(rest[1:] if mutable else rest))
     if first.text == "[" and end_of(tokens, 0) == len(tokens):
         parts = split(tokens[1:-1], ";")
-        return Slice(type_of(parts[0])) if len(parts) == 1 else Array(type_of(parts[0]), numeral(parts[1]))
-    names = [t.text for t in tokens[::2]]
+        return Slice(type_of(parts[0])) if len(parts) == 1 else Array(type_of(parts[0]), tuple(parts[1]))
     if all(t.kind == "name" for t in tokens[::2]) and all(t.text == "::" for t in tokens[1::2]):
-        return Named(tuple(names))
-    raise Unread(first.line, f"the type {' '.join(t.text for t in tokens)}")
+        return Named(tuple(t.text for t in tokens[::2]))
+    raise Unread(first.line, f"the type {written(tokens)}")
+
+
+def written(tokens):
+    return " ".join(t.text for t in tokens)
 
 
 def shown(kind):
@@ -109,7 +115,7 @@ def shown(kind):
     if isinstance(kind, Slice):
         return f"[{shown(kind.of)}]"
     if isinstance(kind, Array):
-        return f"[{shown(kind.of)}; {'?' if kind.places is None else kind.places}]"
+        return f"[{shown(kind.of)}; {written(kind.length)}]"
     return "::".join(kind.path)
 
 
@@ -126,25 +132,22 @@ def fields_of(tokens):
 
 
 def variants_of(tokens):
-    """What the variants of an enum hold, each under the variant's name."""
-    fields = []
+    """What each variant of an enum holds."""
+    groups = []
     for variant in split(tokens):
-        if len(variant) > 1:
-            name, inner = variant[0], variant[2:-1]
-            if variant[1].text != "(" or end_of(variant, 1) != len(variant):
-                raise Unread(name.line, f"the variant {name.text}")
-            fields += [Field(name.text, type_of(part), name.line) for part in split(inner)]
-    return fields
+        name, inner = variant[0], variant[2:-1]
+        if len(variant) > 1 and (variant[1].text != "(" or end_of(variant, 1) != len(variant)):
+            raise Unread(name.line, f"the variant {name.text}")
+        groups.append([Field(name.text, type_of(part), name.line) for part in split(inner)])
+    return groups
 
 
 class File:
     """The items of one file, by crate and modules."""
 
     def __init__(self, path, text):
-        self.path = path
-        crate, module = re.fullmatch(r"crates/([^/]+)/src/(.+)\.rt", path).groups()
-        self.module = (crate,) if module in ("lib", "main") else (crate, *module.split("/"))
-        self.functions, self.declared, self.imports, self.constants = {}, {}, {}, {}
+        self.path, self.module = path, module_of(path)
+        self.functions, self.declared, self.constants, self.imports = {}, {}, {}, {}
         tokens = tokens_of(text)
         at = 0
         while at < len(tokens):
@@ -152,7 +155,7 @@ class File:
 
     def item(self, tokens, at):
         """Reads one item and gives the place behind it."""
-        start, words = at, []
+        first, words = tokens[at], []
         while tokens[at].text == "#":
             at = end_of(tokens, at + 1)
         while tokens[at].text in ("pub", "extern", "ghost") or tokens[at].kind == "text":
@@ -163,35 +166,35 @@ class File:
             return self.function(tokens, at, "pub" in words, "extern" in words)
         if keyword in ("struct", "enum"):
             return self.declaration(tokens, at, keyword == "enum")
-        if keyword not in ("use", "mod", "const") or ("extern" in words):
-            raise Unread(tokens[start].line, f"an item that begins with {keyword}")
-        end = next(i for i in range(at, len(tokens)) if tokens[i].text == ";") if keyword != "const" else self.constant(tokens, at)
+        if keyword not in ("use", "mod", "const") or "extern" in words:
+            raise Unread(first.line, f"an item that begins with `{tokens[at].text}`")
+        end = at + next(i for i in top(tokens[at:]) if tokens[at + i].text == ";")
+        if keyword == "const":
+            self.constant(tokens[at + 1 : end])
         if keyword == "use" and "ghost" not in words:
-            path = tuple(t.text for t in tokens[at + 1 : end : 2])
-            if any(t.text != "::" for t in tokens[at + 2 : end : 2]):
-                raise Unread(tokens[at].line, "a `use` of several names")
-            self.imports[path[-1]] = path
+            self.named(tokens[at + 1 : end])
         return end + 1
 
-    def constant(self, tokens, at):
-        """Reads a constant and gives the place of its semicolon."""
-        parts, end = [], at
-        while tokens[end].text != ";":
-            end = end_of(tokens, end) if tokens[end].text in CLOSING else end + 1
-        parts = split(tokens[at + 3 : end], "=")
-        name = tokens[at + 1]
-        self.constants[name.text] = Field(name.text, type_of(parts[0]), name.line)
-        return end
+    def named(self, tokens):
+        kind = type_of(tokens)
+        if not isinstance(kind, Named):
+            raise Unread(tokens[0].line, "a `use` of this form")
+        self.imports[kind.path[-1]] = kind.path
+
+    def constant(self, tokens):
+        kind, value = split(tokens[2:], "=")
+        name = tokens[0]
+        self.constants[(*self.module, name.text)] = Constant(name.text, type_of(kind), name.line, value)
 
     def declaration(self, tokens, at, choice):
         name, opening = tokens[at + 1], at + 2
-        end = end_of(tokens, opening)
-        inner = tokens[opening + 1 : end - 1]
         if tokens[opening].text != "{":
             raise Unread(name.line, f"the declaration of {name.text}")
-        fields = variants_of(inner) if choice else fields_of(inner)
+        end = end_of(tokens, opening)
+        inner = tokens[opening + 1 : end - 1]
+        groups = variants_of(inner) if choice else [fields_of(inner)]
         path = (*self.module, name.text)
-        self.declared[path] = Declared(path, self.path, name.line, fields, choice)
+        self.declared[path] = Declared(path, self.path, name.line, groups, choice)
         return end
 
     def function(self, tokens, at, public, export):
@@ -202,9 +205,7 @@ class File:
         fields = fields_of(tokens[opening + 1 : at - 1])
         result, clauses = None, {}
         if tokens[at].text == "->":
-            end = at + 1
-            while tokens[end].text not in ("{", "requires", "ensures"):
-                end = end_of(tokens, end) if tokens[end].text in CLOSING else end + 1
+            end = at + next(i for i in top(tokens[at:]) if tokens[at + i].text in ("{", "requires", "ensures"))
             result, at = type_of(tokens[at + 1 : end]), end
         while tokens[at].text in ("requires", "ensures"):
             clauses.setdefault(tokens[at].text, tokens[at].line)
@@ -218,54 +219,96 @@ class File:
         return end
 
 
+def module_of(path):
+    """Crate and modules of a file."""
+    crate, module = re.fullmatch(r"crates/([^/]+)/src/(.+)\.rt", path).groups()
+    return (crate,) if module in ("lib", "main") else (crate, *module.split("/"))
+
+
+# ---- bodies
+
+
 def before(tokens, at):
     return tokens[at - 1] if at else Token("sign", ";", 0)
 
 
-def is_value(token):
-    """May a bracket behind it be an index?"""
-    return token.text in (")", "]") or token.kind == "name" and token.text not in KEYWORDS
+def behind(tokens, at):
+    return tokens[at] if at < len(tokens) else Token("sign", ";", 0)
+
+
+def is_name(token):
+    return token.kind == "name" and token.text not in KEYWORDS
 
 
 def path_at(tokens, at):
     """The path that begins at a place, and the place behind it."""
     path = [tokens[at].text]
     at += 1
-    while at + 1 < len(tokens) and tokens[at].text == "::" and tokens[at + 1].kind == "name":
+    while behind(tokens, at).text == "::" and behind(tokens, at + 1).kind == "name":
         path.append(tokens[at + 1].text)
         at += 2
     return tuple(path), at
 
 
-def calls_of(body):
-    """Calls by path and of methods, each with the tokens of its arguments. A method's path is ('.', its name), a macro's ('!', its name)."""
-    calls, at = [], 0
+def paths_of(body):
+    """Each path of names in a body, with its place and the place behind it. Fields and methods are none."""
+    at = 0
     while at < len(body):
-        token, end = body[at], at + 1
-        if token.kind == "name" and (token.text not in KEYWORDS or token.text == "crate"):
+        end = at + 1
+        if is_name(body[at]) or body[at].text in ("crate", "super", "self"):
             path, end = path_at(body, at)
-            follows = body[end].text if end < len(body) else ""
-            if before(body, at).text == ".":
-                path = (".", *path)
-            if follows == "!" and end + 1 < len(body) and body[end + 1].text in CLOSING:
-                calls.append(Call(("!", *path), [], token.line))
-            if follows == "(":
-                calls.append(Call(path, split(body[end + 1 : end_of(body, end) - 1]), token.line))
+            if before(body, at).text != ".":
+                yield path, at, end
         at = end
-    return calls
+
+
+def calls_of(body):
+    """The calls by path, each with the tokens of its arguments."""
+    for path, at, end in paths_of(body):
+        if behind(body, end).text == "(":
+            yield Call(path, split(body[end + 1 : end_of(body, end) - 1]), body[at].line)
+
+
+def odd_calls(body):
+    """What would be called, or brought in, in a form that is not followed: what it is, and its line."""
+    for at, token in enumerate(body):
+        ahead, back = behind(body, at + 1).text, before(body, at)
+        if token.text in ("use", "fn", "struct", "enum", "const", "type", "impl", "static", "unsafe"):
+            yield f"`{token.text}` in a body", token.line
+        if token.text == "(" and back.text in (")", "]"):
+            yield "a call of what is no name", token.line
+        if is_name(token) and back.text == "." and ahead == "(" and token.text != "len":
+            yield f"the method {token.text}", token.line
+        if is_name(token) and ahead == "!" and behind(body, at + 2).text in CLOSING:
+            yield f"the macro {token.text}", token.line
+
+
+def let_at(body, at):
+    """Of a `let`: the name's token and place, and the tokens of its type and of its value, none of them where it binds a pattern."""
+    at += 2 if behind(body, at + 1).text == "mut" else 1
+    end = at + next((i for i in top(body[at:]) if body[at + i].text in (";", "else")), len(body) - at)
+    parts = split(body[at + 1 : end], "=")
+    if not is_name(behind(body, at)) or len(parts) != 2 or parts[0] and parts[0][0].text != ":":
+        return behind(body, at), at, [], []
+    return body[at], at, parts[0][1:], parts[1]
 
 
 def groups_of(body):
-    """What stands in brackets that are no index: array expressions and types, outermost first."""
+    """What stands in brackets that are no index: array expressions and types, each with its place."""
     for at, token in enumerate(body):
-        if token.text == "[" and not is_value(before(body, at)) and before(body, at).text != "#":
+        back = before(body, at)
+        if token.text == "[" and not is_name(back) and back.text not in (")", "]", "#"):
             yield at, body[at : end_of(body, at)]
 
 
-def indexed(body):
-    """The names that an index is taken of, each with its line and whether that is a part (`a..b`) of it."""
-    for at, token in enumerate(body):
-        if token.text == "[" and at and body[at - 1].kind == "name" and body[at - 1].text not in KEYWORDS:
-            if before(body, at - 1).text != ".":
-                inner = body[at + 1 : end_of(body, at) - 1]
-                yield body[at - 1].text, token.line, len(split(inner, "..")) > 1 or any(t.text in ("..", "..=") for t in inner)
+def opening_of(body, at):
+    """The place where the group opens in which a place stands, None for none."""
+    depth = 0
+    for i in range(at - 1, -1, -1):
+        if body[i].text in CLOSING.values():
+            depth += 1
+        elif body[i].text in CLOSING:
+            depth -= 1
+        if depth < 0:
+            return i
+    return None

@@ -10,89 +10,45 @@ import pathlib
 import re
 import sys
 
+sys.dont_write_bytecode = True
+
+import rattle
+
 LIST = "docs/ARCHITECTURE.md"
 SECTION = "## Public calls"
 ROW = re.compile(r"\|\s*`([a-z0-9_]+(?:::[a-z0-9_]+)+)`\s*\|")
 EXPORTS = "crates/host/src/"
 TIE = re.compile(r"^use Rattle·(\w+)·proofs\.proofs\.(\w+)\.(\w+) as ", re.MULTILINE)
-COMMENT = re.compile(r"//[^\n]*|/\*.*?\*/", re.DOTALL)
-FUNCTION = re.compile(r'^[ \t]*pub\s+(extern\s+"C"\s+)?fn\s+([a-z0-9_]+)\b', re.MULTILINE)
-CLAUSE = re.compile(r"\b(requires|ensures)\s*\{|[{};]")
-ARRAY = re.compile(r"\[[^\[\]{};]*;[^\[\]{};]*\]")
 
 PUBLIC = "a listed call is a public function"
 ASKS = "a listed call requires nothing"
 SAYS = "a listed call ensures something"
 TIED = "a listed call is tied to its promise"
 LISTED = "an export and a tied call are listed"
-READ = "every public function can be read"
-
-
-class Function:
-    def __init__(self, path, line, export, clauses):
-        self.path, self.line, self.export, self.clauses = path, line, export, clauses
-
-    def at(self, clause=None):
-        return f"{self.path}:{self.clauses[clause] if clause else self.line}"
-
-
-def line_of(text, at):
-    return text.count("\n", 0, at) + 1
-
-
-def blanked(pattern, text):
-    """The text with blanks for what the pattern finds, so that places stay."""
-    return pattern.sub(lambda m: re.sub(r"[^\n]", " ", m.group()), text)
-
-
-def uncommented(text):
-    """The text without comments, and without the types of arrays, which have a semicolon in them."""
-    return blanked(ARRAY, blanked(COMMENT, text))
-
-
-def clauses_of(text, at):
-    """The contract behind `at`: the line of the first clause of each kind."""
-    found, depth = {}, 0
-    for m in CLAUSE.finditer(text, at):
-        if m.group() == "}":
-            depth -= 1
-        elif m.group(1) and depth == 0:
-            found.setdefault(m.group(1), line_of(text, m.start()))
-            depth = 1
-        elif depth == 0:  # the body, or the end of a declaration
-            break
-        elif m.group() != ";":
-            depth += 1
-    return found
-
-
-def unreadable(path, source):
-    """Marks of an export that no function was found for, and names that stand twice."""
-    text = uncommented(source)
-    names = [m.group(2) for m in FUNCTION.finditer(text)]
-    exports = sum(m.group(1) is not None for m in FUNCTION.finditer(text))
-    twice = [f"{path}:1: `{n}` is there twice" for n in sorted(set(names)) if names.count(n) > 1]
-    marks = len(re.findall(r"\bno_mangle\b|\bextern\b", text))
-    if marks != 2 * exports:
-        twice.append(f"{path}:1: {marks} marks of exports, {exports} exports")
-    return twice
+READ = "every file is read"
 
 
 def ties_of(source):
     return ["::".join(m.groups()) for m in TIE.finditer(source)]
 
 
-def functions_of(path, source):
-    """The public functions of a file, by their paths: crate::module::function."""
-    crate, module = re.fullmatch(r"crates/([^/]+)/src/(.+)\.rt", path).groups()
-    modules = [] if module == "lib" else module.split("/")
-    text = uncommented(source)
-    return {
-        "::".join([crate, *modules, m.group(2)]): Function(
-            path, line_of(text, m.start(2)), m.group(1) is not None, clauses_of(text, m.end())
-        )
-        for m in FUNCTION.finditer(text)
-    }
+def functions_in(tree):
+    """The public functions of a tree, by their paths: crate::module::function; and where a file could not be read."""
+    functions, unread = {}, []
+    for path, source in tree.items():
+        if path.endswith(".rt"):
+            try:
+                found = rattle.File(path, source).functions.values()
+            except rattle.Unread as fault:
+                unread.append(f"{path}:{fault.line}: {fault.what} is not read")
+                continue
+            functions.update(("::".join(f.path), f) for f in found if f.public)
+    return functions, unread
+
+
+def at(function, clause=None):
+    """File and line of a function, or of a clause of its contract."""
+    return f"{function.file}:{function.clauses[clause] if clause else function.line}"
 
 
 def listed_in(text):
@@ -110,22 +66,18 @@ def listed_in(text):
 def check(tree):
     """What is asked, and where it does not hold: (behaviour, how many were looked at, faults)."""
     calls = listed_in(tree.get(LIST, ""))
-    functions = {}
-    for path, source in tree.items():
-        if path.endswith(".rt"):
-            functions.update(functions_of(path, source))
+    functions, unread = functions_in(tree)
     there = {name: functions[name] for name in calls if name in functions}
-    exports = {n: f for n, f in functions.items() if f.export and f.path.startswith(EXPORTS)}
+    exports = {n: f for n, f in functions.items() if f.export and f.file.startswith(EXPORTS)}
     tied = {n: path for path, source in tree.items() if path.endswith(".antt") for n in ties_of(source)}
     missing = [f"{LIST}:{line}: there is no `pub fn` {name}" for name, line in calls.items() if name not in there]
     if not calls:
         missing = [f"{LIST}:1: there is no table of calls in a section '{SECTION}'"]
-    asking = [f"{f.at('requires')}: {n} has a `requires`" for n, f in there.items() if "requires" in f.clauses]
-    silent = [f"{f.at()}: {n} has no `ensures`" for n, f in there.items() if "ensures" not in f.clauses]
-    loose = [f"{f.at()}: {n} is not in the Contract.antt of its crate" for n, f in there.items() if n not in tied]
-    unlisted = [f"{f.at()}: {n} is not in {LIST}" for n, f in exports.items() if n not in calls]
+    asking = [f"{at(f, 'requires')}: {n} has a `requires`" for n, f in there.items() if "requires" in f.clauses]
+    silent = [f"{at(f)}: {n} has no `ensures`" for n, f in there.items() if "ensures" not in f.clauses]
+    loose = [f"{at(f)}: {n} is not in the Contract.antt of its crate" for n, f in there.items() if n not in tied]
+    unlisted = [f"{at(f)}: {n} is not in {LIST}" for n, f in exports.items() if n not in calls]
     unlisted += [f"{path}:1: {n} is not in {LIST}" for n, path in tied.items() if n not in calls and n not in exports]
-    unread = [fault for path, source in tree.items() if path.endswith(".rt") for fault in unreadable(path, source)]
     return [
         (PUBLIC, len(calls), missing),
         (ASKS, len(there), asking),
@@ -172,6 +124,8 @@ def contract(clauses):
     return small(GOOD.replace(ENSURES, clauses))
 
 
+# Where a file is not read, its functions are missing.
+UNREAD = [(PUBLIC, f"{LIST}:7:")]
 TRIALS = [
     ("nothing is wrong", contract(ENSURES), []),
     ("a `requires`", contract(REQUIRES + ENSURES), [(ASKS, f"{SOURCE}:3:")]),
@@ -182,8 +136,8 @@ TRIALS = [
     ("no `ensures`", contract(""), [(SAYS, f"{SOURCE}:2:")]),
     ("a private function", small(GOOD.replace('#[no_mangle]\npub extern "C" ', "")), [(PUBLIC, f"{LIST}:7:")]),
     ("an export that is not listed", small(GOOD + GOOD.replace("_a", "_b")), [(LISTED, f"{SOURCE}:8:")]),
-    ("an export in another form", small(GOOD + GOOD.replace("pub ", "pub unsafe ")), [(READ, f"{SOURCE}:1:")]),
-    ("two functions of a name", small(GOOD + GOOD), [(READ, f"{SOURCE}:1:")]),
+    ("an export in another form", small(GOOD + GOOD.replace("pub ", "pub unsafe ")), UNREAD + [(READ, f"{SOURCE}:7:")]),
+    ("two functions of a name", small(GOOD + GOOD), UNREAD + [(READ, f"{SOURCE}:8:")]),
     ("a call that is not tied", small(ties=""), [(TIED, f"{SOURCE}:2:")]),
     ("a tied call that is not listed", small(ties=TIES + TIES.replace("_a", "_b")), [(LISTED, f"{CONTRACT}:1:")]),
     ("no list", small(rows="# A\n"), [(PUBLIC, f"{LIST}:1:"), (LISTED, f"{SOURCE}:2:")]),
