@@ -90,14 +90,16 @@ made-anew ws out xs a z b y e h =
         ∙ ap (λ (l : List ℕ). l ++ drop (length ws) out) e
         ∙ ap (λ (l : List ℕ). a ∷ l) (append-assoc xs (z ∷ []) (drop (length ws) out))
 
-pub put-forward : (ws out : List ℕ) → ws ≡ frameWords (frameOf ws) → 1 ≤ frameOf ws .hops → length ws ≤ length out
-    → set (set (sets out 0 (part ws 0 (length ws))) 0 (getD ws 0 0 - 4096)) (length ws - 1) (4026531840 + (getD ws (length ws - 1) 0 - 4096) % 268435456)
-    ≡ laid (frameWords (onward (frameOf ws))) out
-put-forward ws out e h l = go (frameOf ws) e h
+-- what `put_onward` leaves: the row, then its head and its check less one office
+abbrev sent : List ℕ → List ℕ → List ℕ
+sent ws out =
+    set (set (sets out 0 (part ws 0 (length ws))) 0 (getD ws 0 0 - 4096)) (length ws - 1) (4026531840 + (getD ws (length ws - 1) 0 - 4096) % 268435456)
+
+pub onward-laid : (ws out : List ℕ) → ws ≡ frameWords (frameOf ws) → 1 ≤ frameOf ws .hops → length ws ≤ length out
+    → sent ws out ≡ laid (frameWords (onward (frameOf ws))) out
+onward-laid ws out e h l = go (frameOf ws) e h
   where
-    go : (f : Frame) → ws ≡ frameWords f → 1 ≤ f .hops
-        → set (set (sets out 0 (part ws 0 (length ws))) 0 (getD ws 0 0 - 4096)) (length ws - 1) (4026531840 + (getD ws (length ws - 1) 0 - 4096) % 268435456)
-        ≡ laid (frameWords (onward f)) out
+    go : (f : Frame) → ws ≡ frameWords f → 1 ≤ f .hops → sent ws out ≡ laid (frameWords (onward f)) out
     go f q p =
         let a : getD ws 0 0 - 4096 ≡ head (onward f) = ap (λ (l : List ℕ). getD l 0 0 - 4096) q ∙ ap (λ (w : ℕ). w - 4096) (first f) ∙ head-down f p in
         let z : 4026531840 + (getD ws (length ws - 1) 0 - 4096) % 268435456 ≡ check (onward f) =

@@ -1,4 +1,4 @@
-// The call of one office that hears a frame, and what it would say.
+// The call of one office that hears a frame, how the frame goes on, and what the call would say.
 pub mod forecast;
-pub mod forward;
+mod forward;
 pub mod receive;

@@ -80,7 +80,7 @@ fn taken(store: &mut [u32], frame: &[u32], f: Frame, out: &mut [u32]) -> Written
     Written::Words(frame.len())
 }
 
-// 01: hear a frame.
+// 01: hear a frame. A sound store has settings in range, so they are not asked again; words that are no frame are read as one of no offices.
 pub fn receive(store: &mut [u32], frame: &[u32], out: &mut [u32]) -> Written
     ensures { λ r. ⌜ ReceivePromise (now (store .entry)) (now (frame .entry)) (now (out .entry)) (replyOf r) (now (store .exit)) (now (out .exit)) ⌝ }
 {

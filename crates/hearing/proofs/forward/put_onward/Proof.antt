@@ -3,7 +3,7 @@ use Prim.Native.Nat.{ℕ, _+_, _-_, _%_, _<_, _≤_}
 use mathlib.Core.Path.{ap, _∙_}
 use mathlib.Core.List.{List}
 use lib.ListN.{length, getD, set, length-set}
-use Rattle.hearing.proofs.Forwards.{long, head-large, check-large, put-forward}
+use Rattle.hearing.proofs.Forwards.{long, head-large, check-large, onward-laid}
 use borrow.Author.Needs.{needs}
 use Rattle.hearing.proofs.forward.put_onward.Statement.{statement}
 use Rattle.hearing.proofs.forward.put_onward.Tie as tie
@@ -65,7 +65,7 @@ returns c = let s = c .before .before .before .before .before .before .before .b
     let fr = s .args .frame .now in
     let out = s .args .out .now in
     ap (λ (l : List ℕ). set (set l 0 (getD fr 0 0 - 4096)) (length fr - 1) (4026531840 + (getD fr (length fr - 1) 0 - 4096) % 268435456)) (c .before .before .before .before .copy-words .ensures)
-    ∙ put-forward fr out (s .pre .0) (s .pre .1) (s .pre .2)
+    ∙ onward-laid fr out (s .pre .0) (s .pre .1) (s .pre .2)
 
 pub put-onward-spec : {M : Type 1} → statement M
 put-onward-spec =
