@@ -14,18 +14,18 @@ STRAIGHT = "a frame's words go to no row but theirs"
 RULES = {
     FOLLOWED: "nothing is called in a form that is not read, and nothing calls itself",
     SMALL: "no array has more words than a clock or a set, no value more than a frame's fields, and all values of a function together "
-    "fewer than the largest frame",
+    "no more than twelve clocks and sets: a frame has up to 267",
     LENT: "each row is one that the walk's first call was lent, or a part of it, and is named only to be lent on, indexed or measured",
     STRAIGHT: "a function with a frame's words and another row to write to neither reads the words nor is told them",
 }
 PLACES = 8  # a clock or a set
 FIELDS = 24  # a frame that was read has 22 words, and comes with what is said of it
-LARGEST = 267  # 8 offices, 255 dependencies
+TOGETHER = 96  # all parameters and locals of a function
 
 # What a walk begins with; the rows that it is lent; those of them that have a frame's words; where such words may be put; the types
 # by which a function may be told of them that has other rows to write to; calls where it ends, since they have a walk of their own,
-# make the words or get none; functions that read the length in front of a frame; and whether arrays are looked at. Where they are
-# not, only calls that are lent a row are followed.
+# make the words or get none; functions that read the length in front of a frame, with the index where it stands; and whether arrays
+# are looked at. Where they are not, only calls that are lent a row are followed.
 Walk = collections.namedtuple("Walk", "name first rows words into told ends lengths arrays")
 
 
@@ -120,7 +120,7 @@ class Follower:
         self.look_at_arrays(function, values)
         given = [self.crates.words(f.type, file) or 0 for f in function.fields]
         total = sum(given) + sum(FIELDS if n is None else n for n in values.locals)
-        if total >= LARGEST:
+        if total > TOGETHER:
             self.fault(SMALL, function.file, function.line, f"the values of {function.path[-1]} have {total} words together")
 
     def look_at_names(self, function, file):
@@ -197,9 +197,9 @@ class Follower:
 
     def look_at_words(self, function, rows, others):
         """A function with a frame's words and another row to write to does not read them."""
-        for name, line in rows.single:
+        for name, line, index in rows.single:
             row = rows.of[name]
-            if row in self.walk.words and others and function.path[-1] not in self.walk.lengths:
+            if row in self.walk.words and others and ("::".join(function.path), index) not in self.walk.lengths:
                 what = f"{function.path[-1]} has words of `{row}` at hand, and {quoted(others)} to put them into"
                 self.fault(STRAIGHT, function.file, line, what)
 
@@ -214,12 +214,21 @@ class Follower:
         if callee is None or len(callee.fields) != len(call.arguments):
             self.not_found(call, path, function)
             return None
-        told = None if callee.result is None else rattle.shown(callee.result).split("::")[-1]
-        if others and lent & self.walk.words and told is not None and told not in self.walk.told:
-            what = f"{function.path[-1]} is told {told} of a frame's words by {callee.path[-1]}, and has {quoted(others)} to put them into"
-            self.fault(STRAIGHT, function.file, call.line, what)
+        if others and lent & self.walk.words:
+            for told in self.told(callee):
+                what = f"{function.path[-1]} is told {told} by {callee.path[-1]}, which has a frame's words, and has {quoted(others)} to put it into"
+                self.fault(STRAIGHT, function.file, call.line, what)
         inner = self.lent_on(call, callee, function, rows)
         return None if "::".join(callee.path) in self.walk.ends else (callee, inner)
+
+    def told(self, callee):
+        """The types by which a function tells its caller something, but for those by which it may tell of a frame's words."""
+        home = self.crates.files[callee.file]
+        kinds = [f.type.to for f in callee.fields if isinstance(f.type, Ref) and f.type.mutable and not is_row(f.type)]
+        for kind in kinds if callee.result is None else [callee.result, *kinds]:
+            declared = self.crates.type_of(kind.path, home) if isinstance(kind, Named) else None
+            if declared is None or "::".join(declared.path) not in self.walk.told:
+                yield rattle.shown(kind)
 
     def is_numeric(self, path):
         """A call into the language's own library, which takes and gives single numbers."""

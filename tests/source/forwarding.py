@@ -19,6 +19,12 @@ from forwarding_trials import MADE, TRIALS
 
 HEARING = "hearing::receive::receive"
 
+# What a line of a script, and what a chunk of it, tells of frames: of how many wait, of the entry that was written, never of their words.
+PLAYED = {"frame::refusal::Written", "player::ahead::Ahead", "player::board::Board"}
+FED = {"player::board::BoardTurn", "player::board::WriteTurn", "writing::write::Made"}
+FED |= {"ring_program::Outcome", "ring_program::ending::Closed", "ring_program::feed::Reached", "ring_program::feed::Stage"}
+LENGTHS = {("player::play::receive_at", "lines [ slot ]")}
+
 WALKS = [
     Walk(
         "a hearing",
@@ -26,7 +32,7 @@ WALKS = [
         rows={"store", "frame", "out"},
         words={"frame", "out"},
         into={"out"},
-        told={"Frame", "Written"},
+        told={"frame::entry::Frame", "frame::refusal::Written"},
         ends=set(),
         lengths=set(),
         arrays=True,
@@ -37,9 +43,9 @@ WALKS = [
         rows={"stores", "lines", "out"},
         words={"lines", "out"},
         into={"lines"},
-        told={"Ahead", "Board", "Written"},
+        told=PLAYED,
         ends={HEARING},
-        lengths={"receive_at"},
+        lengths=LENGTHS,
         arrays=True,
     ),
     Walk(
@@ -48,9 +54,9 @@ WALKS = [
         rows={"stores", "lines", "out"},
         words={"lines", "out"},
         into={"lines"},
-        told={"Ahead", "Board", "BoardTurn", "Closed", "Made", "Outcome", "Reached", "Stage", "WriteTurn", "Written"},
+        told=PLAYED | FED,
         ends={HEARING, "reading::read::see_plot", "writing::write::make"},
-        lengths={"receive_at"},
+        lengths=LENGTHS,
         arrays=False,
     ),
 ]

@@ -137,6 +137,19 @@ STORE = [
     Trial("the store lent to copy to", STRAIGHT, [taken(copied("frame", "&mut *store"))], (ROW, "to[b + j]")),
     hidden("eight words at a time", STRAIGHT, taken("    let part = store::layout::set_at(frame, 0);\n")),
     hidden("a word at a time", STRAIGHT, taken("    let word = causal::row::word_at(frame, 0);\n"), before(ROW, ROW_FIRST, WORD_AT)),
+    hidden(
+        "a word at a time, by a reference",
+        STRAIGHT,
+        taken("    first_of(frame, &mut word);\n"),
+        before(RECEIVE, "// Reveals an id that is held.\n", "fn first_of(frame: &[u32], word: &mut u32) {\n    *word = frame[0];\n}\n\n"),
+    ),
+    hidden(
+        "words in a struct of a told name",
+        STRAIGHT,
+        taken("    let some = first_of(frame);\n"),
+        before(RECEIVE, "// Reveals an id that is held.\n", "struct Written {\n    a: u32,\n}\n\nfn first_of(frame: &[u32]) -> Written {}\n\n"),
+        (RECEIVE, "use frame::refusal::Written;\n", ""),
+    ),
     hidden("another name for the row", LENT, taken("    let words = frame;\n" + TO_STORE)),
     Trial("another name with a type", STRAIGHT, [taken("    let words: &[u32] = &frame[..];\n" + TO_STORE)], (RECEIVE, "words[j]")),
     hidden("another name by a match", LENT, taken("    let words = match code { 0 => frame, _ => frame };\n" + TO_STORE)),
@@ -245,6 +258,7 @@ BEHIND = [
         [before(PLAY, HEARS, copied("lines", "&mut *stores"))],
         (ROW, "to[b + j]"),
     ),
+    hidden("the player reads the frame that it hears", STRAIGHT, before(PLAY, HEARS, "    stores[0] = lines[from];\n")),
     Trial(
         "the player hears into a row of its own",
         LENT,

@@ -55,7 +55,7 @@ class Rows:
             start -= 1
         plain = start == at and ahead == "[" and rattle.behind(body, end).text not in ("[", ".", "(")
         if plain and not has_range(body[at + 2 : end - 1]):
-            self.single.append((name, body[at].line))
+            self.single.append((name, body[at].line, rattle.written(body[at:end])))
             return
         back, behind = rattle.before(body, start).text, rattle.behind(body, end).text
         opening = rattle.opening_of(body, start)
