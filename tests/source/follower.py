@@ -216,8 +216,8 @@ class Follower:
             return None
         if others and lent & self.walk.words:
             for told in self.told(callee):
-                what = f"{function.path[-1]} is told {told} by {callee.path[-1]}, which has a frame's words, and has {quoted(others)} to put it into"
-                self.fault(STRAIGHT, function.file, call.line, what)
+                what = f"is told {told} by {callee.path[-1]}, which has a frame's words, and has {quoted(others)} to put it into"
+                self.fault(STRAIGHT, function.file, call.line, f"{function.path[-1]} {what}")
         inner = self.lent_on(call, callee, function, rows)
         return None if "::".join(callee.path) in self.walk.ends else (callee, inner)
 

@@ -21,6 +21,7 @@ MAIN = "crates/ring_program/src/main.rt"
 
 # Lines of the source, in front of which or in place of which something is put.
 TAKEN = "    taken(store, frame, f, out)\n"
+REVEALS = "// Reveals an id that is held.\n"
 SENT_ON = "    crate::forward::put_onward(frame, out);\n"
 WRITER = "pub fn put_onward(frame: &[u32], out: &mut [u32])\n"
 COPY = "    causal::row::copy_words(frame, 0, &mut *out, 0, frame.len());\n"
@@ -141,13 +142,13 @@ STORE = [
         "a word at a time, by a reference",
         STRAIGHT,
         taken("    first_of(frame, &mut word);\n"),
-        before(RECEIVE, "// Reveals an id that is held.\n", "fn first_of(frame: &[u32], word: &mut u32) {\n    *word = frame[0];\n}\n\n"),
+        before(RECEIVE, REVEALS, "fn first_of(frame: &[u32], word: &mut u32) {\n    *word = frame[0];\n}\n\n"),
     ),
     hidden(
         "words in a struct of a told name",
         STRAIGHT,
         taken("    let some = first_of(frame);\n"),
-        before(RECEIVE, "// Reveals an id that is held.\n", "struct Written {\n    a: u32,\n}\n\nfn first_of(frame: &[u32]) -> Written {}\n\n"),
+        before(RECEIVE, REVEALS, "struct Written {\n    a: u32,\n}\n\nfn first_of(frame: &[u32]) -> Written {}\n\n"),
         (RECEIVE, "use frame::refusal::Written;\n", ""),
     ),
     hidden("another name for the row", LENT, taken("    let words = frame;\n" + TO_STORE)),
