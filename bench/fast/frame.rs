@@ -12,8 +12,8 @@ const VALUE: u32 = 4 << 28;
 const CLOCK: u32 = 5 << 28;
 const ID: u32 = 6 << 28;
 const CHECK: u32 = 15 << 28;
-/// One office in bits 15 to 12 of a head, which count those still to hear.
-const ONE_OFFICE: u32 = 1 << 12;
+/// One hop, in bits 15 to 12 of a head.
+const ONE_HOP: u32 = 1 << 12;
 
 /// The check word over some words. Kinds are multiples of 2^28, which the remainder drops.
 pub fn check_of(words: &[u32]) -> u32 {
@@ -116,14 +116,14 @@ pub fn put_frame(out: &mut [u32], entry: &Entry, offices: u32, hops: u32) -> usi
 }
 
 /// Puts a frame that was read at the front of a row that is long enough, with one fewer still to hear: of its
-/// words only head and check change, both by the same.
+/// words only head and check change, each less one hop, the check modulo 2^28.
 #[inline]
 pub fn put_onward(out: &mut [u32], words: &[u32]) -> usize {
     let out = &mut out[..words.len()];
     out.copy_from_slice(words);
     if let [head, .., check] = out {
-        *head -= ONE_OFFICE;
-        *check = CHECK | (*check - ONE_OFFICE) % (1 << 28);
+        *head -= ONE_HOP;
+        *check = CHECK | (*check - ONE_HOP) % (1 << 28);
     }
     words.len()
 }

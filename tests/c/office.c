@@ -268,11 +268,11 @@ static struct burial_frame with_check(uint32_t offices, uint32_t hops, uint32_t 
     return frame;
 }
 
-/* The head loses an office, 4,096 of its payload: a check below that goes round. */
+/* The head loses a hop, 4,096 of its payload: a check below that goes round. */
 static void test_goes_on(void)
 {
     static const uint32_t checks[] = { 0, 1, 4095, 4096, 4097, BURIAL_MAX_VALUE };
-    uint32_t row[ROW], expected[ROW];
+    uint32_t row[ROW], expected[ROW], longer[ROW];
     for (uint32_t offices = 3; offices <= 8; offices++)
         for (uint32_t hops = 1; hops <= offices - 2; hops++)
             for (size_t i = 0; i < sizeof checks / 4; i++) {
@@ -283,6 +283,9 @@ static void test_goes_on(void)
                 frame.hops--;
                 expect(burial_write_frame(frame, expected, ROW).words == len);
                 hears(&office, row, len, expected, len);
+                /* It is held now, and goes on all the same; a longer row keeps its words. */
+                struct burial_written again = hear_in(&office, row, len, len + 5, longer);
+                expect(again.words == len && memcmp(longer, expected, 4 * len) == 0);
                 closed(office);
             }
     end("a frame goes on with one fewer still to hear, also where its check goes round");

@@ -75,19 +75,19 @@ pub fn mend_check(words: &mut [u32]) {
     words[last] = CHECK << 28 | (sum % (1 << 28)) as u32;
 }
 
-/// What the head of a frame loses when the frame goes on: one office still to hear.
-pub const ONE_OFFICE: u32 = 1 << 12;
+/// What the head of a frame loses when the frame goes on.
+pub const ONE_HOP: u32 = 1 << 12;
 
-/// Has the check a payload that goes round when the head loses an office?
+/// Has the check a payload that goes round when the head loses a hop?
 pub fn check_goes_round(words: &[u32]) -> bool {
-    words.last().is_some_and(|check| check & PAYLOAD < ONE_OFFICE)
+    words.last().is_some_and(|check| check & PAYLOAD < ONE_HOP)
 }
 
 /// Gives the entry a value by which the check of its frame goes round when the frame goes on.
 pub fn low_check(random: &mut Random, frame: &mut Frame) {
     frame.entry.value = 0;
     let others = words_of(frame).last().map_or(0, |check| check & PAYLOAD);
-    frame.entry.value = random.below(ONE_OFFICE).wrapping_sub(others) & PAYLOAD;
+    frame.entry.value = random.below(ONE_HOP).wrapping_sub(others) & PAYLOAD;
 }
 
 pub fn change_one_word(random: &mut Random, words: &mut [u32]) {

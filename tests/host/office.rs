@@ -41,7 +41,8 @@ const WRITE: &[&str] = &[
 const RECEIVE: &[&str] = &[
     "brought out",
     "went on",
-    "went on, the check round",
+    "went on, check gone round",
+    "went on, 200 words or more",
     "refused 2",
     "refused 8",
     "refused 9",

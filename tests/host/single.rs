@@ -58,7 +58,7 @@ pub fn some_plots(random: &mut Random, plots: u32, session: &Session) -> Vec<u32
 }
 
 fn some_entry(random: &mut Random, content: &Content) -> Option<Entry> {
-    let chance = random.pick(&[0, 0, 1, 4]);
+    let chance = random.pick(&[0, 0, 1, 4, 16]);
     let mut deps = some_of(random, &content.held, chance);
     if random.one_in(8) {
         // Perhaps not held.

@@ -223,7 +223,8 @@ impl Twin {
         let result = model::receive(store, frame, &mut row);
         let outcome = outcome(&result, |&words| match words {
             0 => "brought out",
-            _ if check_goes_round(frame) => "went on, the check round",
+            _ if check_goes_round(frame) => "went on, check gone round",
+            200.. => "went on, 200 words or more",
             _ => "went on",
         });
         let reply = reply(&result, |&words| words);

@@ -22,6 +22,8 @@ class Crates:
         self.files, self.unread, self.twice = {}, {}, []
         self.functions, self.declared, self.constants = {}, {}, {}
         for path, text in tree.items():
+            if not path.endswith(".rt"):
+                continue
             try:
                 file = file_of(path, text)
             except rattle.Unread as fault:
@@ -38,6 +40,8 @@ class Crates:
         crate = file.module[0]
         if path[0] == "crate":
             return (crate, *path[1:])
+        if path[0] == "self":
+            return (*file.module, *path[1:])
         if path[0] == "super":
             return (*file.module[:-1], *path[1:])
         if path[0] in file.imports and file.imports[path[0]] != path[:1]:
@@ -57,8 +61,9 @@ class Crates:
     def length(self, tokens, file):
         """The places of an array, by a numeral or a constant, None for any other length."""
         number = rattle.numeral(tokens)
-        if number is None and len(tokens) % 2 and all(t.kind == "name" for t in tokens[::2]):
-            constant = self.constants.get(self.resolved(tuple(t.text for t in tokens[::2]), file))
+        if number is None and tokens and rattle.is_name(tokens[0]):
+            path, end = rattle.path_at(tokens, 0)
+            constant = self.constants.get(self.resolved(path, file)) if end == len(tokens) else None
             number = rattle.numeral(constant.value) if constant else None
         return number
 
@@ -91,7 +96,7 @@ class Crates:
             for field in group
             if field.name == name
         ]
-        return max((n or 0 for n in found), default=None)
+        return None if None in found else max(found, default=None)
 
 
 class Values:
@@ -100,26 +105,34 @@ class Values:
     def __init__(self, crates, function):
         self.crates, self.function, self.file = crates, function, crates.files[function.file]
         self.names = {f.name: crates.words(f.type, self.file) for f in function.fields}
+        body = function.body
+        self.counters = {body[at + 1].text for at, token in enumerate(body) if token.text == "for"}
         self.locals = [self.let(at) for at, token in enumerate(function.body) if token.text == "let"]
 
     def let(self, at):
-        """Takes in a local, and gives its words. What a pattern binds is taken for numbers."""
-        name, _, kind, value = rattle.let_at(self.function.body, at)
-        if not value:
-            return 1
-        words = self.crates.words(rattle.type_of(kind), self.file) if kind else self.of(value)
-        self.names[name.text] = words if name.text not in self.names else max(words or 0, self.names[name.text] or 0)
+        """Takes in a local, and gives its words; of a pattern those of its value."""
+        let = rattle.let_at(self.function.body, at)
+        words = self.crates.words(rattle.type_of(let.kind), self.file) if let.kind else self.of(let.value) if let.value else None
+        if let.name:
+            known = self.names.get(let.name, 0)
+            self.names[let.name] = None if None in (words, known) else max(words, known)
         return words
 
     def of(self, tokens):
         """The words of an expression, None where that cannot be told."""
+        if not tokens:
+            return 0
         first = tokens[0]
+        if first.text in ("if", "match", "{"):
+            return self.of_branches(tokens)
+        if first.text in ("loop", "while", "for", "return", "break"):
+            return None
         if any(tokens[at].text in OPERATORS for at in rattle.top(tokens) if at):
             return 1
         if first.text in ("!", "-", "*"):
             return self.of(tokens[1:])
         if first.text == "&":
-            return 0
+            return self.of(tokens[2:] if rattle.behind(tokens, 1).text == "mut" else tokens[1:])
         if first.kind == "number":
             return 2 if first.text.endswith(("64", "size")) else 1
         if first.kind == "text":
@@ -130,10 +143,25 @@ class Values:
             return self.of_array(tokens)
         return self.of_name(tokens) if rattle.is_name(first) or first.text in ("crate", "super") else None
 
+    def of_branches(self, tokens):
+        """The most that a branch of an `if`, an arm of a `match`, or a block ends with."""
+        found = []
+        for at in rattle.top(tokens):
+            if tokens[at].text == "{":
+                inner = tokens[at + 1 : rattle.end_of(tokens, at) - 1]
+                arms = [at for at in rattle.top(inner) if inner[at].text == "=>"]
+                if tokens[0].text == "match":
+                    found += [self.of(rattle.split(inner[at + 1 :])[0]) for at in arms]
+                else:
+                    found.append(self.of(rattle.split(inner, ";")[-1] if inner and inner[-1].text != ";" else []))
+        return None if None in found else max(found, default=None)
+
     def of_array(self, tokens):
         repeated = rattle.split(tokens[1:-1], ";")
         if len(repeated) == 2:
             of, places = self.of(repeated[0]), self.crates.length(repeated[1], self.file)
+            if rattle.numeral(repeated[0]) is not None and repeated[0][0].text.isdigit():
+                of = 2  # a number of any width
             return None if of is None or places is None else of * places
         elements = [self.of(element) for element in rattle.split(tokens[1:-1])]
         return None if None in elements else sum(elements)
@@ -161,7 +189,7 @@ class Values:
             return self.crates.words(constant.type, self.file)
         if self.crates.type_of(path, self.file):
             return self.crates.words(Named(path), self.file)
-        return 1 if path[0] in TRUTHS else self.names.get(path[0])
+        return 1 if path[0] in TRUTHS else self.names.get(path[0], 2 if path[0] in self.counters else None)
 
     def of_group(self, path, follows):
         """What is called, made, or taken out of an array of numbers."""

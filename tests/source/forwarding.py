@@ -2,9 +2,10 @@
 """Holds a hearing to paper 02, (ii): a frame that goes on has its words written straight to the out row, and no other array or row
 puts them together.
 
-A walk begins with a call and follows, by name through the crates, every function that it can reach. What is asked of each is in
-RULES. The arrays that are there are printed. The test tries itself on edited copies of the source in which a row is hidden
-(forwarding_trials.py): one that it does not find, with its file and line, is a failure.
+A walk begins with a call and follows by name, through the crates, the functions that it can reach: all of them, or, of the program,
+those that are lent its rows. What is asked of each is in follower.py, RULES. The arrays that are there are printed. The test tries
+itself on edited copies of the source in which a row is hidden (forwarding_trials.py): one that it does not find, with its file and
+line, is a failure.
 """
 
 import pathlib
@@ -16,14 +17,18 @@ import rattle
 from crates import Crates
 from follower import RULES, Follower, Walk
 from forwarding_trials import MADE, TRIALS
+from rows import is_row
 
 HEARING = "hearing::receive::receive"
 
-# What a line of a script, and what a chunk of it, tells of frames: of how many wait, of the entry that was written, never of their words.
-PLAYED = {"frame::refusal::Written", "player::ahead::Ahead", "player::board::Board"}
-FED = {"player::board::BoardTurn", "player::board::WriteTurn", "writing::write::Made"}
-FED |= {"ring_program::Outcome", "ring_program::ending::Closed", "ring_program::feed::Reached", "ring_program::feed::Stage"}
-LENGTHS = {("player::play::receive_at", "lines [ slot ]")}
+TAKEN = {"frame::reader::frame_from", "hearing::receive::taken", HEARING}
+PLAYED = {HEARING, "player::ahead::receive_ahead", "player::play::deliver", "player::play::receive_at"}
+PLAYED |= {"player::play::play_other", "player::play::receive_line", "player::play::write_at", "player::play::write_line"}
+FED = {"ring_program::run", "ring_program::ending::close", "ring_program::feed::feed_all", "ring_program::feed::feed_some"}
+FED |= {"ring_program::feed::finish", "writing::write::make"}
+# The length of a waiting frame stands in front of it.
+LENGTHS = {"player::play::receive_at": "lines [ slot ] as usize"}
+HEARD = {"store": "stores", "frame": "lines", "out": "out"}
 
 WALKS = [
     Walk(
@@ -32,10 +37,10 @@ WALKS = [
         rows={"store", "frame", "out"},
         words={"frame", "out"},
         into={"out"},
-        told={"frame::entry::Frame", "frame::refusal::Written"},
-        ends=set(),
-        lengths=set(),
-        arrays=True,
+        tellers=TAKEN,
+        ends={},
+        lengths={},
+        narrow=False,
     ),
     Walk(
         "the player's hearing",
@@ -43,10 +48,10 @@ WALKS = [
         rows={"stores", "lines", "out"},
         words={"lines", "out"},
         into={"lines"},
-        told=PLAYED,
-        ends={HEARING},
+        tellers=PLAYED,
+        ends={HEARING: HEARD},
         lengths=LENGTHS,
-        arrays=True,
+        narrow=False,
     ),
     Walk(
         "the program",
@@ -54,42 +59,55 @@ WALKS = [
         rows={"stores", "lines", "out"},
         words={"lines", "out"},
         into={"lines"},
-        told=PLAYED | FED,
-        ends={HEARING, "reading::read::see_plot", "writing::write::make"},
+        tellers=PLAYED | FED,
+        ends={HEARING: HEARD, "reading::read::see_plot": {"store": "stores"}, "writing::write::make": {"store": "stores", "out": "out"}},
         lengths=LENGTHS,
-        arrays=False,
+        narrow=True,
     ),
 ]
 
 
-def makers(crates, reached):
-    """Those that make a hearing and are in no walk."""
-    for function in crates.functions.values():
-        file = crates.files[function.file]
-        for call in rattle.calls_of(function.body):
-            made = "::".join(crates.resolved(call.path, file)) == HEARING
-            if made and "::".join(function.path) not in reached:
-                yield f"{function.file}:{call.line}: {'::'.join(function.path)} makes a hearing that is not followed"
+def dependents(tree):
+    """The crates that stand on hearing, and itself, by crates.txt."""
+    lines = [line.split(":") for line in tree.get("crates.txt", "").split("\n") if ":" in line and not line.startswith("#")]
+    return {"hearing"} | {name.strip() for name, needs in lines if "hearing" in needs.split()}
 
 
 class Findings:
-    """The walks over a tree, and what is wrong by rule."""
+    """The walks over a tree, who else makes a hearing, and what is wrong by rule."""
 
     def __init__(self, tree):
-        crates = Crates(tree)
-        self.walks = [Follower(crates, walk) for walk in WALKS]
-        reached = set().union(*(walk.reached for walk in self.walks))
-        self.made = list(makers(crates, reached))
+        self.crates = Crates(tree)
+        self.walks = [Follower(self.crates, walk) for walk in WALKS]
+        self.reached = set().union(*(walk.reached for walk in self.walks))
+        self.hearings, self.makers = 0, []
+        above = dependents(tree)
+        for path, line, what in (unread for module, unread in self.crates.unread.items() if module[0] in above):
+            self.makers.append(f"{path}:{line}: {what}, so that it could make a hearing")
+        for function in self.crates.functions.values():
+            self.look_for_hearings(function, above)
 
-    def told(self, rule):
-        return self.made if rule == MADE else [fault for walk in self.walks for fault in walk.faults.get(rule, [])]
+    def look_for_hearings(self, function, above):
+        """A function that no walk reaches does not call one that has a frame's words and a row to write to."""
+        file = self.crates.files[function.file]
+        for call in rattle.calls_of(function.body):
+            callee = self.crates.functions.get(self.crates.resolved(call.path, file))
+            if callee is None or callee.path[0] not in above or "::".join(callee.path) not in self.reached:
+                continue
+            self.hearings += "::".join(callee.path) == HEARING
+            if "::".join(function.path) not in self.reached and any(is_row(f.type) and f.type.mutable for f in callee.fields):
+                what = f"{'::'.join(function.path)} is in no walk and calls {'::'.join(callee.path)}"
+                self.makers.append(f"{function.file}:{call.line}: {what}")
+
+    def faults_of(self, rule):
+        return self.makers if rule == MADE else [fault for walk in self.walks for fault in walk.faults[rule]]
 
     def all(self):
-        return [fault for rule in (*RULES, MADE) for fault in self.told(rule)]
+        return [fault for rule in (*RULES, MADE) for fault in self.faults_of(rule)]
 
 
 def read_tree(root):
-    paths = sorted(root.glob("crates/*/src/**/*.rt"))
+    paths = [root / "crates.txt", *sorted(root.glob("crates/*/src/**/*.rt"))]
     return {p.relative_to(root).as_posix(): p.read_text(encoding="utf8") for p in paths}
 
 
@@ -121,7 +139,7 @@ def failed_trials(tree):
         findings = Findings(copy)
         if trial.rule is None:
             yield from (f"{trial.name}: {fault}" for fault in findings.all())
-        elif not any(fault.startswith(place_of(copy, *trial.at)) for fault in findings.told(trial.rule)):
+        elif not any(fault.startswith(place_of(copy, *trial.at)) for fault in findings.faults_of(trial.rule)):
             yield f"{trial.name}: not found; told was {findings.all()}"
 
 
@@ -143,11 +161,11 @@ def main():
             failed += say(f"{walk.walk.name}: {rule}", len(walk.reached), faults)
         new = sorted(item for item in walk.arrays.items() if item not in printed)
         printed.update(new)
-        if walk.walk.arrays:
+        if new:
             print(f"  {walk.walk.name} reaches {len(walk.reached)} functions from {walk.walk.first}; arrays not printed yet: {len(new)}")
         for (path, line, where, name), size in new:
             print(f"    {path}:{line}: {where}: {name}, {size}")
-    failed += say(MADE, len(WALKS), findings.made)
+    failed += say(MADE, findings.hearings, findings.makers)
     failed += say("a row that is hidden in an edited copy is found", len(TRIALS), list(failed_trials(tree)))
     return 1 if failed else 0
 

@@ -17,6 +17,7 @@ HEARING = "crates/hearing/src/lib.rt"
 ROW = "crates/causal/src/row.rt"
 PLAY = "crates/player/src/play.rt"
 FEED = "crates/ring_program/src/feed.rt"
+UNREAD = "crates/host/src/hear.rt"
 MAIN = "crates/ring_program/src/main.rt"
 
 # Lines of the source, in front of which or in place of which something is put.
@@ -25,7 +26,7 @@ REVEALS = "// Reveals an id that is held.\n"
 SENT_ON = "    crate::forward::put_onward(frame, out);\n"
 WRITER = "pub fn put_onward(frame: &[u32], out: &mut [u32])\n"
 COPY = "    causal::row::copy_words(frame, 0, &mut *out, 0, frame.len());\n"
-OFFICE = "const ONE_OFFICE: u32 = 0x1000;\n"
+OFFICE = "const ONE_HOP: u32 = 0x1000;\n"
 MODULES = "pub mod receive;\n"
 EXPORT = "// 01: hear a frame.\n"
 ROW_FIRST = "// n words of a row"
@@ -45,6 +46,10 @@ KEEP = "fn keep(row: &mut [u32], out: &[u32]) {\n    row[0] = out[0];\n}\n\n"
 KEEP_BYTE = "fn keep(row: &mut [u8], out: &[u32]) {\n    row[0] = out[0] as u8;\n}\n\n"
 EXPORTED = "    hearing::receive::receive(store, frame, out);\n"
 WORD_AT = "pub fn word_at(row: &[u32], i: usize) -> u32 {\n    row[i]\n}\n\n"
+SAID = "fn said(frame: &[u32]) -> Written {\n    Written::Words(frame[0] as usize)\n}\n\n"
+EIGHT_OF = "    let a{} = store::layout::set_at(frame, 0);\n"
+OUT = "    let mut out = [0u32; 1751];\n"
+NONE = "fn none() -> u32 {}\n\n"
 TO_STORE = "    for j in 0..8 {\n        store[j] = words[j];\n    }\n"
 
 
@@ -154,6 +159,13 @@ STORE = [
     hidden("another name for the row", LENT, taken("    let words = frame;\n" + TO_STORE)),
     Trial("another name with a type", STRAIGHT, [taken("    let words: &[u32] = &frame[..];\n" + TO_STORE)], (RECEIVE, "words[j]")),
     hidden("another name by a match", LENT, taken("    let words = match code { 0 => frame, _ => frame };\n" + TO_STORE)),
+    Trial(
+        "another name set later",
+        LENT,
+        [taken("    let mut words = &store[..];\n    words = &frame[..];\n" + TO_STORE)],
+        (RECEIVE, "words = &frame"),
+    ),
+    hidden("a word in an answer", STRAIGHT, taken("    let some = said(frame);\n"), before(RECEIVE, REVEALS, SAID)),
     hidden("a row in parentheses", LENT, taken("    store[0] = (frame)[0];\n")),
     hidden("a part indexed", LENT, taken("    store[0] = frame[..][0];\n")),
     hidden("a part in an index", STRAIGHT, taken("    store[0] = frame[causal::row::same(&out[..])];\n")),
@@ -171,10 +183,12 @@ STORE = [
 FORMS = [
     hidden("nine places", SMALL, put("    let some = [0u32; 9];\n")),
     hidden("nine places, listed", SMALL, put("    let some = [0u32, 1, 2, 3, 4, 5, 6, 7, 8];\n")),
+    hidden("a reference to an array", SMALL, put("    let some = &mut [0u32; 9];\n")),
+    hidden("numbers of any width", SMALL, put("    let some = [0; 8];\n")),
     hidden("bytes", SMALL, put("    let some = [0u8; 1072];\n")),
     hidden("wider numbers", SMALL, put("    let some = [0u64; 8];\n")),
     hidden("a byte string", SMALL, put('    let some = b"0123456789";\n')),
-    hidden("a raw byte string", SMALL, put('    let some = *br"0123456789";\n')),
+    hidden("a raw byte string", FOLLOWED, put('    let some = *br"0123456789";\n')),
     hidden("a type of a local", SMALL, put("    let some: [u32; 267] = zeros();\n")),
     hidden("places by a name", SMALL, put("    let some = [0u32; MOST];\n")),
     hidden("places by a constant", SMALL, put("    let some = [0u32; MOST];\n"), declared("const MOST: usize = 9;\n")),
@@ -187,9 +201,26 @@ FORMS = [
     ),
     hidden("an array of arrays", SMALL, put("    let some = [[0u32; 8]; 8];\n")),
     Trial("an array of a local array", SMALL, [put("    let eight = [0u32; 8];\n    let some = [(eight); 8];\n")], (FORWARD, "let some")),
+    hidden("an array of branches", SMALL, put("    let some = [if true { eight } else { eight }; 8];\n")),
+    Trial(
+        "an array of what a branch gave",
+        SMALL,
+        [put("    let eight = if frame.len() == 0 { [0u32; 8] } else { [0u32; 8] };\n    let some = [eight; 8];\n")],
+        (FORWARD, "let some"),
+    ),
     hidden("an array of what a call gives", SMALL, put("    let some = [frame::entry::mosts(8); 8];\n")),
     hidden("an array of fields", SMALL, taken("    let some = [(e).clock; 8];\n")),
     Trial("many small arrays", SMALL, [put("    let some = [0u32; 8];\n" * 34)], (FORWARD, WRITER)),
+    Trial(
+        "small arrays along the calls",
+        SMALL,
+        [
+            declared("".join(f"fn pass{k}{TWO_ROWS} {{\n{EIGHT_OF * 11}    pass{k + 1}(frame, &mut *out);\n}}\n\n" for k in range(3))),
+            declared(f"fn pass3{TWO_ROWS} {{}}\n\n"),
+            put("    pass0(frame, &mut *out);\n"),
+        ],
+        (FORWARD, WRITER),
+    ),
     hidden("many small parameters", SMALL, declared(f"fn keep({many('a{}: [u32; 8]')}) {{}}\n\n"), put(f"    keep({many('z')});\n")),
     Trial(
         "an array in a struct",
@@ -221,7 +252,9 @@ CALLS = [
     hidden("a name brought in by a body", FOLLOWED, put("    use crate::receive::through;\n")),
     hidden("another name for a type", FOLLOWED, declared("type Row = [u32; 267];\n")),
     hidden("a struct that holds a row", FOLLOWED, declared("struct Held<'a> {\n    row: &'a [u32],\n}\n")),
-    hidden("a module in a file", FOLLOWED, put("    deep::through(frame, &mut *out);\n")),
+    hidden("a module in a file", FOLLOWED, declared("mod causal {\n    pub fn through() {}\n}\n\n")),
+    hidden("a module with a number's name", FOLLOWED, put("    crate::u32::through(frame, &mut *out);\n")),
+    hidden("a constant that is not found", FOLLOWED, put("    let some = held::EMPTY;\n")),
     Trial("a call of itself", FOLLOWED, [put("    put_onward(frame, &mut *out);\n")], (FORWARD, WRITER)),
     Trial(
         "a function with a name like a type's",
@@ -251,6 +284,27 @@ BEHIND = [
         before(PLAY, PUSHED, "                    let word = causal::row::word_at(out, 0);\n"),
         before(ROW, ROW_FIRST, WORD_AT),
     ),
+    Trial(
+        "the player reads all of the frame that it hears",
+        STRAIGHT,
+        [before(PLAY, HEARS, "    for slot in from..end {\n        stores[slot] = lines[slot] as usize;\n    }\n")],
+        (PLAY, "stores[slot]"),
+    ),
+    Trial(
+        "the player hears from its stores",
+        LENT,
+        [(PLAY, HEARS, HEARS.replace("&lines[from..end]", "&stores[from..end]"))],
+        (PLAY, "&stores[from..end]"),
+    ),
+    Trial(
+        "the player puts a frame together beside the line",
+        SMALL,
+        [
+            before(PLAY, PLAY_FIRST, "fn through(lines: &mut [u32], out: &[u32]) {\n" + SCRATCH + "    lines[0] = out[0];\n}\n\n"),
+            (PLAY, RECEIVED, "            through(lines, out);\n" + RECEIVED),
+        ],
+        (PLAY, SCRATCH),
+    ),
     hidden("the player copies the out row", LENT, before(PLAY, DELIVERED, copied("out", "&mut some"))),
     hidden("the player has a row of its own", SMALL, before(PLAY, DELIVERED, "    let mut some = [0u32; 1751];\n")),
     Trial(
@@ -272,11 +326,25 @@ BEHIND = [
         [before(FEED, FEED_FIRST, KEEP_BYTE), (FEED, PLAYED, PLAYED + "                keep(&mut *text, out);\n")],
         (FEED, "row[0] = out[0]"),
     ),
+    Trial(
+        "the program's text by the name of the line",
+        STRAIGHT,
+        [before(FEED, FEED_FIRST, KEEP_BYTE.replace("row", "lines")), (FEED, PLAYED, PLAYED + "                keep(&mut *text, out);\n")],
+        (FEED, "lines[0] = out[0]"),
+    ),
+    Trial("the program has a second row of a name", LENT, [before(MAIN, ENDED, OUT)], (MAIN, OUT + ENDED)),
     hidden("the program has a word of the out row", STRAIGHT, before(FEED, PLAYED, "                let first = out[0];\n")),
     hidden("the program is told words of it", STRAIGHT, before(FEED, PLAYED, "    let eight = store::layout::set_at(out, 0);\n")),
     hidden("the program copies the out row", LENT, before(FEED, PLAYED, copied("out", "&mut some"))),
     hidden("the program copies it at the end", LENT, before(MAIN, ENDED, copied("&out", "&mut some"))),
     Trial("the program hears into a row of its own", LENT, [(FEED, PLAYED, PLAYED.replace("&mut *out", "&mut some"))], (FEED, "&mut some")),
+    Trial(
+        "another export lends a row of its own",
+        MADE,
+        [before(HOST, EXPORT, f"fn hear(store: &mut [u32], {TWO_ROWS[1:]} {{\n    burial_receive(store, frame, &mut some);\n}}\n\n")],
+        (HOST, "burial_receive(store, frame, &mut some)"),
+    ),
+    Trial("an export in a file that is not read", MADE, [(UNREAD, "", "type Word = u32;\n")], (UNREAD, "type")),
     Trial(
         "another export hears",
         MADE,
@@ -288,8 +356,14 @@ BEHIND = [
 # Nothing is told.
 FINE = [
     Trial("nothing is edited", None, []),
-    Trial("eight places", None, [put("    let eight = [0u32; 8];\n    let two = [frame[0], ONE_OFFICE];\n    let one = [!two[0]; 1];\n")]),
+    Trial("eight places", None, [put("    let eight = [0u32; 8];\n    let two = [frame[0], ONE_HOP];\n    let one = [!two[0]; 1];\n")]),
     Trial("eight places by a constant", None, [put("    let eight = [0u32; EIGHT];\n"), declared("const EIGHT: usize = 8;\n")]),
+    Trial("counters", None, [put("    for j in 0..2 {\n        let two = [j, j + 1];\n    }\n")]),
+    Trial(
+        "fields that are named as a row",
+        None,
+        [put("    let put = Put { out: 1, frame: self::none() };\n"), declared("struct Put {\n    out: u32,\n    frame: u32,\n}\n\n" + NONE)],
+    ),
     Trial("a comment", None, [put("    // let mut scratch = [0u32; 267];\n")]),
     Trial("a part by a name", None, [(FORWARD, COPY, "    let part = &mut out[..];\n" + copied("frame", "part"))]),
     Trial(

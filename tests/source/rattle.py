@@ -47,6 +47,8 @@ class Unread(Exception):
 def tokens_of(text):
     found, line = [], 1
     for m in TOKEN.finditer(text):
+        if m.lastgroup == "text" and "r" in m.group().split('"')[0]:
+            raise Unread(line, "a raw string")
         if m.lastgroup != "blank":
             found.append(Token(m.lastgroup, m.group(), line))
         line += m.group().count("\n")
@@ -84,7 +86,7 @@ def split(tokens, sign=","):
 def numeral(tokens):
     """The number that stands there alone, None for anything else."""
     m = re.fullmatch(r"(0x[0-9A-Fa-f_]+|[0-9][0-9_]*)(?:u\d+|usize)?", tokens[0].text if len(tokens) == 1 else "")
-    return int(m.group(1).replace("_", ""), 0) if m else None
+    return int(m.group(1).replace("_", ""), 16 if "x" in m.group(1) else 10) if m else None
 
 
 def type_of(tokens):
@@ -166,9 +168,9 @@ class File:
             return self.function(tokens, at, "pub" in words, "extern" in words)
         if keyword in ("struct", "enum"):
             return self.declaration(tokens, at, keyword == "enum")
-        if keyword not in ("use", "mod", "const") or "extern" in words:
+        end = at + next((i for i in top(tokens[at:]) if tokens[at + i].text == ";"), 0)
+        if keyword not in ("use", "mod", "const") or "extern" in words or keyword == "mod" and end != at + 2:
             raise Unread(first.line, f"an item that begins with `{tokens[at].text}`")
-        end = at + next(i for i in top(tokens[at:]) if tokens[at + i].text == ";")
         if keyword == "const":
             self.constant(tokens[at + 1 : end])
         if keyword == "use" and "ghost" not in words:
@@ -205,7 +207,7 @@ class File:
         fields = fields_of(tokens[opening + 1 : at - 1])
         result, clauses = None, {}
         if tokens[at].text == "->":
-            end = at + next(i for i in top(tokens[at:]) if tokens[at + i].text in ("{", "requires", "ensures"))
+            end = at + next((i for i in top(tokens[at:]) if tokens[at + i].text in ("{", "requires", "ensures")), 0)
             result, at = type_of(tokens[at + 1 : end]), end
         while tokens[at].text in ("requires", "ensures"):
             clauses.setdefault(tokens[at].text, tokens[at].line)
@@ -283,14 +285,31 @@ def odd_calls(body):
             yield f"the macro {token.text}", token.line
 
 
+Let = collections.namedtuple("Let", "name at kind value")
+
+
 def let_at(body, at):
-    """Of a `let`: the name's token and place, and the tokens of its type and of its value, none of them where it binds a pattern."""
+    """A `let`: the name and its place, none where it binds a pattern; the tokens of its type and of its value."""
     at += 2 if behind(body, at + 1).text == "mut" else 1
-    end = at + next((i for i in top(body[at:]) if body[at + i].text in (";", "else")), len(body) - at)
-    parts = split(body[at + 1 : end], "=")
-    if not is_name(behind(body, at)) or len(parts) != 2 or parts[0] and parts[0][0].text != ":":
-        return behind(body, at), at, [], []
-    return body[at], at, parts[0][1:], parts[1]
+    end = at + next((i for i in top(body[at:]) if body[at + i].text == ";"), len(body) - at)
+    equal = at + next((i for i in top(body[at:end]) if body[at + i].text == "="), end - at)
+    plain = is_name(behind(body, at)) and behind(body, at + 1).text in (":", "=", ";")
+    return Let(body[at].text if plain else None, at, body[at + 2 : equal] if plain else [], body[equal + 1 : end])
+
+
+def bound_names(body):
+    """The names that a body binds: by `let`, by `for`, and in the patterns of a `match`."""
+    names = set()
+    for at, token in enumerate(body):
+        if token.text in ("let", "for"):
+            end = next((i for i in range(at, len(body)) if body[i].text in ("=", "in", ";")), at)
+            names.update(t.text for t in body[at + 1 : end] if is_name(t))
+        if token.text == "=>":
+            start = at
+            while start and body[start - 1].text not in ("{", "}", ";", "=>"):
+                start -= 1
+            names.update(t.text for t in body[start:at] if is_name(t))
+    return names
 
 
 def groups_of(body):

@@ -162,7 +162,7 @@ pub fn frame_from(ws: &[u32], offices: u32, plots: u32) -> Frame
     frame
 }
 
-// 01: read a frame. Only the answer is made here: a caller then sees which it is, and copies no more than the frame.
+// 01: read a frame. Only the answer is made here; a hearing, whose settings are in range, reads by `frame_from`.
 pub fn read_frame(ws: &[u32], offices: u32, plots: u32) -> FrameRead
     ensures { λ r. ⌜ ReadFramePromise (now (ws .entry)) offices plots (codeOf (r .status)) (r .frame) ⌝ }
 {

@@ -44,7 +44,7 @@ last f = last-word f
 head-down : (f : Frame) → 1 ≤ f .hops → head f - 4096 ≡ head (onward f)
 head-down f h = omega arith
 
--- the check is the sum of the payloads, and goes round with it
+-- the check is the sum of the payloads modulo 2^28
 check-down : (f : Frame) → 1 ≤ f .hops → 4026531840 + (check f - 4096) % 268435456 ≡ check (onward f)
 unfolding total
 check-down f h = sums (head f) (head (onward f)) (total (between f)) (omega arith) (sym (head-down f h))
@@ -67,7 +67,7 @@ module _ (ws : List ℕ) (e : ws ≡ frameWords (frameOf ws)) where
 
 -- ---- in the out row
 
--- a row copied to the front of another, then its first and its last word
+-- a row copied to the front of another, then its first and its last word made anew
 made-anew : (ws out xs : List ℕ) (a z b y : ℕ) → ws ≡ a ∷ (xs ++ (z ∷ [])) → length ws ≤ length out
     → set (set (sets out 0 (part ws 0 (length ws))) 0 b) (length ws - 1) y ≡ laid (b ∷ (xs ++ (y ∷ []))) out
 unfolding laid part
@@ -90,7 +90,7 @@ made-anew ws out xs a z b y e h =
         ∙ ap (λ (l : List ℕ). l ++ drop (length ws) out) e
         ∙ ap (λ (l : List ℕ). a ∷ l) (append-assoc xs (z ∷ []) (drop (length ws) out))
 
--- what `put_onward` leaves: the row, then its head and its check less one office
+-- what `put_onward` leaves: the row, then its head and its check less one hop
 abbrev sent : List ℕ → List ℕ → List ℕ
 sent ws out =
     set (set (sets out 0 (part ws 0 (length ws))) 0 (getD ws 0 0 - 4096)) (length ws - 1) (4026531840 + (getD ws (length ws - 1) 0 - 4096) % 268435456)

@@ -26,7 +26,7 @@ fn room_ok(hops: u32, words: usize, room: usize) -> bool
     words <= room
 }
 
-// 10 and 11; 12: a dependency is not held; 8. A frame keeps its number of words when it goes on.
+// 10 and 11; 12: a dependency is not held; 8. `words`: how many the frame has, as it came and as it goes on.
 pub fn receive_code(store: &[u32], held: [u32; 8], f: Frame, words: usize, room: usize) -> u32
     requires { ⌜ (soundStore (now store) ≡ true) × (held ≡ part (now store) 3 8) × (frameOk (getD (now store) 0 0) (getD (now store) 2 0) f ≡ true) × (words ≡ length (frameWords f)) ⌝ }
     ensures { λ r. ⌜ r ≡ receiveCode (officeOf (now (store .entry))) f room ⌝ }
@@ -58,7 +58,7 @@ fn reveal_id(store: &mut [u32], k: usize)
     store::reveal::show(&mut *store, visible);
 }
 
-// A frame for this ring comes in, f, which is read from `frame`: held, hidden, if new; then revealed where none are still to hear, else sent on.
+// A frame for this ring comes in, f, which was read from `frame`: held, hidden, if new; then revealed where none are still to hear, else sent on.
 fn taken(store: &mut [u32], frame: &[u32], f: Frame, out: &mut [u32]) -> Written
     requires { ⌜ (soundStore (now store) ≡ true) × (frameOk (getD (now store) 0 0) (getD (now store) 2 0) f ≡ true) × (length (f .entry .clock) ≡ 8) × IdSet (f .entry .deps) × (f ≡ frameOf (now frame)) × (now frame ≡ frameWords f) ⌝ }
     ensures { λ r. ⌜ (replyOf r ≡ record { code = receiveOn (officeOf (now (store .entry))) f (now (out .entry)) .code; words = receiveOn (officeOf (now (store .entry))) f (now (out .entry)) .count })
