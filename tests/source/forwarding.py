@@ -21,6 +21,8 @@ from rows import is_row
 
 HEARING = "hearing::receive::receive"
 
+# The calls that may tell a function of a frame's words though it has other rows to write to. What each answers is its promise: the fields of
+# a frame, what was said of it, how many frames wait, the entry that was written, the replies.
 TAKEN = {"frame::reader::frame_from", "hearing::receive::taken", HEARING}
 PLAYED = {HEARING, "player::ahead::receive_ahead", "player::play::deliver", "player::play::receive_at"}
 PLAYED |= {"player::play::play_other", "player::play::receive_line", "player::play::write_at", "player::play::write_line"}

@@ -17,8 +17,8 @@ HEARING = "crates/hearing/src/lib.rt"
 ROW = "crates/causal/src/row.rt"
 PLAY = "crates/player/src/play.rt"
 FEED = "crates/ring_program/src/feed.rt"
-UNREAD = "crates/host/src/hear.rt"
 MAIN = "crates/ring_program/src/main.rt"
+UNREAD = "crates/host/src/hear.rt"  # not there
 
 # Lines of the source, in front of which or in place of which something is put.
 TAKEN = "    taken(store, frame, f, out)\n"
@@ -26,7 +26,7 @@ REVEALS = "// Reveals an id that is held.\n"
 SENT_ON = "    crate::forward::put_onward(frame, out);\n"
 WRITER = "pub fn put_onward(frame: &[u32], out: &mut [u32])\n"
 COPY = "    causal::row::copy_words(frame, 0, &mut *out, 0, frame.len());\n"
-OFFICE = "const ONE_HOP: u32 = 0x1000;\n"
+CONSTANT = "const ONE_HOP: u32 = 0x1000;\n"
 MODULES = "pub mod receive;\n"
 EXPORT = "// 01: hear a frame.\n"
 ROW_FIRST = "// n words of a row"
@@ -68,7 +68,7 @@ def put(new):
 
 def declared(new):
     """Beside put_onward."""
-    return before(FORWARD, OFFICE, new)
+    return before(FORWARD, CONSTANT, new)
 
 
 def taken(new):
