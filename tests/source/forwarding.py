@@ -32,41 +32,33 @@ FED |= {"ring_program::feed::finish", "writing::write::make"}
 LENGTHS = {"player::play::receive_at": "lines [ slot ] as usize"}
 HEARD = {"store": "stores", "frame": "lines", "out": "out"}
 
-WALKS = [
-    Walk(
-        "a hearing",
-        "host::offices::burial_receive",
-        rows={"store", "frame", "out"},
-        words={"frame", "out"},
-        into={"out"},
-        tellers=TAKEN,
-        ends={},
-        lengths={},
-        narrow=False,
-    ),
-    Walk(
-        "the player's hearing",
-        "player::play::receive_line",
-        rows={"stores", "lines", "out"},
-        words={"lines", "out"},
-        into={"lines"},
-        tellers=PLAYED,
-        ends={HEARING: HEARD},
-        lengths=LENGTHS,
-        narrow=False,
-    ),
-    Walk(
-        "the program",
-        "ring_program::main",
-        rows={"stores", "lines", "out"},
-        words={"lines", "out"},
-        into={"lines"},
-        tellers=PLAYED | FED,
-        ends={HEARING: HEARD, "reading::read::see_plot": {"store": "stores"}, "writing::write::make": {"store": "stores", "out": "out"}},
-        lengths=LENGTHS,
-        narrow=True,
-    ),
-]
+CALL = Walk(
+    "a hearing",
+    "host::offices::burial_receive",
+    rows={"store", "frame", "out"},
+    words={"frame", "out"},
+    into={"out"},
+    tellers=TAKEN,
+    ends={},
+    lengths={},
+    narrow=False,
+)
+PLAYER = Walk(
+    "the player's hearing",
+    "player::play::receive_line",
+    rows={"stores", "lines", "out"},
+    words={"lines", "out"},
+    into={"lines"},
+    tellers=PLAYED,
+    ends={HEARING: HEARD},
+    lengths=LENGTHS,
+    narrow=False,
+)
+MADE_OR_READ = {"writing::write::make": {"store": "stores", "out": "out"}, "reading::read::see_plot": {"store": "stores"}}
+PROGRAM = PLAYER._replace(
+    name="the program", first="ring_program::main", tellers=PLAYED | FED, ends=PLAYER.ends | MADE_OR_READ, narrow=True
+)
+WALKS = [CALL, PLAYER, PROGRAM]
 
 
 def dependents(tree):

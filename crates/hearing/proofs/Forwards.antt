@@ -8,8 +8,8 @@ use lib.Seq.{sets, set-at, take-length}
 use Rattle.causal.specs.Lists.{part}
 use Rattle.causal.proofs.Lists.{sets-front}
 use Rattle.frame.specs.declared.entry.Frame.{Frame}
-use Rattle.frame.specs.Words.{clockWords, idWords, sumWord, summed, total}
-use Rattle.frame.specs.Frames.{headWord, bodyWords, frameOf, frameWords}
+use Rattle.frame.specs.Words.{sumWord, summed, total}
+use Rattle.frame.specs.Frames.{bodyWords, frameOf, frameWords}
 use Rattle.frame.specs.Calls.{laid}
 use Rattle.frame.proofs.Frames.{length-frame, last-word}
 use Rattle.office.specs.Calls.{onward}
@@ -21,14 +21,13 @@ length-onward f = length-frame (onward f) ∙ sym (length-frame f)
 -- ---- the two words that change, and those between
 
 abbrev head : Frame → ℕ
-head f = headWord (f .entry .office) (f .entry .serial) (f .hops) (f .offices) (length (idWords (f .entry .deps)))
+head f = getD (bodyWords f) 0 0
 
 abbrev between : Frame → List ℕ
-between f =
-    (805306368 + f .entry .plot) ∷ (1073741824 + f .entry .value) ∷ (clockWords (f .offices) (f .entry .clock) ++ idWords (f .entry .deps))
+between f = drop 1 (bodyWords f)
 
 abbrev check : Frame → ℕ
-check f = sumWord (head f ∷ between f)
+check f = sumWord (bodyWords f)
 
 parts : (f : Frame) → frameWords f ≡ head f ∷ (between f ++ (check f ∷ []))
 unfolding frameWords summed bodyWords
@@ -37,17 +36,18 @@ parts f = refl
 first : (f : Frame) → getD (frameWords f) 0 0 ≡ head f
 first f = ap (λ (l : List ℕ). getD l 0 0) (parts f)
 
-last : (f : Frame) → getD (frameWords f) (length (frameWords f) - 1) 0 ≡ check f
+between-stays : (f : Frame) → between f ≡ between (onward f)
 unfolding bodyWords
-last f = last-word f
+between-stays f = refl
 
-head-down : (f : Frame) → 1 ≤ f .hops → head f - 4096 ≡ head (onward f)
-head-down f h = omega arith
+head-down : (f : Frame) → 1 ≤ f .hops → (4096 ≤ head f) × (head f - 4096 ≡ head (onward f))
+unfolding bodyWords
+head-down f h = (omega arith, omega arith)
 
 -- the check is the sum of the payloads modulo 2^28
 check-down : (f : Frame) → 1 ≤ f .hops → 4026531840 + (check f - 4096) % 268435456 ≡ check (onward f)
-unfolding total
-check-down f h = sums (head f) (head (onward f)) (total (between f)) (omega arith) (sym (head-down f h))
+unfolding total bodyWords
+check-down f h = let d = head-down f h in sums (head f) (head (onward f)) (total (between f)) (d .0) (sym (d .1))
   where
     sums : (a b t : ℕ) → 4096 ≤ a → b ≡ a - 4096
         → 4026531840 + (4026531840 + (a % 268435456 + t) % 268435456 - 4096) % 268435456 ≡ 4026531840 + (b % 268435456 + t) % 268435456
@@ -60,10 +60,11 @@ module _ (ws : List ℕ) (e : ws ≡ frameWords (frameOf ws)) where
   long = omega (arith, ap length e, length-frame (frameOf ws))
 
   pub head-large : 4096 ≤ getD ws 0 0
+  unfolding bodyWords
   head-large = let q = ap (λ (l : List ℕ). getD l 0 0) e ∙ first (frameOf ws) in omega arith
 
   pub check-large : 4096 ≤ getD ws (length ws - 1) 0
-  check-large = let q = ap (λ (l : List ℕ). getD l (length l - 1) 0) e ∙ last (frameOf ws) in omega arith
+  check-large = let q = ap (λ (l : List ℕ). getD l (length l - 1) 0) e ∙ last-word (frameOf ws) in omega arith
 
 -- ---- in the out row
 
@@ -101,12 +102,13 @@ onward-laid ws out e h l = go (frameOf ws) e h
   where
     go : (f : Frame) → ws ≡ frameWords f → 1 ≤ f .hops → sent ws out ≡ laid (frameWords (onward f)) out
     go f q p =
-        let a : getD ws 0 0 - 4096 ≡ head (onward f) = ap (λ (l : List ℕ). getD l 0 0 - 4096) q ∙ ap (λ (w : ℕ). w - 4096) (first f) ∙ head-down f p in
+        let a : getD ws 0 0 - 4096 ≡ head (onward f) = ap (λ (l : List ℕ). getD l 0 0 - 4096) q ∙ ap (λ (w : ℕ). w - 4096) (first f) ∙ head-down f p .1 in
         let z : 4026531840 + (getD ws (length ws - 1) 0 - 4096) % 268435456 ≡ check (onward f) =
         ap (λ (l : List ℕ). 4026531840 + (getD l (length l - 1) 0 - 4096) % 268435456) q
-        ∙ ap (λ (w : ℕ). 4026531840 + (w - 4096) % 268435456) (last f)
+        ∙ ap (λ (w : ℕ). 4026531840 + (w - 4096) % 268435456) (last-word f)
         ∙ check-down f p
         in
         made-anew ws out (between f) (head f) (check f) _ _ (q ∙ parts f) l
         ∙ ap₂ (λ (x y : ℕ). laid (x ∷ (between f ++ (y ∷ []))) out) a z
+        ∙ ap (λ (xs : List ℕ). laid (head (onward f) ∷ (xs ++ (check (onward f) ∷ []))) out) (between-stays f)
         ∙ ap (λ (ws : List ℕ). laid ws out) (sym (parts (onward f)))
