@@ -13,7 +13,7 @@ use Rattle.causal.specs.Lists.{tab}
 use Rattle.causal.specs.Sets.{IdSet, has, isIn}
 use Rattle.causal.proofs.Lists.{tab-at, zip8-at}
 use Rattle.causal.proofs.Sets.{has-lt, ids-unite, in-is, in-or-out, in-unite, unite-left, unite-right}
-use Rattle.causal.proofs.Tests.{eq-or-ne, not-so}
+use Rattle.causal.proofs.Tests.{eq-or-ne, not-so, split}
 use Rattle.frame.specs.Entries.{clockOk, entryOk, idOf}
 use Rattle.frame.specs.Sessions.{Content, idsOf}
 use Rattle.frame.specs.declared.entry.Entry.{Entry}
@@ -30,6 +30,11 @@ pub max-le : (f : ℕ → ℕ) (b m : ℕ) → ((k : ℕ) → k < m → f k ≤ 
 unfolding maxTo
 max-le f b zero h = omega arith
 max-le f b (suc m) h = omega (arith, max-le f b m (λ k l. h k (omega arith)), h m (omega arith))
+
+pub max-ge : (f : ℕ → ℕ) (m k : ℕ) → k < m → f k ≤ maxTo f m
+unfolding maxTo
+max-ge f zero k l = absurd (omega arith)
+max-ge f (suc m) k l = ⊎-elim (λ (x : k < m). omega (arith, max-ge f m k x)) (λ (x : k ≡ m). rw x (omega arith)) (split k m l)
 
 -- office o of a ring of n that may make one more entry: its own serials have no gap, and not all 32 are made
 pub record Counting (n o : ℕ) (O : Office) : Type 0 where

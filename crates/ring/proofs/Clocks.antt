@@ -1,5 +1,4 @@
--- An entry outranks everything in its writer's past: "the foreman's correction" never loses to what he read. What is kept for it.
--- Assumes nothing.
+-- An entry is later than everything in its writer's past (specs/Later.antt): what is kept for it. Assumes nothing.
 use Prim.Native.Nat.{ℕ, _*_, _+_, _<_, _≤_, max, suc, zero}
 use mathlib.Core.Bool.{true}
 use mathlib.Core.List.{List, List·Memᴰ, [], _++_, _∷_, map}
@@ -7,7 +6,7 @@ use mathlib.Core.Logic.{_⊎_, inl, inr, ⊎-elim}
 use mathlib.Core.Path.{_∙_, _≡_, ap, refl, sym}
 use native.Mathlib.Omega.{arith}
 use lib.ListN.{getD, length, set}
-use Rattle.causal.specs.Clocks.{join}
+use Rattle.causal.specs.Clocks.{Covers, join}
 use Rattle.causal.specs.Lists.{sumBelow}
 use Rattle.causal.specs.Rank.{higher, ranksAbove}
 use Rattle.causal.specs.Sets.{IdSet, has, inserted}
@@ -29,21 +28,21 @@ use Rattle.ring.proofs.Fit.{Agrees, Sys, TrackedFit, Whole, ids, mem-se
 use Rattle.ring.proofs.ReadKeeps.{C, cur, vis-is, vis-made}
 use Rattle.ring.proofs.ReceiveKeeps.{changed}
 
--- every place of d's clock is at most that of k's, and at k's office it is below k's serial
-pub record Under (E : ℕ → Entry) (d k : ℕ) : Type 0 where
-  pub le : (j : ℕ) → j < 8 → getD (E d .clock) j 0 ≤ getD (E k .clock) j 0
-  pub lt : getD (E d .clock) (E k .office) 0 < E k .serial
+-- no number of d's clock is above e's, and at e's office it is below e's serial
+pub record Under (d e : Entry) : Type 0 where
+  pub le : Covers (e .clock) (d .clock)
+  pub lt : getD (d .clock) (e .office) 0 < e .serial
 
 -- a session's clock is above all that it has read and written, and not above what the offices made
 pub record ClockFit (n : ℕ) (E : ℕ → Entry) (stores : ℕ → Office) (s : Content) : Type 0 where
-  pub over : (k : ℕ) → (has (s .read) k ≡ 1) ⊎ List·Memᴰ k (map idOf (s .own)) → (j : ℕ) → j < 8 → getD (E k .clock) j 0 ≤ getD (s .clock) j 0
+  pub over : (k : ℕ) → (has (s .read) k ≡ 1) ⊎ List·Memᴰ k (map idOf (s .own)) → Covers (s .clock) (E k .clock)
   pub bound : (j : ℕ) → j < n → getD (s .clock) j 0 ≤ made (stores j)
 
 pub record Clocks (n : ℕ) (E : ℕ → Entry) (g : Sys) : Type 0 where
   pub sessions : (r : Tracked) → List·Memᴰ r (g .sessions) → ClockFit n E (g .stores) (r .session)
   pub tokens : (r : TrackedToken Content) → List·Memᴰ r (g .tokens) → ClockFit n E (g .stores) (r .token)
   pub bound : (k : ℕ) → List·Memᴰ k (ids (g .log)) → (j : ℕ) → j < n → getD (E k .clock) j 0 ≤ made (g .stores j)
-  pub deps : (k d : ℕ) → List·Memᴰ k (ids (g .log)) → has (E k .deps) d ≡ 1 → Under E d k
+  pub deps : (k d : ℕ) → List·Memᴰ k (ids (g .log)) → has (E k .deps) d ≡ 1 → Under (E d) (E k)
 
 -- ---- counts grow
 
@@ -258,9 +257,9 @@ higher-by (x ∷ xs) (y ∷ ys) a b l h i li q =
     go zero li q ih (inl e) = absurd (omega arith)
     go (suc i) li q ih (inl e) = higher-same x y (xs ++ (a ∷ [])) (ys ++ (b ∷ [])) e ∙ ih i (omega arith) q
 
-pub under-outranks : (E : ℕ → Entry) (d k n p : ℕ) → n ≤ 8 → EntryFacts n p (E k) → length (E k .clock) ≡ 8 → length (E d .clock) ≡ 8
-    → Under E d k → outranks (E k) (E d) ≡ true
+pub under-outranks : (d e : Entry) (n p : ℕ) → n ≤ 8 → EntryFacts n p e → length (e .clock) ≡ 8 → length (d .clock) ≡ 8 → Under d e
+    → outranks e d ≡ true
 unfolding outranks ranksAbove
-under-outranks E d k n p eight F lk ld U =
-    higher-by (E k .clock) (E d .clock) (E k .office) (E d .office) (lk ∙ sym ld) (λ j l. U .le j (omega arith)) (E k .office)
+under-outranks d e n p eight F le ld U =
+    higher-by (e .clock) (d .clock) (e .office) (d .office) (le ∙ sym ld) (λ j l. U .le j (omega arith)) (e .office)
     (omega (arith, F .bounds .office-ok)) (omega (arith, U .lt, F .own-clock))

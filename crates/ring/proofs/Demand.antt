@@ -10,6 +10,7 @@ use Rattle.ring.specs.Demand.{ThirdDemand}
 use Rattle.ring.proofs.Chain.{all-answered}
 use Rattle.ring.proofs.Claim.{claim}
 use Rattle.ring.proofs.JointTogether.{joint-together}
+use Rattle.ring.proofs.LaterCounts.{later-counts}
 use Rattle.ring.proofs.Settings.{settings-stay}
 use Rattle.ring.proofs.Theorem.{demand3, opens}
 
@@ -29,4 +30,5 @@ third-demand =
       demand3 = demand3;
       settings = settings-stay;
       joint-together = joint-together;
+      later-counts = later-counts;
     }

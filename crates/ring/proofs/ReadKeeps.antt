@@ -323,16 +323,17 @@ module _ (n p : ℕ) (two : 2 ≤ n) (eight : n ≤ 8) (E : ℕ → Entry) (P : 
         take-visible S′ (wpast P) (world g′) I′ (w .law) (seen s (r .past)) (seen s′ past′) J o (On O1 plots) Hs is-takes
         (λ k m. here k (C .visible-new k (k, m, self)))
 
-    good : (q : ℕ) (f : Found) → List·Memᴰ (q, f) (together plots fs) → (k : ℕ) → List·Memᴰ k past′ → E k .plot ≡ q → Over f (E k)
-    good q f m k mk e = ⊎-elim vis own (past-known S′ (wpast P) (world g′) I′ (seen s′ past′) S2 o all-visible k mk)
-      where
-        vis : has (g′ .stores o .visible) k ≡ 1 → Over f (E k)
-        vis h =
-            let v = there k h in
-            let is = vis-is k v in
-            let l : k < 32 * O1 .offices = rw (C .fit .offices) (made-range n p two eight E P g w k (vis-made k v)) in
-            K .over-visible q f m (E k) (rw is at (current-over O1 q k l v (ap (λ (x : Entry). x .plot) is ∙ e)))
+    -- what is visible is not above what is handed back on its plot
+    pub over-shown : (q : ℕ) (f : Found) → List·Memᴰ (q, f) (together plots fs) → (k : ℕ) → has (O1 .visible) k ≡ 1 → E k .plot ≡ q → Over f (E k)
+    over-shown q f m k v e =
+        let is = vis-is k v in
+        let l : k < 32 * O1 .offices = rw (C .fit .offices) (made-range n p two eight E P g w k (vis-made k v)) in
+        K .over-visible q f m (E k) (rw is at (current-over O1 q k l v (ap (λ (x : Entry). x .plot) is ∙ e)))
 
+    good : (q : ℕ) (f : Found) → List·Memᴰ (q, f) (together plots fs) → (k : ℕ) → List·Memᴰ k past′ → E k .plot ≡ q → Over f (E k)
+    good q f m k mk e =
+        ⊎-elim (λ h. over-shown q f m k (there k h) e) own (past-known S′ (wpast P) (world g′) I′ (seen s′ past′) S2 o all-visible k mk)
+      where
         own : List·Memᴰ k (map idOf (s′ .own)) → Over f (E k)
         own i =
             let j : List·Memᴰ k (map idOf (s .own)) = rw (K .own-are) at i in
@@ -342,7 +343,7 @@ module _ (n p : ℕ) (two : 2 ≤ n) (eight : n ≤ 8) (E : ℕ → Entry) (P : 
             rw is at (K .over-own q f m (t .0) mo (ap (λ (x : Entry). x .plot) is ∙ e))
 
     -- what is handed back is on its plot, and is the entry made
-    kept : (q : ℕ) (h : Entry) → List·Memᴰ (q, Some h) (together plots fs) → (h .plot ≡ q) × (h ≡ E (idOf h)) × List·Memᴰ (idOf h) (ids (g .log))
+    pub kept : (q : ℕ) (h : Entry) → List·Memᴰ (q, Some h) (together plots fs) → (h .plot ≡ q) × (h ≡ E (idOf h)) × List·Memᴰ (idOf h) (ids (g .log))
     kept q h m = ⊎-elim vis own (K .on-plot q h m)
       where
         vis : current O1 q ≡ Some h → (h .plot ≡ q) × (h ≡ E (idOf h)) × List·Memᴰ (idOf h) (ids (g .log))
@@ -400,7 +401,7 @@ module _ (n p : ℕ) (two : 2 ≤ n) (eight : n ≤ 8) (E : ℕ → Entry) (P : 
 
   -- ---- a reading of plots, one or several
 
-  all-reads : (plots : List ℕ) → Reads O1 s (notedAll O1 plots s) plots (map (handed O1 s) plots)
+  pub all-reads : (plots : List ℕ) → Reads O1 s (notedAll O1 plots s) plots (map (handed O1 s) plots)
   unfolding handed
   all-reads plots =
       record {

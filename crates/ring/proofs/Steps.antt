@@ -28,6 +28,8 @@ use Rattle.ring.specs.Holds.{Distinct}
 use Rattle.ring.specs.Run.{Call, Made, Tracked, TrackedToken, answered, at, contentsRun, startBy, fromToken, noted-event, onContents, run, starting, step, tokenBy, turnedBy, withSession, withToken, wordsBy, writeAt, writeBy, writerPast}
 use Rattle.ring.proofs.Base.{event-fine, not-nine, noted-whole, turned-whole}
 use Rattle.ring.proofs.ByCases.{fresh-log, from-log, log-each, read-log, receive-log, step-each, token-log, words-log}
+use Rattle.ring.proofs.Clocks.{Clocks}
+use Rattle.ring.proofs.ClockSteps.{start-clocks, step-clocks}
 use Rattle.ring.proofs.Fit.{Agrees, Sys, TrackedFit, Whole, seen, shape, world, wpast}
 use Rattle.ring.proofs.Log.{agrees-part, distinct-none, entryIn, log-agrees}
 use Rattle.ring.proofs.ReadKeeps.{joint-whole, one-whole}
@@ -37,7 +39,7 @@ use Rattle.ring.proofs.WriteKeeps.{write-distinct, write-whole}
 module _ (n p : ℕ) (two : 2 ≤ n) (eight : n ≤ 8) where
   module _ (E : ℕ → Entry) (P : ℕ → List ℕ) where
     -- a call only adds to the log
-    write-adds : (g : Sys) (o i : ℕ) (r : Tracked) (plot value : ℕ) (row : List ℕ)
+    pub write-adds : (g : Sys) (o i : ℕ) (r : Tracked) (plot value : ℕ) (row : List ℕ)
         → Agrees E P (writeAt onContents n g o i plot value row (r ∷ []) .log) → Agrees E P (g .log)
     write-adds g o i r plot value row A = go (onContents .on-write (g .stores o) (r .session) plot value row .code) A
       where
@@ -154,7 +156,7 @@ module _ (n p : ℕ) (two : 2 ≤ n) (eight : n ≤ 8) where
         go false = turned-whole n p two eight E P g w o 9 row (freshContent 0) (λ x. omega arith, λ x. omega arith, λ x. omega arith)
 
     -- a call only adds to the log, so what agrees with it after agreed before
-    pub step-adds : (g : Sys) (c : Call) → Agrees E P (step onContents n g c .log) → Agrees E P (g .log)
+    step-adds : (g : Sys) (c : Call) → Agrees E P (step onContents n g c .log) → Agrees E P (g .log)
     step-adds g =
         log-each onContents n g (λ (l : List Made). Agrees E P l → Agrees E P (g .log)) (λ A. A)
         (λ o i plot value row r lt m A. write-adds g o i r plot value row A)
@@ -229,13 +231,17 @@ module _ (n p : ℕ) (two : 2 ≤ n) (eight : n ≤ 8) where
           events = λ v m. absurd (List·Memᴰ·not-nil m);
         }
 
-  -- no id is made twice, and whatever agrees with the log, the invariant holds
+  -- no id is made twice, and whatever agrees with the log, the invariant holds, and that of the clocks
   pub record Ok (g : Sys) : Type 0 where
     pub distinct : Distinct (g .log)
     pub whole : (E : ℕ → Entry) (P : ℕ → List ℕ) → Agrees E P (g .log) → Whole n p two E P g
+    pub clocks : (E : ℕ → Entry) (P : ℕ → List ℕ) → Agrees E P (g .log) → Clocks n E g
 
   pub ok-whole : (g : Sys) → Ok g → Whole n p two (entryIn (g .log)) (writerPast (g .log)) g
   ok-whole g k = k .whole (entryIn (g .log)) (writerPast (g .log)) (log-agrees (g .log) (k .distinct))
+
+  pub ok-clocks : (g : Sys) → Ok g → Clocks n (entryIn (g .log)) g
+  ok-clocks g k = k .clocks (entryIn (g .log)) (writerPast (g .log)) (log-agrees (g .log) (k .distinct))
 
   step-distinct : (g : Sys) → Ok g → (c : Call) → Distinct (step onContents n g c .log)
   unfolding onContents
@@ -245,7 +251,14 @@ module _ (n p : ℕ) (two : 2 ≤ n) (eight : n ≤ 8) where
       write-distinct n p two eight (entryIn (g .log)) (writerPast (g .log)) g (ok-whole g k) o lt i r m plot value row (k .distinct))
 
   pub step-ok : (g : Sys) → Ok g → (c : Call) → Ok (step onContents n g c)
-  step-ok g k c = record { distinct = step-distinct g k c; whole = λ E P A. step-whole E P g (λ B. k .whole E P B) c A }
+  step-ok g k c =
+      record {
+        distinct = step-distinct g k c;
+        whole = λ E P A. step-whole E P g (λ B. k .whole E P B) c A;
+        clocks = λ E P A.
+            let B = step-adds E P g c A in
+            step-clocks n p two eight E P g (k .whole E P B) B (k .clocks E P B) c A;
+      }
 
   pub run-ok : (cs : List Call) (g : Sys) → Ok g → Ok (run onContents n g cs)
   unfolding run
@@ -253,7 +266,7 @@ module _ (n p : ℕ) (two : 2 ≤ n) (eight : n ≤ 8) where
   run-ok (c ∷ cs) g k = run-ok cs (step onContents n g c) (step-ok g k c)
 
   pub start-ok : Ok (starting (λ o. emptyOffice n o p))
-  start-ok = record { distinct = distinct-none; whole = λ E P A. start-whole E P }
+  start-ok = record { distinct = distinct-none; whole = λ E P A. start-whole E P; clocks = λ E P A. start-clocks n p two eight E P }
 
   -- in every run on contents
   pub contents-ok : (cs : List Call) → Ok (contentsRun n p cs)

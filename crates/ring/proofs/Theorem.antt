@@ -27,7 +27,7 @@ use Rattle.ring.proofs.SameRun.{WState, long, sound, step-same}
 use Rattle.ring.proofs.Sounds.{canon, ring-ok}
 use Rattle.ring.proofs.Steps.{Ok, ok-whole, run-ok, start-ok, step-ok}
 
-over-some : (f : Found) (q : Entry) → Over f q → (e : Entry) × (f ≡ Some e) × (outranks q e ≡ false)
+pub over-some : (f : Found) (q : Entry) → Over f q → (e : Entry) × (f ≡ Some e) × (outranks q e ≡ false)
 over-some None q h = absurd h
 over-some (Some e) q h = (e, refl, h)
 
@@ -100,7 +100,7 @@ module _ (n p : ℕ) (two : 2 ≤ n) (eight : n ≤ 8) (one : 1 ≤ p) (p64 : p 
     visible-c : (o x : ℕ) → o < n → has (officeOf (g .stores o) .visible) x ≡ 1 → has (c .stores o .visible) x ≡ 1
     visible-c o x lt h = ap (λ (O : Office). has (O .visible) x) (sym (S .stores o lt)) ∙ h
 
-    holds-entry : (q : ℕ) → q < n → (m : Made) → List·Memᴰ m (c .log) → has (c .stores q .held) (idOf (m .entry)) ≡ 1
+    pub holds-entry : (q : ℕ) → q < n → (m : Made) → List·Memᴰ m (c .log) → has (c .stores q .held) (idOf (m .entry)) ≡ 1
         → HoldsEntry (g .stores q) (m .entry)
     holds-entry q lq m i h =
         record {
@@ -114,10 +114,34 @@ module _ (n p : ℕ) (two : 2 ≤ n) (eight : n ≤ 8) (one : 1 ≤ p) (p64 : p 
         writer-visible (shape n two (entryIn (c .log))) (wpast (writerPast (c .log))) (world c) (w .inv) (w .law) o (idOf (m .entry)) x
         (made-m m i) h (rw (A .past m i) j)
 
-    is-current : (o : ℕ) → o < n → (d : Made) → List·Memᴰ d (c .log) → has (c .stores o .visible) (idOf (d .entry)) ≡ 1 →
+    made-ok : (m : Made) → List·Memᴰ m (c .log) → (entryOk n p (m .entry) ≡ true) × (length (m .entry .clock) ≡ 8)
+    made-ok m i = let G = w .good (idOf (m .entry)) (made-m m i) in let e = A .entry m i in (rw e at (G .ok), rw e at (G .clock8))
+
+    -- of two entries made, the one that the other does not outrank is the other, or outranks it
+    pub above-made : (d x : Made) → List·Memᴰ d (c .log) → List·Memᴰ x (c .log) → outranks (d .entry) (x .entry) ≡ false
+        → (x .entry ≡ d .entry) ⊎ (outranks (x .entry) (d .entry) ≡ true)
+    above-made d x i j u = go (outranks (x .entry) (d .entry)) refl
+      where
+        go : (b : Bool) → outranks (x .entry) (d .entry) ≡ b → (x .entry ≡ d .entry) ⊎ (outranks (x .entry) (d .entry) ≡ true)
+        go true b = inr b
+        go false b =
+            let v = made-ok x j in
+            let t = made-ok d i in
+            let same = outranks-total n p n p (x .entry) (d .entry) (v .0) (t .0) (v .1 ∙ sym (t .1)) b u in
+            inl (ap (λ (y : Made). y .entry) (one-made (c .log) (k .distinct) x d j i same))
+
+    current-made : (o : ℕ) → o < n → (plot : ℕ) (e : Entry) → current (c .stores o) plot ≡ Some e
+        → (x : Made) × List·Memᴰ x (c .log) × (x .entry ≡ e)
+    current-made o lt plot e q =
+        let s = current-from (c .stores o) plot e q in
+        let h = visible-held n p two eight (entryIn (c .log)) (writerPast (c .log)) c w o (s .0) lt (s .2) in
+        let m = held-made n p two eight (entryIn (c .log)) (writerPast (c .log)) c w o (s .0) h in
+        let t = Memᴰ·of-map (λ (x : Made). idOf (x .entry)) (c .log) m in
+        (t .0, t .1, sym (A .entry (t .0) (t .1)) ∙ ap (entryIn (c .log)) (t .2) ∙ sym (s .3 ∙ w .offices o .entry-is (s .0) h))
+
+    pub is-current : (o : ℕ) → o < n → (d : Made) → List·Memᴰ d (c .log) → has (c .stores o .visible) (idOf (d .entry)) ≡ 1 →
         (e : Entry) × (current (c .stores o) (d .entry .plot) ≡ Some e) × ((e ≡ d .entry) ⊎ (outranks e (d .entry) ≡ true))
     is-current o lt d i h =
-        let x : ℕ = idOf (d .entry) in
         let hh = visible-held n p two eight (entryIn (c .log)) (writerPast (c .log)) c w o (idOf (d .entry)) lt h in
         let is : c .stores o .entry (idOf (d .entry)) ≡ d .entry = w .offices o .entry-is (idOf (d .entry)) hh ∙ A .entry d i in
         let l : idOf (d .entry) < 32 * c .stores o .offices =
@@ -126,29 +150,8 @@ module _ (n p : ℕ) (two : 2 ≤ n) (eight : n ≤ 8) (one : 1 ≤ p) (p64 : p 
         let v = current-over (c .stores o) (d .entry .plot) (idOf (d .entry)) l h (ap (λ (y : Entry). y .plot) is) in
         let v′ : Over (current (c .stores o) (d .entry .plot)) (d .entry) = rw is at v in
         let t = over-some (current (c .stores o) (d .entry .plot)) (d .entry) v′ in
-        (t .0, t .1, higher (t .0) (t .1) (t .2))
-      where
-        higher : (e : Entry) → current (c .stores o) (d .entry .plot) ≡ Some e → outranks (d .entry) e ≡ false
-            → (e ≡ d .entry) ⊎ (outranks e (d .entry) ≡ true)
-        higher e q u = go (outranks e (d .entry)) refl
-          where
-            go : (b : Bool) → outranks e (d .entry) ≡ b → (e ≡ d .entry) ⊎ (outranks e (d .entry) ≡ true)
-            go true b = inr b
-            go false b =
-                let s = current-from (c .stores o) (d .entry .plot) e q in
-                let y : ℕ = s .0 in
-                let hy = visible-held n p two eight (entryIn (c .log)) (writerPast (c .log)) c w o (s .0) lt (s .2) in
-                let my = held-made n p two eight (entryIn (c .log)) (writerPast (c .log)) c w o (s .0) hy in
-                let ey : e ≡ entryIn (c .log) (s .0) = s .3 ∙ w .offices o .entry-is (s .0) hy in
-                let md = made-m d i in
-                let ed : entryIn (c .log) (idOf (d .entry)) ≡ d .entry = A .entry d i in
-                let oke : entryOk n p e ≡ true = ap (entryOk n p) ey ∙ w .good (s .0) my .ok in
-                let okd : entryOk n p (d .entry) ≡ true = ap (entryOk n p) (sym ed) ∙ w .good (idOf (d .entry)) md .ok in
-                let le : length (e .clock) ≡ 8 = ap (λ (z : Entry). length (z .clock)) ey ∙ w .good (s .0) my .clock8 in
-                let ld : length (d .entry .clock) ≡ 8 = ap (λ (z : Entry). length (z .clock)) (sym ed) ∙ w .good (idOf (d .entry)) md .clock8 in
-                let id : idOf e ≡ idOf (d .entry) = outranks-total n p n p e (d .entry) oke okd (le ∙ sym ld) b u in
-                let ye : s .0 ≡ idOf (d .entry) = sym (w .good (s .0) my .id-is) ∙ ap idOf (sym ey) ∙ id in
-                inl (ey ∙ ap (entryIn (c .log)) ye ∙ ed)
+        let x = current-made o lt (d .entry .plot) (t .0) (t .1) in
+        (t .0, t .1, rw (x .2) at (above-made d (x .0) i (x .1) (rw (x .2) (t .2))))
 
     holds : Holds n rows g c
     holds =

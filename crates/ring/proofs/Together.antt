@@ -1,6 +1,6 @@
 -- What a reading hands back, beside its plots: which pairs there are. Assumes nothing.
 use Prim.Native.Nat.{ℕ}
-use mathlib.Core.List.{List, List·Memᴰ, List·Memᴰ·cases-cons, List·Memᴰ·head, List·Memᴰ·not-nil, List·Memᴰ·tail, [], _∷_, map}
+use mathlib.Core.List.{List, List·Memᴰ, List·Memᴰ·cases-cons, List·Memᴰ·eq-of-singleton, List·Memᴰ·head, List·Memᴰ·not-nil, List·Memᴰ·tail, [], _∷_, map}
 use mathlib.Core.Logic.{⊎-elim}
 use mathlib.Core.Path.{_∙_, _≡_, ap, refl, sym}
 use Rattle.store.specs.Offices.{Found}
@@ -11,6 +11,11 @@ pub together-plots : (c : ℕ → Found) (qs : List ℕ) → map (λ (r : ℕ ×
 unfolding together
 together-plots c [] = refl
 together-plots c (q ∷ qs) = ap (λ (l : List ℕ). q ∷ l) (together-plots c qs)
+
+-- of one plot
+pub together-one : (q : ℕ) (x f : Found) → List·Memᴰ f (x ∷ []) → List·Memᴰ (q, f) (together (q ∷ []) (x ∷ []))
+unfolding together
+together-one q x f m = List·Memᴰ·head (ap (λ (y : Found). (q, y)) (List·Memᴰ·eq-of-singleton m))
 
 pub together-in : (qs : List ℕ) (fs : List Found) (q : ℕ) (f : Found) → List·Memᴰ (q, f) (together qs fs) → List·Memᴰ f fs
 unfolding together

@@ -8,11 +8,11 @@ use native.Mathlib.Omega.{arith}
 use lib.Dec.{leb, ltb}
 use lib.ListN.{getD, length, set}
 use borrow.Author.Tests.{ltb-true}
-use Rattle.causal.specs.Clocks.{join}
+use Rattle.causal.specs.Clocks.{Covers, join}
 use Rattle.causal.specs.Codes.{check, orElse}
 use Rattle.causal.specs.Sets.{IdSet, has, isIn}
 use Rattle.causal.proofs.Clocks.{join-at}
-use Rattle.causal.proofs.Sets.{in-is, in-or-out, out-is}
+use Rattle.causal.proofs.Sets.{in-is, in-or-out, is-in, out-is}
 use Rattle.causal.proofs.Tests.{eq-or-ne}
 use Rattle.frame.specs.Calls.{laid}
 use Rattle.frame.specs.Entries.{clockOk, entryOk, idOf}
@@ -21,20 +21,22 @@ use Rattle.frame.specs.Sessions.{Content, sessionOk}
 use Rattle.frame.specs.Tokens.{rowsOf}
 use Rattle.frame.specs.declared.entry.Entry.{Entry}
 use Rattle.frame.specs.declared.entry.Frame.{Frame}
+use Rattle.frame.proofs.Entries.{entry-facts}
 use Rattle.frame.proofs.Sessions.{session-facts}
 use Rattle.store.specs.Offices.{Office, hold, made, maxTo, visibleAt}
 use Rattle.office.specs.Calls.{Result, given, holdAll, missing, newEntry, refusal, sentOf, writeCode, writeOn, writeSends, wroteSession}
-use Rattle.office.proofs.New.{Counting, Writable, deps-from, deps-set, deps-to, id-is, max-le, new-clock8, new-next, new-not-held, new-ok, place-at, place-own}
+use Rattle.office.proofs.New.{Counting, Writable, deps-from, deps-set, deps-to, id-is, max-ge, max-le, new-clock8, new-next, new-not-held, new-ok, place-at, place-own}
 use Rattle.mesh.specs.Ring.{Shape}
 use Rattle.mesh.specs.Sessions.{Picked, Writes, picked-nil, picked-skip, picked-take}
 use Rattle.mesh.specs.World.{Write, Written, frames}
 use Rattle.mesh.proofs.Sessions.{sound-later, write-law, write-ready, write-sound}
 use Rattle.mesh.proofs.Write.{write-inv}
 use Rattle.ring.specs.Holds.{Distinct}
+use Rattle.ring.specs.Later.{Later}
 use Rattle.ring.specs.Run.{Event, Made, Tracked, eventOf, lastOf, nextOf, onContents, refusedBy, upd, writeBy, wrote}
 use Rattle.ring.proofs.Base.{Fine, event-fine, events-more, facts, held-made, held-range, made-range, own-code, read-held, read-within, refused-whole, visible-held}
 use Rattle.ring.proofs.Change.{Changed, Never, hold-changed}
-use Rattle.ring.proofs.Clocks.{ClockFit, Clocks, Under, fit-later, later, made-over, upd-mono}
+use Rattle.ring.proofs.Clocks.{ClockFit, Clocks, Under, fit-later, later, made-over, under-outranks, upd-mono}
 use Rattle.ring.proofs.Fit.{Agrees, EventFit, Good, OfficeFit, SessionFit, Sys, TrackedFit, Whole, frameId, ids, mem-set, seen, shape, upd-case, upd-other, upd-said, upd-same, upd-self, world, wpast}
 use Rattle.ring.proofs.Log.{distinct-more}
 
@@ -545,17 +547,44 @@ module _ (n p : ℕ) (two : 2 ≤ n) (eight : n ≤ 8) (E : ℕ → Entry) (P : 
       unfolding newEntry
       serial-is = refl
 
-      -- what the new entry depends on is under it
-      new-under : (d : ℕ) → has (E k .deps) d ≡ 1 → Under E d k
+      -- what is nowhere above it, and at this office not above the count, is under it
+      under-new : (d : ℕ) → Covers (e .clock) (E d .clock) → getD (E d .clock) o 0 ≤ made O → Under (E d) e
+      under-new d c l =
+          let q : getD (E d .clock) (e .office) 0 ≡ getD (E d .clock) o 0 = ap (λ (y : ℕ). getD (E d .clock) y 0) office-is in
+          record { le = c; lt = omega (arith, serial-is) }
+
+      -- what the new entry depends on
+      new-under : (d : ℕ) → has (E k .deps) d ≡ 1 → Under (E d) (E k)
       new-under d h =
           let src = e-from d (rw (← e-is) at h) in
+          rw e-is at
+          (under-new d (λ j l. omega (arith, KS .over d src j l, above j l)) (omega (arith, KS .over d src o (omega (arith, lt, eight)), KS .bound o lt)))
+
+      -- what its office shows
+      shown-under : (d : ℕ) → has (O .visible) d ≡ 1 → Under (E d) e
+      shown-under d v = under-new d (λ j l. ⊎-elim (λ (q : j ≡ o). rw q (omega (arith, at-own, low))) (other j l) (eq-or-ne j o)) low
+        where
+          h : has (O .held) d ≡ 1
+          h = visible-held n p two eight E P g w o d lt v
+
+          low : getD (E d .clock) o 0 ≤ made O
+          low = K .bound d (held-made n p two eight E P g w o d h) o lt
+
+          other : (j : ℕ) → j < 8 → (j ≡ o → ⊥) → getD (E d .clock) j 0 ≤ getD (e .clock) j 0
+          other j l q =
+              let a : visibleAt O j d ≡ getD (E d .clock) j 0 =
+              ap (λ (t : Bool). cond t (getD (O .entry d .clock) j 0) 0) (is-in (O .visible) d v)
+              ∙ ap (λ (y : Entry). getD (y .clock) j 0) (fit .entry-is d h)
+              in
+              omega (arith, at-other j l q, max-ge (visibleAt O j) (32 * n) d (held-range n p two eight E P g w o d h))
+
+      pub over-shown : (d : ℕ) → has (O .visible) d ≡ 1 → Later e (E d)
+      over-shown d v =
+          let u = shown-under d v in
+          let m = held-made n p two eight E P g w o d (visible-held n p two eight E P g w o d lt v) in
           record {
-            le = λ j l. omega (arith, KS .over d src j l, above j l, e-at j);
-            lt =
-                let a : E k .office ≡ o = ap (λ (y : Entry). y .office) (sym e-is) ∙ office-is in
-                let b : E k .serial ≡ made O + 1 = ap (λ (y : Entry). y .serial) (sym e-is) ∙ serial-is in
-                let c : getD (E d .clock) (E k .office) 0 ≡ getD (E d .clock) o 0 = ap (λ (y : ℕ). getD (E d .clock) y 0) a in
-                omega (arith, KS .over d src o (omega (arith, lt, eight)), KS .bound o lt);
+            outranked = under-outranks (E d) e n p eight (entry-facts n p e (new-ok writable)) (new-clock8 writable) (w .good d m .clock8) u;
+            covered = u .le;
           }
 
       mine-clock : ClockFit n E (upd (g .stores) o (holdAll O (sentOf O s plot value))) (wroteSession O s plot value)
@@ -682,3 +711,26 @@ module _ (n p : ℕ) (two : 2 ≤ n) (eight : n ≤ 8) (E : ℕ → Entry) (P : 
       go true qa true qb false qc d f qf h A = kept _
       go true qa false qb c qc d f qf h A = kept _
       go false qa b qb c qc d f qf h A = kept _
+
+  -- the entry of a write that is not refused, the last of the session's own, is later than all that its office shows
+  pub write-over : Clocks n E g → Agrees E P (writeBy onContents n g o i r (writeOn O s plot value row) (writeOn O s plot value row .code) .log)
+      → writeOn O s plot value row .code ≡ 0 → (d : ℕ) → has (O .visible) d ≡ 1 → Later (lastOf (writeOn O s plot value row .session .own)) (E d)
+  unfolding writeOn check
+  write-over K =
+      rw write-code
+      (go (sessionOk (O .offices) (O .plots) s) refl (ltb plot (O .plots)) refl (ltb value 268435456) refl (ltb (length (s .own)) 16)
+      (ltb (made O) 32) refl T8)
+    where
+      go : (a : Bool) → sessionOk (O .offices) (O .plots) s ≡ a → (b : Bool) → ltb plot (O .plots) ≡ b → (c : Bool) → ltb value 268435456 ≡ c
+          → (d : Bool) → (f : Bool) → ltb (made O) 32 ≡ f → (h : Bool) →
+          Agrees E P (after (check a 3 (check b 4 (check c 5 (check d 7 (check f 6 (check h 8 0)))))) .log) →
+          given (check a 3 (check b 4 (check c 5 (check d 7 (check f 6 (check h 8 0)))))) O s row R .code ≡ 0 → (x : ℕ) → has (O .visible) x ≡ 1 →
+          Later (lastOf (given (check a 3 (check b 4 (check c 5 (check d 7 (check f 6 (check h 8 0)))))) O s row R .session .own)) (E x)
+      go true qa true qb true qc true true qf true A z x v =
+          rw last-is (over-shown (rw (ap (λ (x : Sys). x .log) wrote-is) at A) qa qb qc qf K x v)
+      go true qa true qb true qc true true qf false A z x v = absurd (omega arith)
+      go true qa true qb true qc true false qf h A z x v = absurd (omega arith)
+      go true qa true qb true qc false f qf h A z x v = absurd (omega arith)
+      go true qa true qb false qc d f qf h A z x v = absurd (omega arith)
+      go true qa false qb c qc d f qf h A z x v = absurd (omega arith)
+      go false qa b qb c qc d f qf h A z x v = absurd (omega arith)

@@ -9,7 +9,8 @@
 --   run → Holds                 in `claim` too; given apart, since the program stands on them: `opens`, `demand3`: openings in range are accepted, and
 --                               every run keeps what paper 01 asks of it (specs/Run.antt, specs/Holds.antt)
 --                               Beside it `settings`, of the call that paper 01 does not have: specs/Settings.antt; `joint-together`, what the
---                               replies of a joint reading show together: specs/Joint.antt
+--                               replies of a joint reading show together: specs/Joint.antt; `later-counts`, an entry and its writer's past:
+--                               specs/Later.antt
 -- Assumes nothing.
 use base.Logic.{SProp}
 use contract.Monad.{Fun}
@@ -28,6 +29,7 @@ use Rattle.host.proofs.Contract.{HostContracts}
 use Rattle.ring.specs.Claim.{Answered, Claim}
 use Rattle.ring.specs.Holds.{Demand3, Opens}
 use Rattle.ring.specs.Joint.{JointTogether}
+use Rattle.ring.specs.Later.{LaterCounts}
 use Rattle.ring.specs.Settings.{SettingsStay}
 
 -- for every model of memory
@@ -48,3 +50,4 @@ pub record ThirdDemand : Type 2 where
   pub demand3 : Demand3
   pub settings : SettingsStay
   pub joint-together : JointTogether
+  pub later-counts : LaterCounts

@@ -4,4 +4,5 @@ pub mod Answers
 pub mod Claim
 pub mod Settings
 pub mod Joint
+pub mod Later
 pub mod Demand

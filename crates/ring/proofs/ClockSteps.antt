@@ -1,41 +1,28 @@
--- In every run an entry outranks every entry of its writer's past. Not part of the third demand; it is what a write's clock is for.
--- Assumes nothing.
+-- Every call keeps the clocks: what Clocks.antt and WriteKeeps.antt say of single calls, of any call; and so does the start. Assumes nothing.
 use Prim.Native.Nat.{ℕ, _<_, _≤_, suc, zero}
 use mathlib.Core.Bool.{Bool, cond, false, true}
-use mathlib.Core.List.{List, List·Memᴰ, List·Memᴰ·append-cases, List·Memᴰ·eq-of-singleton, List·Memᴰ·not-nil, Memᴰ·map, [], _∷_}
+use mathlib.Core.List.{List, List·Memᴰ, List·Memᴰ·append-cases, List·Memᴰ·eq-of-singleton, List·Memᴰ·not-nil, [], _∷_}
 use mathlib.Core.Logic.{⊎-elim}
 use mathlib.Core.Path.{_≡_, refl}
 use native.Mathlib.Omega.{arith}
 use lib.Dec.{eqb}
-use lib.ListN.{getD, length}
+use lib.ListN.{length}
 use borrow.Author.Tests.{eqb-true}
-use Rattle.causal.specs.Clocks.{covers}
 use Rattle.causal.specs.Lists.{zeros}
 use Rattle.causal.specs.Sets.{has}
-use Rattle.causal.proofs.Clocks.{covers-by}
 use Rattle.causal.proofs.Sets.{has-zeros, zero-at}
-use Rattle.frame.specs.Entries.{idOf, outranks}
 use Rattle.frame.specs.Frames.{accepts, frameOf}
 use Rattle.frame.specs.Sessions.{Content, freshContent}
 use Rattle.frame.specs.TokenCalls.{writeTokenCode}
 use Rattle.frame.specs.declared.entry.Entry.{Entry}
-use Rattle.store.specs.Offices.{Office, emptyOffice, need}
+use Rattle.store.specs.Offices.{Office, emptyOffice}
 use Rattle.office.specs.Calls.{freshCode, jointOn, parsed, readOn, receiveOn}
-use Rattle.mesh.specs.World.{Reach, self, via}
-use Rattle.ring.specs.Run.{Call, Event, Made, Tracked, TrackedToken, answered, at, contentsRun, startBy, fromToken, noted-event, onContents, run, starting, step, tokenBy, turnedBy, withSession, withToken, wordsBy, wordsRun, writerPast}
-use Rattle.ring.proofs.Base.{dep-made, facts, not-nine}
+use Rattle.ring.specs.Run.{Call, Event, Tracked, TrackedToken, answered, fromToken, noted-event, onContents, startBy, starting, step, tokenBy, turnedBy, withSession, withToken, wordsBy}
+use Rattle.ring.proofs.Base.{not-nine}
 use Rattle.ring.proofs.ByCases.{step-each}
-use Rattle.ring.proofs.Clocks.{ClockFit, Clocks, Under, joint-clocks, one-clocks, receive-clocks, under-outranks}
-use Rattle.ring.proofs.Fit.{Agrees, Sys, Whole, ids, shape, upd-self}
-use Rattle.ring.proofs.Log.{entryIn, log-agrees}
-use Rattle.ring.proofs.Steps.{Ok, ok-whole, run-ok, start-ok, step-adds, step-ok}
-use Rattle.ring.proofs.Theorem.{demand3}
+use Rattle.ring.proofs.Clocks.{ClockFit, Clocks, joint-clocks, one-clocks, receive-clocks}
+use Rattle.ring.proofs.Fit.{Agrees, Sys, Whole, upd-self}
 use Rattle.ring.proofs.WriteKeeps.{write-clocks}
-
--- e outranks d, and no number of its clock is below the corresponding one of d's
-pub record Later (e d : Entry) : Type 0 where
-  pub outranked : outranks e d ≡ true
-  pub covered : covers (e .clock) (d .clock) ≡ true
 
 module _ (n p : ℕ) (two : 2 ≤ n) (eight : n ≤ 8) where
   module _ (E : ℕ → Entry) (P : ℕ → List ℕ) where
@@ -77,7 +64,7 @@ module _ (n p : ℕ) (two : 2 ≤ n) (eight : n ≤ 8) where
         }
 
     -- every call, where the invariant holds before
-    step-clocks : (g : Sys) → Whole n p two E P g → Agrees E P (g .log) → Clocks n E g → (c : Call) → Agrees E P (step onContents n g c .log)
+    pub step-clocks : (g : Sys) → Whole n p two E P g → Agrees E P (g .log) → Clocks n E g → (c : Call) → Agrees E P (step onContents n g c .log)
         → Clocks n E (step onContents n g c)
     unfolding onContents
     step-clocks g w A K =
@@ -126,7 +113,7 @@ module _ (n p : ℕ) (two : 2 ≤ n) (eight : n ≤ 8) where
             (noted g (answered 0 0 []) K)
         by-from r i (suc c) = noted g (answered (suc c) 0 []) K
 
-    start-clocks : Clocks n E (starting (λ o. emptyOffice n o p))
+    pub start-clocks : Clocks n E (starting (λ o. emptyOffice n o p))
     start-clocks =
         record {
           sessions = λ r m. absurd (List·Memᴰ·not-nil m);
@@ -134,67 +121,3 @@ module _ (n p : ℕ) (two : 2 ≤ n) (eight : n ≤ 8) where
           bound = λ k m. absurd (List·Memᴰ·not-nil m);
           deps = λ k d m. absurd (List·Memᴰ·not-nil m);
         }
-
-  abbrev Clocked : Sys → Type 0
-  Clocked g = (E : ℕ → Entry) (P : ℕ → List ℕ) → Agrees E P (g .log) → Clocks n E g
-
-  run-clocks : (cs : List Call) (g : Sys) → Ok n p two eight g → Clocked g → Clocked (run onContents n g cs)
-  unfolding run
-  run-clocks [] g k K = K
-  run-clocks (c ∷ cs) g k K =
-      run-clocks cs (step onContents n g c) (step-ok n p two eight g k c)
-      (λ E P A. let B = step-adds n p two eight E P g c A in step-clocks E P g (k .whole E P B) B (K E P B) c A)
-
-  -- ---- the law
-
-  module _ (E : ℕ → Entry) (P : ℕ → List ℕ) (g : Sys) (w : Whole n p two E P g) (K : Clocks n E g) where
-    reached-made : (x q : ℕ) → Reach (shape n two E) x q → List·Memᴰ x (ids (g .log))
-        → List·Memᴰ q (ids (g .log)) × ((j : ℕ) → j < 8 → getD (E q .clock) j 0 ≤ getD (E x .clock) j 0)
-    reached-made x q (self) m = (m, λ j l. omega arith)
-    reached-made x q (via {y = y} {d = d} c h) m =
-        let t = reached-made x y c m in
-        let u = K .deps y d (t .0) h in
-        (dep-made n p two eight E P g w y d (t .0) h, λ j l. omega (arith, u .le j l, t .1 j l))
-
-    past-under : (k q : ℕ) → List·Memᴰ k (ids (g .log)) → List·Memᴰ q (P k) → List·Memᴰ q (ids (g .log)) × Under E q k
-    past-under k q m i =
-        let t = w .law k q m i in
-        let u = K .deps k (t .0) m (t .1) in
-        let v = reached-made (t .0) q (t .2) (dep-made n p two eight E P g w k (t .0) m (t .1)) in
-        let F = facts n p two eight E P g w k m in
-        (v .0, record { le = λ j l. omega (arith, u .le j l, v .1 j l); lt = omega (arith, u .lt, v .1 (E k .office) (omega (arith, F .bounds .office-ok))) })
-
-    pub past-later : (k q : ℕ) → List·Memᴰ k (ids (g .log)) → List·Memᴰ q (P k) → Later (E k) (E q)
-    past-later k q m i =
-        let t = past-under k q m i in
-        record {
-          outranked = under-outranks E q k n p eight (facts n p two eight E P g w k m) (w .good k m .clock8) (w .good q (t .0) .clock8) (t .1);
-          covered = covers-by (E k .clock) (E q .clock) (t .1 .le);
-        }
-
--- in every run on words, each entry made is later than every entry of its writer's past
-pub corrects : (n p : ℕ) → 2 ≤ n → n ≤ 8 → 1 ≤ p → p ≤ 64 → (rows : ℕ → List ℕ) → ((o : ℕ) → o < n → need n ≤ length (rows o))
-    → (cs : List Call) (m d : Made) → List·Memᴰ m (wordsRun n p rows cs .log) → List·Memᴰ d (wordsRun n p rows cs .log)
-    → List·Memᴰ (idOf (d .entry)) (m .past) → Later (m .entry) (d .entry)
-unfolding contentsRun
-corrects n p two eight one p64 rows long cs m d im id ip =
-    go (run onContents n (starting (λ o. emptyOffice n o p)) cs)
-    (run-ok n p two eight cs (starting (λ o. emptyOffice n o p)) (start-ok n p two eight))
-    (run-clocks n p two eight cs (starting (λ o. emptyOffice n o p)) (start-ok n p two eight) (λ E P A. start-clocks n p two eight E P))
-    (rw L at im) (rw L at id)
-  where
-    L : wordsRun n p rows cs .log ≡ contentsRun n p cs .log
-    L = demand3 n p two eight one p64 rows long cs .same .log
-
-    go : (g : Sys) → Ok n p two eight g → ((E : ℕ → Entry) (P : ℕ → List ℕ) → Agrees E P (g .log) → Clocks n E g) → List·Memᴰ m (g .log)
-        → List·Memᴰ d (g .log) → Later (m .entry) (d .entry)
-    go g k K a b =
-        let A = log-agrees (g .log) (k .distinct) in
-        let em : entryIn (g .log) (idOf (m .entry)) ≡ m .entry = A .entry m a in
-        let ed : entryIn (g .log) (idOf (d .entry)) ≡ d .entry = A .entry d b in
-        let q : List·Memᴰ (idOf (d .entry)) (writerPast (g .log) (idOf (m .entry))) = rw (A .past m a) ip in
-        let t =
-        past-later n p two eight (entryIn (g .log)) (writerPast (g .log)) g (ok-whole n p two eight g k)
-        (K (entryIn (g .log)) (writerPast (g .log)) A) (idOf (m .entry)) (idOf (d .entry)) (Memᴰ·map (λ (x : Made). idOf (x .entry)) a) q
-        in
-        rw (em, ed) at t
