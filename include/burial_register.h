@@ -39,11 +39,13 @@
  *   - A session sees its own entries at once, at every office, hidden or not: a reading hands
  *     back the higher-ranked of the shown entry and the session's own.
  *
- * Rank is the same at every office. An entry ranks above all that its writer had read or written,
- * and above all that its office showed when it was written. Of two that did not know of each
- * other, the clocks are compared number by number from office 0 on, and the first greater number
- * decides; where the clocks are equal, the higher office. So a later value can lose to an older
- * one that was still hidden where the later one was written: who corrects a plot reads it first.
+ * Rank is the same at every office: clocks are compared number by number from office 0 on, and
+ * the first greater number decides; where the clocks are equal, the higher office. In a ring whose
+ * hosts keep the rules of section 3 an entry ranks above all that its writer had read or written,
+ * and above all that its office showed when it was written. So who corrects an entry that he wrote
+ * or was handed, at whatever office, is heard: where his correction is shown, and wherever someone
+ * reads who has read it, no reading hands back what it corrects. But a later value can lose to an
+ * older one that was hidden where the later one was written, and that its writer did not know.
  *
  *
  * 2 A WHOLE PROGRAM

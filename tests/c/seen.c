@@ -145,6 +145,43 @@ static void test_rank(void)
     end("a correction by one who has read it wins");
 }
 
+/* He writes at office 0 and at once anew at office 1: the correction's journey ends at office 0, that of the
+ * first entry by itself at office 2. */
+static void test_correction(void)
+{
+    open_ring();
+    struct burial_session foreman = fresh(), visitor = fresh();
+    struct sent first = writes(&foreman, 0, 5, 709), correction = writes(&foreman, 1, 5, 710);
+    correction = hears(2, &correction);
+    correction = hears(0, &correction);
+    expect(correction.words == 0 && shown(0, 5) == 710);
+    first = hears(1, &first);
+    first = hears(2, &first);
+    expect(first.words == 0 && shown(2, 5) == 709);
+    for (uint32_t own = 0; own < RING; own++)
+        expect(reads(&foreman, own, 5) == 710);
+    end("an own entry corrected in another office: he reads the correction everywhere");
+    for (uint32_t own = 0; own < RING; own++)
+        expect(reads(&visitor, own, 5) == 710 && shown(own, 5) == 710);
+    end("wherever a correction is shown, it is what is read, and not what it corrects");
+}
+
+/* Who writes at office 2 has not read what is shown there. */
+static void test_unread(void)
+{
+    open_ring();
+    struct burial_session early = fresh(), late = fresh(), visitor = fresh();
+    struct sent sent = writes(&early, 0, 5, 709);
+    sent = hears(1, &sent);
+    hears(2, &sent);
+    expect(shown(2, 5) == 709);
+    sent = writes(&late, 2, 5, 711);
+    sent = hears(0, &sent);
+    sent = hears(1, &sent);
+    expect(sent.words == 0 && reads(&visitor, 1, 5) == 711 && reads(&visitor, 2, 5) == 711);
+    end("an entry ranks above what its office showed, read or not");
+}
+
 /* Two plots, one of them hers. */
 static void test_own_jointly(void)
 {
@@ -249,6 +286,8 @@ int main(void)
     test_later();
     test_second_journey();
     test_rank();
+    test_correction();
+    test_unread();
     test_own_jointly();
     test_together();
     test_alone();

@@ -1,5 +1,5 @@
 -- Every call keeps the clocks: what Clocks.antt and WriteKeeps.antt say of single calls, of any call; and so does the start. Assumes nothing.
-use Prim.Native.Nat.{ℕ, _<_, _≤_, suc, zero}
+use Prim.Native.Nat.{ℕ, _≤_, suc, zero}
 use mathlib.Core.Bool.{Bool, cond, false, true}
 use mathlib.Core.List.{List, List·Memᴰ, List·Memᴰ·append-cases, List·Memᴰ·eq-of-singleton, List·Memᴰ·not-nil, [], _∷_}
 use mathlib.Core.Logic.{⊎-elim}

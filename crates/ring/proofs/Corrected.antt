@@ -1,7 +1,7 @@
--- A foreman corrects his own entry in another office: a run in which what `LaterCounts` speaks of is there, computed on contents, and so on words
--- whatever the rows held before they were opened. Assumes nothing.
+-- A foreman corrects his own entry in another office: a run that has what `LaterCounts` asks of a correction, and the answer of a reading there;
+-- computed on contents, and so on words whatever the rows held before they were opened. Assumes nothing.
 use Prim.Native.Nat.{ℕ, _<_, _≤_}
-use mathlib.Core.List.{List, List·Memᴰ·head, List·Memᴰ·tail, [], _∷_, map}
+use mathlib.Core.List.{List, List·Memᴰ·head, List·Memᴰ·tail, [], _++_, _∷_, map}
 use mathlib.Core.Path.{_∙_, _≡_, ap, refl}
 use native.Mathlib.Omega.{arith}
 use lib.Count.{trailingZeros}
@@ -31,10 +31,10 @@ use Rattle.ring.proofs.Theorem.{demand3}
 abbrev row : List ℕ
 row = replicate 64 0
 
--- he writes plot 5 at office 0, goes to office 1 and writes it anew before any frame was heard: that write sends both; office 2 and then office 0
--- hear both, and a visitor reads plot 5 at office 0
-abbrev pub calls : List Call
-calls =
+-- he writes plot 5 at office 0, goes to office 1 and writes it anew before any frame was heard: that write sends both entries, and office 2 and
+-- then office 0 hear both
+abbrev pub heard : List Call
+heard =
     fresh 3
     ∷ fresh 3
     ∷ writing 0 0 5 709 row
@@ -43,9 +43,13 @@ calls =
     ∷ receiving 2 row
     ∷ receiving 0 row
     ∷ receiving 0 row
-    ∷ reading 0 1 5
     ∷ []
 
+-- a visitor reads plot 5 at office 0
+abbrev pub visited : List Call
+visited = heard ++ (reading 0 1 5 ∷ [])
+
+-- by the clock of office 1 alone it would be 0, 1, .. and lose to A's 1, 0, ..
 abbrev pub entryC : Entry
 entryC =
     record { office = 1; serial = 1; plot = 5; value = 710; clock = 1 ∷ 1 ∷ 0 ∷ 0 ∷ 0 ∷ 0 ∷ 0 ∷ 0 ∷ []; deps = 1 ∷ 0 ∷ 0 ∷ 0 ∷ 0 ∷ 0 ∷ 0 ∷ 0 ∷ [] }
@@ -57,29 +61,33 @@ abbrev pub correction : Made
 correction = record { entry = entryC; past = 0 ∷ [] }
 
 pub record Corrected (rows : ℕ → List ℕ) : Type 0 where
-  pub knew : Knew (wordsRun 3 64 rows calls .log) correction first
-  pub shows : Shows (wordsRun 3 64 rows calls .stores 0) entryC
-  -- the visitor's reading
-  pub handed-back : map (λ (v : Event). v .reads) (at (wordsRun 3 64 rows calls .events) 8) ≡ ((5, Some entryC) ∷ []) ∷ []
+  pub knew : Knew (wordsRun 3 64 rows heard .log) correction first
+  -- both are visible at office 0
+  pub shows : Shows (wordsRun 3 64 rows heard .stores 0) entryC
+  pub shows-first : Shows (wordsRun 3 64 rows heard .stores 0) entryA
+  -- and the visitor is handed back the correction
+  pub handed-back : map (λ (v : Event). v .reads) (at (wordsRun 3 64 rows visited .events) 8) ≡ ((5, Some entryC) ∷ []) ∷ []
 
 record Computed : Type 0 where
-  log : contentsRun 3 64 calls .log ≡ first ∷ correction ∷ []
-  shows : has (contentsRun 3 64 calls .stores 0 .visible) (idOf entryC) ≡ 1
-  handed-back : map (λ (v : Event). v .reads) (at (contentsRun 3 64 calls .events) 8) ≡ ((5, Some entryC) ∷ []) ∷ []
+  log : contentsRun 3 64 heard .log ≡ first ∷ correction ∷ []
+  shows : has (contentsRun 3 64 heard .stores 0 .visible) (idOf entryC) ≡ 1
+  shows-first : has (contentsRun 3 64 heard .stores 0 .visible) (idOf entryA) ≡ 1
+  handed-back : map (λ (v : Event). v .reads) (at (contentsRun 3 64 visited .events) 8) ≡ ((5, Some entryC) ∷ []) ∷ []
 
 computed : Computed
 unfolding trailingZeros both either implies allBelow check orElse part tab sumBelow eqWords bit has isIn unite minus inserted wordIn subsetOf lowestIn lowestOf join higher ranksAbove outranks clockWords idWordIf idWordsTo idWords total summed clockPlaceOk clockOk idsPlaceOk idsOk boundsOk entryOk sameContent ringOk bodyWords frameWords laid idsOf ownOk sessionOk rowsOf steps revealed made maxTo clockOf reveal hold better consider bestTo current bestOwn entryCode ownCode noted notedAll readCode handed newEntry missing sentOf writeCode holdAll wroteSession receiveCode holdNew receivedBy receiveSends readOn writeOn receiveOn freshCode at upd nextOf writerPast gained together lastOf step run onContents contentsRun
-computed = record { log = refl; shows = refl; handed-back = refl }
+computed = record { log = refl; shows = refl; shows-first = refl; handed-back = refl }
 
 pub corrected : (rows : ℕ → List ℕ) → ((o : ℕ) → o < 3 → need 3 ≤ length (rows o)) → Corrected rows
 corrected rows long =
     record {
       knew =
-          rw (same .log ∙ computed .log)
+          rw (same heard .log ∙ computed .log)
           (record { made = List·Memᴰ·tail (List·Memᴰ·head refl); earlier = List·Memᴰ·head refl; known = List·Memᴰ·head refl });
-      shows = ap (λ (O : Office). has (O .visible) (idOf entryC)) (same .stores 0 (omega arith)) ∙ computed .shows;
-      handed-back = ap (λ (l : List Event). map (λ (v : Event). v .reads) (at l 8)) (same .events) ∙ computed .handed-back;
+      shows = ap (λ (O : Office). has (O .visible) (idOf entryC)) (same heard .stores 0 (omega arith)) ∙ computed .shows;
+      shows-first = ap (λ (O : Office). has (O .visible) (idOf entryA)) (same heard .stores 0 (omega arith)) ∙ computed .shows-first;
+      handed-back = ap (λ (l : List Event). map (λ (v : Event). v .reads) (at l 8)) (same visited .events) ∙ computed .handed-back;
     }
   where
-    same : Same 3 rows (wordsRun 3 64 rows calls) (contentsRun 3 64 calls)
-    same = demand3 3 64 (omega arith) (omega arith) (omega arith) (omega arith) rows long calls .same
+    same : (cs : List Call) → Same 3 rows (wordsRun 3 64 rows cs) (contentsRun 3 64 cs)
+    same cs = demand3 3 64 (omega arith) (omega arith) (omega arith) (omega arith) rows long cs .same

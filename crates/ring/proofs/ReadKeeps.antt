@@ -330,8 +330,9 @@ module _ (n p : ℕ) (two : 2 ≤ n) (eight : n ≤ 8) (E : ℕ → Entry) (P : 
         let l : k < 32 * O1 .offices = rw (C .fit .offices) (made-range n p two eight E P g w k (vis-made k v)) in
         K .over-visible q f m (E k) (rw is at (current-over O1 q k l v (ap (λ (x : Entry). x .plot) is ∙ e)))
 
-    good : (q : ℕ) (f : Found) → List·Memᴰ (q, f) (together plots fs) → (k : ℕ) → List·Memᴰ k past′ → E k .plot ≡ q → Over f (E k)
-    good q f m k mk e =
+    -- nor what is in the past
+    pub over-known : (q : ℕ) (f : Found) → List·Memᴰ (q, f) (together plots fs) → (k : ℕ) → List·Memᴰ k past′ → E k .plot ≡ q → Over f (E k)
+    over-known q f m k mk e =
         ⊎-elim (λ h. over-shown q f m k (there k h) e) own (past-known S′ (wpast P) (world g′) I′ (seen s′ past′) S2 o all-visible k mk)
       where
         own : List·Memᴰ k (map idOf (s′ .own)) → Over f (E k)
@@ -382,7 +383,7 @@ module _ (n p : ℕ) (two : 2 ≤ n) (eight : n ≤ 8) (E : ℕ → Entry) (P : 
           tokens-ok = w .tokens-ok;
           events =
               events-more E P _ (g .events) _ (w .events)
-              (record { not10 = λ e. omega arith; not11 = λ e. omega arith; not12 = λ e. omega arith; reads = good; handed = kept; counted = counts; past-made = past-in });
+              (record { not10 = λ e. omega arith; not11 = λ e. omega arith; not12 = λ e. omega arith; reads = over-known; handed = kept; counted = counts; past-made = past-in });
         }
       where
         later : {s : Content} {past : List ℕ} → TrackedFit n two E P (world g) s past → TrackedFit n two E P (world g′) s past

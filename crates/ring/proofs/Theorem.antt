@@ -2,7 +2,7 @@
 use Prim.Native.Nat.{ℕ, _*_, _<_, _≤_}
 use mathlib.Core.Bool.{Bool, false, true}
 use mathlib.Core.List.{List, List·Memᴰ, Memᴰ·map, Memᴰ·of-map, [], _∷_}
-use mathlib.Core.Logic.{_⊎_, inl, inr}
+use mathlib.Core.Logic.{_⊎_, inl, inr, ⊎-elim}
 use mathlib.Core.Path.{_∙_, _≡_, ap, refl, sym}
 use lib.Dec.{ltb}
 use lib.ListN.{length}
@@ -100,7 +100,7 @@ module _ (n p : ℕ) (two : 2 ≤ n) (eight : n ≤ 8) (one : 1 ≤ p) (p64 : p 
     visible-c : (o x : ℕ) → o < n → has (officeOf (g .stores o) .visible) x ≡ 1 → has (c .stores o .visible) x ≡ 1
     visible-c o x lt h = ap (λ (O : Office). has (O .visible) x) (sym (S .stores o lt)) ∙ h
 
-    pub holds-entry : (q : ℕ) → q < n → (m : Made) → List·Memᴰ m (c .log) → has (c .stores q .held) (idOf (m .entry)) ≡ 1
+    holds-entry : (q : ℕ) → q < n → (m : Made) → List·Memᴰ m (c .log) → has (c .stores q .held) (idOf (m .entry)) ≡ 1
         → HoldsEntry (g .stores q) (m .entry)
     holds-entry q lq m i h =
         record {
@@ -119,28 +119,29 @@ module _ (n p : ℕ) (two : 2 ≤ n) (eight : n ≤ 8) (one : 1 ≤ p) (p64 : p 
 
     -- of two entries made, the one that the other does not outrank is the other, or outranks it
     pub above-made : (d x : Made) → List·Memᴰ d (c .log) → List·Memᴰ x (c .log) → outranks (d .entry) (x .entry) ≡ false
-        → (x .entry ≡ d .entry) ⊎ (outranks (x .entry) (d .entry) ≡ true)
+        → (x ≡ d) ⊎ (outranks (x .entry) (d .entry) ≡ true)
     above-made d x i j u = go (outranks (x .entry) (d .entry)) refl
       where
-        go : (b : Bool) → outranks (x .entry) (d .entry) ≡ b → (x .entry ≡ d .entry) ⊎ (outranks (x .entry) (d .entry) ≡ true)
+        go : (b : Bool) → outranks (x .entry) (d .entry) ≡ b → (x ≡ d) ⊎ (outranks (x .entry) (d .entry) ≡ true)
         go true b = inr b
         go false b =
             let v = made-ok x j in
             let t = made-ok d i in
-            let same = outranks-total n p n p (x .entry) (d .entry) (v .0) (t .0) (v .1 ∙ sym (t .1)) b u in
-            inl (ap (λ (y : Made). y .entry) (one-made (c .log) (k .distinct) x d j i same))
+            inl
+            (one-made (c .log) (k .distinct) x d j i
+            (outranks-total n p n p (x .entry) (d .entry) (v .0) (t .0) (v .1 ∙ sym (t .1)) b u))
 
-    current-made : (o : ℕ) → o < n → (plot : ℕ) (e : Entry) → current (c .stores o) plot ≡ Some e
-        → (x : Made) × List·Memᴰ x (c .log) × (x .entry ≡ e)
-    current-made o lt plot e q =
-        let s = current-from (c .stores o) plot e q in
-        let h = visible-held n p two eight (entryIn (c .log)) (writerPast (c .log)) c w o (s .0) lt (s .2) in
-        let m = held-made n p two eight (entryIn (c .log)) (writerPast (c .log)) c w o (s .0) h in
-        let t = Memᴰ·of-map (λ (x : Made). idOf (x .entry)) (c .log) m in
-        (t .0, t .1, sym (A .entry (t .0) (t .1)) ∙ ap (entryIn (c .log)) (t .2) ∙ sym (s .3 ∙ w .offices o .entry-is (s .0) h))
+    -- what is held is an entry made, whole
+    held-log : (o x : ℕ) → has (c .stores o .held) x ≡ 1
+        → (m : Made) × List·Memᴰ m (c .log) × (idOf (m .entry) ≡ x) × (c .stores o .entry x ≡ m .entry)
+    held-log o x h =
+        let m = held-made n p two eight (entryIn (c .log)) (writerPast (c .log)) c w o x h in
+        let t = Memᴰ·of-map (λ (y : Made). idOf (y .entry)) (c .log) m in
+        (t .0, t .1, t .2, w .offices o .entry-is x h ∙ ap (entryIn (c .log)) (sym (t .2)) ∙ A .entry (t .0) (t .1))
 
     pub is-current : (o : ℕ) → o < n → (d : Made) → List·Memᴰ d (c .log) → has (c .stores o .visible) (idOf (d .entry)) ≡ 1 →
-        (e : Entry) × (current (c .stores o) (d .entry .plot) ≡ Some e) × ((e ≡ d .entry) ⊎ (outranks e (d .entry) ≡ true))
+        (x : Made) × List·Memᴰ x (c .log) × (current (c .stores o) (d .entry .plot) ≡ Some (x .entry))
+        × ((x ≡ d) ⊎ (outranks (x .entry) (d .entry) ≡ true))
     is-current o lt d i h =
         let hh = visible-held n p two eight (entryIn (c .log)) (writerPast (c .log)) c w o (idOf (d .entry)) lt h in
         let is : c .stores o .entry (idOf (d .entry)) ≡ d .entry = w .offices o .entry-is (idOf (d .entry)) hh ∙ A .entry d i in
@@ -150,8 +151,10 @@ module _ (n p : ℕ) (two : 2 ≤ n) (eight : n ≤ 8) (one : 1 ≤ p) (p64 : p 
         let v = current-over (c .stores o) (d .entry .plot) (idOf (d .entry)) l h (ap (λ (y : Entry). y .plot) is) in
         let v′ : Over (current (c .stores o) (d .entry .plot)) (d .entry) = rw is at v in
         let t = over-some (current (c .stores o) (d .entry .plot)) (d .entry) v′ in
-        let x = current-made o lt (d .entry .plot) (t .0) (t .1) in
-        (t .0, t .1, rw (x .2) at (above-made d (x .0) i (x .1) (rw (x .2) (t .2))))
+        let s = current-from (c .stores o) (d .entry .plot) (t .0) (t .1) in
+        let x = held-log o (s .0) (visible-held n p two eight (entryIn (c .log)) (writerPast (c .log)) c w o (s .0) lt (s .2)) in
+        let e : t .0 ≡ x .0 .entry = s .3 ∙ x .3 in
+        (x .0, x .1, t .1 ∙ ap Some e, above-made d (x .0) i (x .1) (rw e at (t .2)))
 
     holds : Holds n rows g c
     holds =
@@ -159,6 +162,9 @@ module _ (n p : ℕ) (two : 2 ≤ n) (eight : n ≤ 8) (one : 1 ≤ p) (p64 : p 
           sound = sound n p two eight one p64 rows enough g c S k;
           distinct = rw (S .log) (k .distinct);
           one-of-id = λ m d i j. one-made (c .log) (k .distinct) m d (in-c m i) (in-c d j);
+          held-made = λ o x lt h.
+              let t = held-log o x (ap (λ (O : Office). has (O .held) x) (sym (S .stores o lt)) ∙ h) in
+              (t .0, in-g (t .0) (t .1), t .2, ap (λ (O : Office). O .entry x) (S .stores o lt) ∙ t .3);
           visible-made = λ o x lt h.
               let hh = visible-held n p two eight (entryIn (c .log)) (writerPast (c .log)) c w o x lt (visible-c o x lt h) in
               logged x (held-made n p two eight (entryIn (c .log)) (writerPast (c .log)) c w o x hh);
@@ -190,8 +196,11 @@ module _ (n p : ℕ) (two : 2 ≤ n) (eight : n ≤ 8) (one : 1 ≤ p) (p64 : p 
               ap (λ (O : Office). has (O .visible) (idOf (d .entry))) (S .stores o lt)
               ∙ past-shown o m (in-c m i) (visible-c o (idOf (m .entry)) lt h) (idOf (d .entry)) x;
           past-current = λ o lt m i h d j x.
-              let t = is-current o lt d (in-c d j) (past-shown o m (in-c m i) (visible-c o (idOf (m .entry)) lt h) (idOf (d .entry)) x) in
-              (t .0, ap (λ (O : Office). current O (d .entry .plot)) (S .stores o lt) ∙ t .1, t .2);
+              let t = is-current o lt d (in-c d j) (past-shown o m (in-c m i) (visible-c o (idOf (m .entry)) lt h) (idOf (d .entry)) x) in (
+                t .0 .entry,
+                ap (λ (O : Office). current O (d .entry .plot)) (S .stores o lt) ∙ t .2,
+                ⊎-elim (λ e. inl (ap (λ (y : Made). y .entry) e)) (λ e. inr e) (t .3),
+              );
           reads = λ v i q f m d j x e.
               let ed : entryIn (c .log) (idOf (d .entry)) ≡ d .entry = A .entry d (in-c d j) in
               let u = w .events v (rw (S .events) at i) .reads q f m (idOf (d .entry)) x (ap (λ (z : Entry). z .plot) ed ∙ e) in

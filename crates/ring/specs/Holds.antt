@@ -54,6 +54,9 @@ pub record Holds (n : ℕ) (rows : ℕ → List ℕ) (g : State (List ℕ) (List
   -- "An entry has a name": no id is made twice, so an id of a past means one entry, and its writer's past
   pub distinct : Distinct (g .log)
   pub one-of-id : (m d : Made) → List·Memᴰ m (g .log) → List·Memᴰ d (g .log) → idOf (m .entry) ≡ idOf (d .entry) → m ≡ d
+  -- what is held anywhere is an entry made, whole
+  pub held-made : (o k : ℕ) → o < n → has (officeOf (g .stores o) .held) k ≡ 1 →
+      (m : Made) × List·Memᴰ m (g .log) × (idOf (m .entry) ≡ k) × (officeOf (g .stores o) .entry k ≡ m .entry)
   -- what is visible anywhere was made
   pub visible-made : (o k : ℕ) → o < n → has (officeOf (g .stores o) .visible) k ≡ 1 → Logged (g .log) k
   -- every id in a past, of an entry made, of a session, of a token or of a reading, is the id of an entry made
