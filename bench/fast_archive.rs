@@ -47,3 +47,25 @@ pub mod office {
         reply(office::receive(store, frame, out))
     }
 }
+
+pub mod tokens {
+    use crate::fast::entry::reply;
+    use crate::fast::{office, session, token};
+    use crate::model::session::Session;
+
+    pub fn read_token(words: &[u32], offices: u32, plots: u32) -> (u32, Session) {
+        reply(token::read_token(words, offices, plots))
+    }
+
+    pub fn write_token(session: &Session, out: &mut [u32]) -> (u32, usize) {
+        reply(token::write_token(session, out))
+    }
+
+    pub fn open_office(offices: u32, own: u32, plots: u32, store: &mut [u32]) -> u32 {
+        reply(office::open_office(offices, own, plots, store)).0
+    }
+
+    pub fn fresh_session(offices: u32) -> (u32, Session) {
+        reply(session::fresh_session(offices))
+    }
+}

@@ -14,6 +14,8 @@ mod frame_cases;
 mod frame_spoils;
 #[path = "../tests/host/joint.rs"]
 mod joint;
+#[path = "../tests/host/later.rs"]
+mod later;
 #[path = "../tests/model/mod.rs"]
 mod model;
 #[path = "../tests/host/pasts.rs"]

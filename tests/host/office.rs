@@ -4,6 +4,7 @@
 mod archive;
 mod frame_cases;
 mod joint;
+mod later;
 #[path = "../model/mod.rs"]
 mod model;
 mod pasts;
@@ -65,6 +66,14 @@ const OUTCOMES: &[(&str, &[&str])] = &[
     ("write", WRITE),
     ("write, lent", WRITE),
     ("receive", RECEIVE),
+    ("write", &later::PAST),
+    ("write", &later::VISIBLE),
+    ("write", &later::RINGS),
+    ("write", &["same in session, frame and store", later::CORRECTED, later::BY_COPY, later::BY_TOKEN]),
+    ("stores", &later::PAST),
+    ("read_plot", &["visible or above", "never what was corrected"]),
+    ("pasts", &["lack only what an own entry outranks", "no chain comes back"]),
+    ("token", &["the session itself"]),
 ];
 
 fn main() -> ExitCode {

@@ -1,53 +1,100 @@
-//! Rings of offices: sessions move, frames flow from office to office, and every call is compared.
+//! Rings of offices: sessions move and are copied, frames flow from office to office, and every call is
+//! compared. All that goes on is what the archive left and sent.
 
-use crate::model::office::{open_office, store_need};
-use crate::model::session::{fresh_session, Session};
-use crate::pasts::Pasts;
+use crate::archive::office::store_need;
+use crate::archive::tokens::{fresh_session, open_office, read_token, write_token};
+use crate::later;
+use crate::model::entry::IdSet;
+use crate::model::past::{Log, FRESH};
+use crate::model::session::Session;
+use crate::model::token::token_words;
+use crate::pasts;
 use crate::single::some_plots;
 use crate::twin::Twin;
 use std::collections::VecDeque;
 
 const STEPS: usize = 300;
+const SESSIONS: usize = 3;
+
+/// A session with its past beside it.
+#[derive(Clone, Copy)]
+struct Tracked {
+    session: Session,
+    past: IdSet,
+    /// How it was copied, if it had a past then.
+    copied: Option<&'static str>,
+}
+
+impl Tracked {
+    fn fresh(offices: u32) -> Tracked {
+        Tracked { session: fresh_session(offices).1, past: FRESH, copied: None }
+    }
+
+    /// A copy keeps the past.
+    fn copy(&self, session: Session, how: &'static str) -> Tracked {
+        Tracked { session, past: self.past, copied: (self.past != FRESH).then_some(how) }
+    }
+}
 
 struct Ring {
     offices: u32,
     plots: u32,
     stores: Vec<Vec<u32>>,
     waiting: Vec<VecDeque<Vec<u32>>>,
-    sessions: Vec<Session>,
-    pasts: Pasts,
+    sessions: [Tracked; SESSIONS],
+    log: Log,
+}
+
+/// An office that is opened over any words.
+fn opened(twin: &mut Twin, offices: u32, own: u32, plots: u32) -> Vec<u32> {
+    let mut store = twin.random.row(store_need(offices, own, plots).1);
+    let refusal = open_office(offices, own, plots, &mut store);
+    twin.report.same("open_office: of a ring", &refusal, &0);
+    store
+}
+
+/// The session as it comes back from a token: itself.
+fn through_token(twin: &mut Twin, session: &Session, plots: u32) -> Session {
+    let mut token = twin.random.row(token_words(session));
+    let written = write_token(session, &mut token);
+    let read = read_token(&token, session.offices, plots);
+    twin.report.same("token: the session itself", &(written, read), &((0, token.len()), (0, *session)));
+    read.1
+}
+
+/// The frames of a row, in its order.
+fn frames(offices: u32, mut words: &[u32]) -> Vec<Vec<u32>> {
+    let mut frames = Vec::new();
+    while let Some(head) = words.first() {
+        let len = 4 + offices as usize + (head & 0xFF) as usize;
+        // A row that ends too soon is told by the comparison; the run must come to its end to say so.
+        let (frame, rest) = words.split_at(len.min(words.len()));
+        frames.push(frame.to_vec());
+        words = rest;
+    }
+    frames
 }
 
 impl Ring {
     fn new(twin: &mut Twin) -> Ring {
         let offices = twin.random.between(2, 8);
         let plots = twin.random.pick(&[1, 3, 8, 64]);
-        let mut stores = Vec::new();
-        for own in 0..offices {
-            let mut store = twin.random.row(store_need(offices, own, plots).unwrap());
-            open_office(offices, own, plots, &mut store).unwrap();
-            stores.push(store);
-        }
+        let stores = (0..offices).map(|own| opened(twin, offices, own, plots)).collect();
         let waiting = vec![VecDeque::new(); offices as usize];
-        let sessions = vec![fresh_session(offices).unwrap(); 3];
-        Ring { offices, plots, stores, waiting, sessions, pasts: Pasts::new() }
+        let sessions = [Tracked::fresh(offices); SESSIONS];
+        Ring { offices, plots, stores, waiting, sessions, log: Log::default() }
     }
 
-    /// Frames go to the next office in the order of the row.
-    fn send(&mut self, from: usize, mut words: &[u32]) {
+    fn send(&mut self, from: usize, frames: Vec<Vec<u32>>) {
         let to = (from + 1) % self.offices as usize;
-        while let Some(head) = words.first() {
-            let (frame, rest) = words.split_at(4 + self.offices as usize + (head & 0xFF) as usize);
-            self.waiting[to].push_back(frame.to_vec());
-            words = rest;
-        }
+        self.waiting[to].extend(frames);
     }
 
     fn hear(&mut self, twin: &mut Twin, office: usize) {
         let Some(frame) = self.waiting[office].front().cloned() else { return };
         if let Some(words) = twin.receive(&mut self.stores[office], &frame) {
             self.waiting[office].pop_front();
-            self.send(office, &words);
+            self.send(office, frames(self.offices, &words));
         }
     }
 
@@ -61,49 +108,78 @@ impl Ring {
         }
     }
 
-    /// A new session, or a copy that goes on by itself.
+    /// A new session, or a copy of another, perhaps through a token, that goes on by itself.
     fn another_session(&mut self, twin: &mut Twin) {
-        let at = twin.random.index(self.sessions.len());
-        let from = twin.random.index(self.sessions.len());
-        let fresh = fresh_session(self.offices).unwrap();
-        self.sessions[at] = if twin.random.one_in(2) { fresh } else { self.sessions[from] };
+        let at = twin.random.index(SESSIONS);
+        let other = self.sessions[(at + 1) % SESSIONS];
+        self.sessions[at] = match twin.random.below(4) {
+            0 => other.copy(through_token(twin, &other.session, self.plots), later::BY_TOKEN),
+            1 => other.copy(other.session, later::BY_COPY),
+            _ => Tracked::fresh(self.offices),
+        };
+    }
+
+    fn handed_back(&mut self, twin: &mut Twin, at: usize, ids: impl IntoIterator<Item = (u32, u32)>) {
+        let Tracked { session, past, .. } = &mut self.sessions[at];
+        self.log.read(past, ids);
+        if let Some(holds) = pasts::lacks_only_outranked(&self.log, *past, session) {
+            let claim = "pasts: lack only what an own entry outranks";
+            twin.report.check(claim, holds, || format!("past {past:08X?}, {session:08X?}"));
+        }
+    }
+
+    fn read_plot(&mut self, twin: &mut Twin, office: usize, at: usize, plot: u32) {
+        let entry = twin.read_plot(&mut self.stores[office], &mut self.sessions[at].session, plot);
+        self.handed_back(twin, at, entry.map(|entry| entry.id()));
     }
 
     fn read_joint(&mut self, twin: &mut Twin, office: usize, at: usize) {
-        let before = self.sessions[at];
-        let plots = some_plots(&mut twin.random, self.plots, &before);
-        let Some(answer) = twin.read_joint(&mut self.stores[office], &mut self.sessions[at], &plots) else {
+        let reader = &mut self.sessions[at];
+        let plots = some_plots(&mut twin.random, self.plots, &reader.session);
+        let Some(answer) = twin.read_joint(&mut self.stores[office], &mut reader.session, &plots) else {
             return;
         };
+        let (log, past) = (&self.log, reader.past);
         let claims = [
-            ("read_joint: goes together", self.pasts.goes_together(&plots, &answer)),
-            ("read_joint: keeps the session's past", self.pasts.keeps_past(&before, &plots, &answer)),
+            ("read_joint: goes together", pasts::goes_together(log, &plots, &answer)),
+            ("read_joint: keeps the session's past", pasts::keeps_past(log, past, &plots, &answer)),
         ];
         for (claim, holds) in claims {
             if let Some(holds) = holds {
                 twin.report.check(claim, holds, || format!("plots {plots:?}, answer {answer:?}"));
             }
         }
+        self.handed_back(twin, at, pasts::handed_back(&answer));
+    }
+
+    /// The write of a session that sent this frame last.
+    fn made(&mut self, twin: &mut Twin, office: usize, at: usize, frame: &[u32]) {
+        let (store, writer) = (&self.stores[office], &mut self.sessions[at]);
+        let Some(new) = later::new_entry(&mut twin.report, &writer.session, frame, store) else { return };
+        later::over_visible(&mut twin.report, &new, store);
+        self.log.wrote(&mut writer.past, &new);
+        later::made(&mut twin.report, &self.log, &new, self.offices, writer.copied);
     }
 
     fn write(&mut self, twin: &mut Twin, office: usize, at: usize, plot: u32) {
         let value = twin.random.below(1 << 28);
-        let words = twin.write(&mut self.stores[office], &mut self.sessions[at], plot, value);
-        if !words.is_empty() {
-            // The new entry is the last of its session's.
-            self.pasts.made(self.sessions[at].own_entries().last().unwrap());
+        let session = &mut self.sessions[at].session;
+        let words = twin.write(&mut self.stores[office], session, plot, value);
+        let frames = frames(self.offices, &words);
+        if let Some(last) = frames.last() {
+            self.made(twin, office, at, last);
         }
-        self.send(office, &words);
+        self.send(office, frames);
     }
 
     fn step(&mut self, twin: &mut Twin) {
         let office = twin.random.index(self.offices as usize);
-        let at = twin.random.index(self.sessions.len());
+        let at = twin.random.index(SESSIONS);
         let plot = twin.random.below(self.plots);
         match twin.random.below(16) {
             0 => self.another_session(twin),
             1 => self.hear_early(twin, office),
-            2..=4 => twin.read_plot(&mut self.stores[office], &mut self.sessions[at], plot),
+            2..=4 => self.read_plot(twin, office, at, plot),
             5 | 6 => self.read_joint(twin, office, at),
             7..=9 => self.write(twin, office, at, plot),
             _ => self.hear(twin, office),
@@ -116,4 +192,5 @@ pub fn play(twin: &mut Twin) {
     for _ in 0..STEPS {
         ring.step(twin);
     }
+    later::at_end(twin, &ring.log, &ring.stores);
 }

@@ -95,7 +95,9 @@ fn some_frame(random: &mut Random, content: &Content) -> Vec<u32> {
 fn one_call(twin: &mut Twin, content: &Content, store: &mut [u32], session: &mut Session) {
     let plot = some_plot(&mut twin.random, content.plots);
     match twin.random.below(4) {
-        0 => twin.read_plot(store, session, plot),
+        0 => {
+            twin.read_plot(store, session, plot);
+        }
         1 => {
             let plots = some_plots(&mut twin.random, content.plots, session);
             twin.read_joint(store, session, &plots);

@@ -1,5 +1,5 @@
-//! Makes each call on the archive with copies, with the session by value and lent, and on the model, and
-//! compares all that is left.
+//! Makes each call with copies: on the archive, with the session by value and lent, and on the model. It
+//! compares all that is left, and goes on with what the archive left.
 
 use crate::archive::forms::{JointRead, PlotRead, Write};
 use crate::archive::{lent, office as archive};
@@ -34,17 +34,26 @@ const JOINT_READS: [Form<JointRead>; 2] =
     [("read_joint", archive::read_joint), ("read_joint, lent", lent::read_joint)];
 const WRITES: [Form<Write>; 2] = [("write", archive::write), ("write, lent", lent::write)];
 
+/// Store, session and row.
+type Lent<'a> = (&'a [u32], &'a Session, &'a [u32]);
+
+/// What a call leaves of copies.
+fn on_copies<R>(
+    (store, session, row): Lent,
+    call: impl FnOnce(&mut [u32], &mut Session, &mut [u32]) -> R,
+) -> Left<R> {
+    let (mut store, mut session, mut row) = (store.to_vec(), *session, row.to_vec());
+    let reply = call(&mut store, &mut session, &mut row);
+    Left { reply, store, session, row }
+}
+
 /// What each form of a call leaves of copies.
-fn on_copies<F: Copy, R>(
+fn each_form<F: Copy, R>(
     forms: [Form<F>; 2],
-    (store, session, row): (&[u32], &Session, &[u32]),
+    lent: Lent,
     made: impl Fn(F, &mut [u32], &mut Session, &mut [u32]) -> R,
 ) -> [Form<Left<R>>; 2] {
-    forms.map(|(name, call)| {
-        let (mut store, mut session, mut row) = (store.to_vec(), *session, row.to_vec());
-        let reply = made(call, &mut store, &mut session, &mut row);
-        (name, Left { reply, store, session, row })
-    })
+    forms.map(|(name, call)| (name, on_copies(lent, |store, session, row| made(call, store, session, row))))
 }
 
 fn first_difference(archive: &[u32], model: &[u32]) -> String {
@@ -64,17 +73,15 @@ fn describe<R: std::fmt::Debug>(archive: &Left<R>, model: &Left<R>) -> String {
     text
 }
 
-fn reply<T>(result: &Result<T, u32>, accepted: impl FnOnce(&T) -> usize) -> (u32, usize) {
-    match result {
-        Ok(value) => (0, accepted(value)),
-        Err(refusal) => (*refusal, 0),
-    }
+/// The refusal and the number of words.
+fn reply(result: Result<usize, u32>) -> (u32, usize) {
+    result.map_or_else(|refusal| (refusal, 0), |words| (0, words))
 }
 
-fn outcome<T>(result: &Result<T, u32>, accepted: impl FnOnce(&T) -> &'static str) -> String {
-    match result {
-        Ok(value) => accepted(value).to_string(),
-        Err(refusal) => format!("refused {refusal}"),
+fn outcome(refusal: u32, accepted: impl FnOnce() -> &'static str) -> String {
+    match refusal {
+        0 => accepted().to_string(),
+        _ => format!("refused {refusal}"),
     }
 }
 
@@ -116,52 +123,68 @@ impl Twin {
         }
     }
 
+    /// What either form of a call left, by chance; it takes the place of what was lent.
+    fn go_on<R>(
+        &mut self,
+        archive: [Form<Left<R>>; 2],
+        store: &mut [u32],
+        session: &mut Session,
+    ) -> (R, Vec<u32>) {
+        let [(_, by_value), (_, lent)] = archive;
+        let left = if self.random.one_in(2) { by_value } else { lent };
+        store.copy_from_slice(&left.store);
+        *session = left.session;
+        (left.reply, left.row)
+    }
+
     pub fn store_need(&mut self, offices: u32, own: u32, plots: u32) {
         let archive = archive::store_need(offices, own, plots);
-        let result = model::store_need(offices, own, plots);
-        let name = format!("store_need: {}", outcome(&result, |_| "accepted"));
-        self.report.same(&name, &archive, &reply(&result, |&words| words));
+        let model = reply(model::store_need(offices, own, plots));
+        let name = format!("store_need: {}", outcome(model.0, || "accepted"));
+        self.report.same(&name, &archive, &model);
     }
 
     pub fn store_settings(&mut self, store: &[u32]) {
         let lent = store.to_vec();
         let archive = (archive::store_settings(&lent), lent == store);
         let result = model::store_settings(store);
-        let name = format!("store_settings: {}", outcome(&result, |_| "accepted"));
-        let said = result.map_or_else(|refusal| (refusal, [0; 3]), |settings| (0, settings));
-        self.report.same(&name, &archive, &(said, true));
+        let model = result.map_or_else(|refusal| (refusal, [0; 3]), |settings| (0, settings));
+        let name = format!("store_settings: {}", outcome(model.0, || "accepted"));
+        self.report.same(&name, &archive, &(model, true));
     }
 
-    pub fn read_plot(&mut self, store: &mut [u32], session: &mut Session, plot: u32) {
-        let archive = on_copies(PLOT_READS, (store, session, &[]), |call, store, session, _| {
-            call(store, session, plot)
+    /// The entry that is handed back, if any.
+    pub fn read_plot(&mut self, store: &mut [u32], session: &mut Session, plot: u32) -> Option<Entry> {
+        let lent: Lent = (store, session, &[]);
+        let archive = each_form(PLOT_READS, lent, |call, store, session, _| call(store, session, plot));
+        let model = on_copies(lent, |store, session, _| match model::read_plot(store, session, plot) {
+            Ok(entry) => (0, found(&entry)),
+            Err(refusal) => (refusal, found(&None)),
         });
-
-        let result = model::read_plot(store, session, plot);
-        let outcome = outcome(&result, |entry| match entry {
-            None => "none",
-            Some(entry) if session.own_entries().contains(entry) => "own",
-            Some(_) => "presented",
+        let outcome = outcome(model.reply.0, || match model.reply.1 {
+            (0, _) => "none",
+            (_, entry) if model.session.own_entries().contains(&entry) => "own",
+            _ => "presented",
         });
-        let reply = result.map_or_else(|refusal| (refusal, found(&None)), |entry| (0, found(&entry)));
-        let model = Left { reply, store: store.to_vec(), session: *session, row: vec![] };
         self.compare_forms(&outcome, &archive, &model);
+        let ((_, (found, entry)), _) = self.go_on(archive, store, session);
+        (found == 1).then_some(entry)
     }
 
     /// A joint reading of one plot is the reading of that plot.
     fn read_each_alone(&mut self, store: &[u32], session: &Session, plots: &[u32]) {
-        let lent = (store, session, &[0; 3][..]);
+        let lent: Lent = (store, session, &[0; 3]);
         let mut plots = plots.to_vec();
         plots.sort();
         plots.dedup();
         for plot in plots {
-            let single = on_copies(PLOT_READS, lent, |call, store, session, row| {
+            let single = each_form(PLOT_READS, lent, |call, store, session, row| {
                 let (refusal, (found, entry)) = call(store, session, plot);
                 row.copy_from_slice(&[found, entry.value, entry.payload()]);
                 refusal
             });
             let joint =
-                on_copies(JOINT_READS, lent, |call, store, session, row| call(store, session, &[plot], row));
+                each_form(JOINT_READS, lent, |call, store, session, row| call(store, session, &[plot], row));
             for ((call, joint), (_, single)) in joint.iter().zip(&single) {
                 self.compare(call, "one plot alone", joint, single);
             }
@@ -176,21 +199,26 @@ impl Twin {
         plots: &[u32],
     ) -> Option<Vec<u32>> {
         self.read_each_alone(store, session, plots);
-        let mut row = self.row_for(3 * plots.len());
-        let archive = on_copies(JOINT_READS, (store, session, &row), |call, store, session, row| {
-            call(store, session, plots, row)
+        let row = self.row_for(3 * plots.len());
+        let lent: Lent = (store, session, &row);
+        let archive =
+            each_form(JOINT_READS, lent, |call, store, session, row| call(store, session, plots, row));
+        let mut model = on_copies(lent, |store, session, row| {
+            model::read_joint(store, session, plots, row).err().unwrap_or(0)
         });
-
-        let result = model::read_joint(store, session, plots, &mut row);
-        let outcomes = match result {
-            Ok(()) => joint::outcomes(store, session, plots).into_iter().map(String::from).collect(),
-            Err(refusal) => vec![format!("refused {refusal}")],
+        let outcomes = match model.reply {
+            0 => joint::outcomes(&mut model.store, &model.session, plots)
+                .into_iter()
+                .map(String::from)
+                .collect(),
+            refusal => vec![format!("refused {refusal}")],
         };
-        let model = Left { reply: result.err().unwrap_or(0), store: store.to_vec(), session: *session, row };
         for outcome in &outcomes {
             self.compare_forms(outcome, &archive, &model);
         }
-        result.ok().map(|()| model.row[..3 * plots.len()].to_vec())
+        let (refusal, mut row) = self.go_on(archive, store, session);
+        row.truncate(3 * plots.len());
+        (refusal == 0).then_some(row)
     }
 
     /// The row's words that were written, if any.
@@ -198,38 +226,36 @@ impl Twin {
         // A trial on copies tells how much room the call needs.
         let trial = model::write(&mut store.to_vec(), &mut session.clone(), plot, value, &mut [0; 4600]);
         let any = self.random.index(300);
-        let mut row = self.row_for(trial.unwrap_or(any));
-        let archive = on_copies(WRITES, (store, session, &row), |call, store, session, row| {
-            call(store, session, plot, value, row)
-        });
-
-        let result = model::write(store, session, plot, value, &mut row);
-        let one = 4 + session.offices as usize + row.first().map_or(0, |head| (head & 0xFF) as usize);
-        let outcome = outcome(&result, |&words| if words > one { "carried" } else { "accepted" });
-        let reply = reply(&result, |&words| words);
-        let model = Left { reply, store: store.to_vec(), session: *session, row };
+        let row = self.row_for(trial.unwrap_or(any));
+        let lent: Lent = (store, session, &row);
+        let archive =
+            each_form(WRITES, lent, |call, store, session, row| call(store, session, plot, value, row));
+        let model =
+            on_copies(lent, |store, session, row| reply(model::write(store, session, plot, value, row)));
+        let one = 4 + session.offices as usize + model.row.first().map_or(0, |head| (head & 0xFF) as usize);
+        let outcome = outcome(model.reply.0, || if model.reply.1 > one { "carried" } else { "accepted" });
         self.compare_forms(&outcome, &archive, &model);
-        model.row[..reply.1].to_vec()
+        let ((_, words), mut row) = self.go_on(archive, store, session);
+        row.truncate(words);
+        row
     }
 
     /// The words that go on, if any; none where the frame is refused.
     pub fn receive(&mut self, store: &mut [u32], frame: &[u32]) -> Option<Vec<u32>> {
-        let mut row = self.row_for(frame.len());
-        let (mut store_copy, mut row_copy) = (store.to_vec(), row.clone());
-        let archive = archive::receive(&mut store_copy, frame, &mut row_copy);
-        let session = Session::default();
-        let archive = Left { reply: archive, store: store_copy, session, row: row_copy };
-
-        let result = model::receive(store, frame, &mut row);
-        let outcome = outcome(&result, |&words| match words {
+        let row = self.row_for(frame.len());
+        let lent: Lent = (store, &Session::default(), &row);
+        let mut archive = on_copies(lent, |store, _, row| archive::receive(store, frame, row));
+        let model = on_copies(lent, |store, _, row| reply(model::receive(store, frame, row)));
+        let outcome = outcome(model.reply.0, || match model.reply.1 {
             0 => "brought out",
             _ if check_goes_round(frame) => "went on, check gone round",
             200.. => "went on, 200 words or more",
             _ => "went on",
         });
-        let reply = reply(&result, |&words| words);
-        let model = Left { reply, store: store.to_vec(), session, row };
         self.compare("receive", &outcome, &archive, &model);
-        (reply.0 == 0).then(|| model.row[..reply.1].to_vec())
+        store.copy_from_slice(&archive.store);
+        let (refusal, words) = archive.reply;
+        archive.row.truncate(words);
+        (refusal == 0).then_some(archive.row)
     }
 }

@@ -99,6 +99,10 @@ impl Entry {
         (self.clock, self.office) > (other.clock, other.office)
     }
 
+    pub fn id(&self) -> (u32, u32) {
+        (self.office, self.serial)
+    }
+
     pub fn payload(&self) -> u32 {
         id_payload(self.office, self.serial)
     }

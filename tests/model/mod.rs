@@ -1,4 +1,4 @@
-//! An independent model of the burial register, written from documents 01 and 02 (i) alone.
+//! An independent model of the burial register, written from documents 01 and 02 (i) and (iii) alone.
 //! Its records have the layout of the C header, so that a test can lend them to the archive as they are.
 #![allow(dead_code)]
 
@@ -8,6 +8,8 @@ pub mod entry;
 pub mod joint_checks;
 pub mod office;
 pub mod office_checks;
+pub mod past;
+pub mod past_checks;
 pub mod refusal;
 pub mod script;
 pub mod script_checks;

@@ -102,11 +102,6 @@ module _ (n p : ℕ) (two : 2 ≤ n) (eight : n ≤ 8) (one : 1 ≤ p) (p64 : p 
   stands o lt m i h =
       let t = H .held-made o (idOf (m .entry)) lt h in t .3 ∙ ap (λ (y : Made). y .entry) (H .one-of-id (t .0) m (t .1) i (t .2))
 
-  over-past-held : (o q : ℕ) → o < n → q < n → (m d : Made) → Knew (g .log) m d
-      → has (officeOf (g .stores o) .held) (idOf (m .entry)) ≡ 1 → has (officeOf (g .stores q) .held) (idOf (d .entry)) ≡ 1
-      → Later (officeOf (g .stores o) .entry (idOf (m .entry))) (officeOf (g .stores q) .entry (idOf (d .entry)))
-  over-past-held o q lo lq m d x a b = rw (stands o lo m (x .made) a, stands q lq d (x .earlier) b) (over-past m d x)
-
   before-later : (d m : Made) → Before (g .log) d m → Later (m .entry) (d .entry)
   before-later d m (direct x) = over-past m d x
   before-later d m (through {k = y} b x) = later-trans (m .entry) (y .entry) (d .entry) (over-past m y x) (before-later d y b)
@@ -160,15 +155,6 @@ module _ (n p : ℕ) (two : 2 ≤ n) (eight : n ≤ 8) (one : 1 ≤ p) (p64 : p 
         let ed : entryIn L (idOf (d .entry)) ≡ d .entry = B .entry d j in
         rw ed at t
 
-  over-visible : (o i : ℕ) (s : Tracked) → o < n → at (g .sessions) i ≡ s ∷ [] → (plot value : ℕ) (row : List ℕ)
-      → write (g .stores o) (s .session) plot value row .code ≡ 0 → (d : Made) → List·Memᴰ d (g .log) → Shows (g .stores o) (d .entry)
-      → Later (lastOf (write (g .stores o) (s .session) plot value row .session .own)) (d .entry)
-  unfolding write
-  over-visible o i s lt e plot value row z d j h =
-      let z′ : W o i s lt (in-sessions i s e) plot value row .code ≡ 0 = rw (H .sound o lt, H .same .stores o lt) at z in
-      rw (H .sound o lt, H .same .stores o lt)
-      (new-later o i s lt (in-sessions i s e) plot value row z′ d (in-c d j) (visible-c o lt d h))
-
   -- ---- a correction
 
   prevailing : (m x : Made) → List·Memᴰ x (g .log) → (f : Found) → f ≡ Some (x .entry) → (x ≡ m) ⊎ (outranks (x .entry) (m .entry) ≡ true)
@@ -186,13 +172,6 @@ module _ (n p : ℕ) (two : 2 ≤ n) (eight : n ≤ 8) (one : 1 ≤ p) (p64 : p 
           let r : x ≡ d = H .one-of-id x d i (y .earlier) q in
           let h : outranks (d .entry) (d .entry) ≡ true = rw r at (beyond d y) in
           not-itself (d .entry) h
-
-  prevails : (o : ℕ) → o < n → (m : Made) → List·Memᴰ m (g .log) → Shows (g .stores o) (m .entry)
-      → Prevails (g .log) m (current (officeOf (g .stores o)) (m .entry .plot))
-  prevails o lt m i h =
-      let t = is-current n p two eight one p64 rows long g c (H .same) k o lt m (in-c m i) (visible-c o lt m h) in
-      prevailing m (t .0) (in-g (t .0) (t .1)) (current (officeOf (g .stores o)) (m .entry .plot))
-      (ap (λ (O : Office). current O (m .entry .plot)) (H .same .stores o lt) ∙ t .2) (t .3)
 
   module _ (o i : ℕ) (s : Tracked) (lt : o < n) (e : at (g .sessions) i ≡ s ∷ []) (m : Made) (im : List·Memᴰ m (g .log)) (h : Meets (g .stores o) s m) where
     in-s : List·Memᴰ s (c .sessions)
@@ -265,17 +244,24 @@ module _ (n p : ℕ) (two : 2 ≤ n) (eight : n ≤ 8) (one : 1 ≤ p) (p64 : p 
         read-jointly (m .entry .plot ∷ []) (0 ∷ 0 ∷ 0 ∷ []) y f (rw q (together-one (m .entry .plot) _ f x))
 
   later-in : LaterIn n g
+  unfolding write
   later-in =
       record {
         over-past = over-past;
-        over-past-held = over-past-held;
+        over-past-held = λ o q lo lq m d x a b. rw (stands o lo m (x .made) a, stands q lq d (x .earlier) b) (over-past m d x);
         never-round = λ m b. not-itself (m .entry) (before-later m m b .outranked);
-        prevails = prevails;
+        prevails = λ o lt m i h.
+            let t = is-current n p two eight one p64 rows long g c (H .same) k o lt m (in-c m i) (visible-c o lt m h) in
+            prevailing m (t .0) (in-g (t .0) (t .1)) (current (officeOf (g .stores o)) (m .entry .plot))
+            (ap (λ (O : Office). current O (m .entry .plot)) (H .same .stores o lt) ∙ t .2) (t .3);
         prevails-read = read;
         prevails-read-jointly = read-jointly;
         over-reached = λ o x d lt. rw (H .same .stores o lt) (over-reached o x d);
         never-round-held = λ o x lt. rw (H .same .stores o lt) (never-held o x);
-        over-visible = over-visible;
+        over-visible = λ o i s lt e plot value row z d j h.
+            let z′ : W o i s lt (in-sessions i s e) plot value row .code ≡ 0 = rw (H .sound o lt, H .same .stores o lt) at z in
+            rw (H .sound o lt, H .same .stores o lt)
+            (new-later o i s lt (in-sessions i s e) plot value row z′ d (in-c d j) (visible-c o lt d h));
       }
 
 pub later-counts : LaterCounts

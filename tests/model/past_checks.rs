@@ -1,0 +1,168 @@
+//! Self checks of the model's pasts, in rings of three offices.
+
+use super::checks::Check;
+use super::codec::Frame;
+use super::entry::{insert, Entry, IdSet};
+use super::office::{read_plot, receive, write};
+use super::office_checks::{fresh, opened, words_of};
+use super::past::{clock_covers, Log, FRESH};
+use super::session::Session;
+
+/// A session with its past.
+#[derive(Clone, Copy)]
+struct Tracked {
+    session: Session,
+    past: IdSet,
+}
+
+struct Ring {
+    stores: [Vec<u32>; 3],
+    log: Log,
+}
+
+fn ring() -> Ring {
+    Ring { stores: [0, 1, 2].map(|own| opened(3, own)), log: Log::default() }
+}
+
+fn newcomer() -> Tracked {
+    Tracked { session: fresh(3), past: FRESH }
+}
+
+/// The set of these entries.
+fn set<const N: usize>(entries: [Entry; N]) -> IdSet {
+    let mut set = IdSet::default();
+    entries.iter().for_each(|entry| insert(&mut set, entry.office, entry.serial));
+    set
+}
+
+impl Ring {
+    fn write(&mut self, writer: &mut Tracked, office: usize, plot: u32) -> Entry {
+        write(&mut self.stores[office], &mut writer.session, plot, 7, &mut [0; 99]).unwrap();
+        let new = *writer.session.own_entries().last().unwrap();
+        self.log.wrote(&mut writer.past, &new);
+        new
+    }
+
+    fn read(&mut self, reader: &mut Tracked, office: usize, plot: u32) -> Option<Entry> {
+        let entry = read_plot(&mut self.stores[office], &mut reader.session, plot).unwrap();
+        self.log.read(&mut reader.past, entry.map(|entry| entry.id()));
+        entry
+    }
+
+    /// Brings an entry to the end of its journey at an office.
+    fn show(&mut self, office: usize, entry: Entry) {
+        receive(&mut self.stores[office], &words_of(&Frame { offices: 3, hops: 0, entry }), &mut []).unwrap();
+    }
+
+    fn writers_past(&self, entry: Entry) -> IdSet {
+        self.log.writers_past(entry.id())
+    }
+}
+
+fn grows_by_writes() -> bool {
+    let (mut ring, mut writer) = (ring(), newcomer());
+    let first = ring.write(&mut writer, 0, 5);
+    let second = ring.write(&mut writer, 0, 6);
+    ring.writers_past(first) == FRESH
+        && ring.writers_past(second) == set([first])
+        && writer.past == set([first, second])
+        && ring.log.ids().eq([(0, 1), (0, 2)])
+}
+
+/// The reader is handed back the second entry alone.
+fn reading_adds_the_writers_past() -> bool {
+    let (mut ring, mut writer, mut reader) = (ring(), newcomer(), newcomer());
+    let (first, second) = (ring.write(&mut writer, 0, 5), ring.write(&mut writer, 0, 6));
+    ring.show(2, first);
+    ring.show(2, second);
+    let handed_back = ring.read(&mut reader, 2, 6);
+    handed_back == Some(second) && reader.past == set([first, second])
+}
+
+fn each_handed_back_is_added() -> bool {
+    let (mut ring, mut past) = (ring(), FRESH);
+    let [first, _, third] = [0, 1, 2].map(|office| ring.write(&mut newcomer(), office, 5));
+    ring.log.read(&mut past, [first.id(), third.id()]);
+    past == set([first, third])
+}
+
+fn none_adds_nothing() -> bool {
+    let (mut ring, mut reader) = (ring(), newcomer());
+    ring.write(&mut newcomer(), 0, 5);
+    ring.read(&mut reader, 0, 5).is_none() && reader.past == FRESH
+}
+
+/// The presented entry is read, and what is written next depends on it; but it was never handed back.
+fn own_leaves_out_the_presented() -> bool {
+    let (mut ring, mut writer) = (ring(), newcomer());
+    let presented = ring.write(&mut newcomer(), 0, 5);
+    ring.show(1, presented);
+    let own = ring.write(&mut writer, 1, 5);
+    let handed_back = ring.read(&mut writer, 1, 5);
+    let next = ring.write(&mut writer, 1, 5);
+    handed_back == Some(own)
+        && writer.session.read == set([presented])
+        && next.deps == set([presented, own])
+        && ring.writers_past(next) == set([own])
+}
+
+fn copies_go_on_by_themselves() -> bool {
+    let (mut ring, mut origin) = (ring(), newcomer());
+    let first = ring.write(&mut origin, 0, 5);
+    let mut copy = origin;
+    let (of_origin, of_copy) = (ring.write(&mut origin, 1, 5), ring.write(&mut copy, 2, 5));
+    ring.writers_past(of_origin) == set([first])
+        && ring.writers_past(of_copy) == set([first])
+        && origin.past == set([first, of_origin])
+        && copy.past == set([first, of_copy])
+}
+
+/// The foreman writes at office 0 and corrects at office 1.
+fn own_entry_corrected_elsewhere() -> bool {
+    let (mut ring, mut foreman) = (ring(), newcomer());
+    let (first, correction) = (ring.write(&mut foreman, 0, 5), ring.write(&mut foreman, 1, 5));
+    ring.writers_past(correction) == set([first])
+        && first.clock[..3] == [1, 0, 0]
+        && correction.clock[..3] == [1, 1, 0]
+        && correction.outranks(&first)
+        && clock_covers(&correction, &first)
+}
+
+/// He reads at office 2 what is still hidden at office 1, where he corrects it.
+fn read_entry_corrected_elsewhere() -> bool {
+    let (mut ring, mut foreman) = (ring(), newcomer());
+    let (earlier, read) = (ring.write(&mut newcomer(), 0, 6), ring.write(&mut newcomer(), 0, 5));
+    ring.show(2, read);
+    ring.read(&mut foreman, 2, 5);
+    let words = words_of(&Frame { offices: 3, hops: 1, entry: read });
+    receive(&mut ring.stores[1], &words, &mut [0; 7]).unwrap();
+    let correction = ring.write(&mut foreman, 1, 5);
+    ring.writers_past(correction) == set([read])
+        && read.clock[..3] == [2, 0, 0]
+        && correction.clock[..3] == [2, 1, 0]
+        && correction.outranks(&read)
+        && clock_covers(&correction, &read)
+        && !clock_covers(&earlier, &read)
+}
+
+/// A clock that outranks may still have a lower number.
+fn rank_does_not_cover() -> bool {
+    let entry =
+        |clock: [u32; 3]| Entry { clock: [clock[0], clock[1], clock[2], 0, 0, 0, 0, 0], ..Entry::default() };
+    let (high, low) = (entry([2, 0, 1]), entry([1, 1, 1]));
+    high.outranks(&low) && !clock_covers(&high, &low) && clock_covers(&high, &high)
+}
+
+pub fn past_checks() -> Vec<Check> {
+    vec![
+        ("model: a past begins empty and grows by writes", grows_by_writes()),
+        ("model: a reading adds what it hands back and the writer's past", reading_adds_the_writers_past()),
+        ("model: each entry handed back is added", each_handed_back_is_added()),
+        ("model: none handed back adds nothing to a past", none_adds_nothing()),
+        ("model: an own entry handed back leaves out the presented", own_leaves_out_the_presented()),
+        ("model: a copy's past goes on by itself", copies_go_on_by_themselves()),
+        ("model: an own entry corrected elsewhere is in the past", own_entry_corrected_elsewhere()),
+        ("model: a read entry corrected elsewhere is in the past", read_entry_corrected_elsewhere()),
+        ("model: a rank above is not a clock that covers", rank_does_not_cover()),
+    ]
+}
