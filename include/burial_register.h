@@ -41,11 +41,13 @@
  *
  * Rank is the same at every office: clocks are compared number by number from office 0 on, and
  * the first greater number decides; where the clocks are equal, the higher office. In a ring whose
- * hosts keep the rules of section 3 an entry ranks above all that its writer had read or written,
- * and above all that its office showed when it was written. So who corrects an entry that he wrote
- * or was handed, at whatever office, is heard: where his correction is shown, and wherever someone
- * reads who has read it, no reading hands back what it corrects. But a later value can lose to an
- * older one that was hidden where the later one was written, and that its writer did not know.
+ * hosts keep the rules of section 3 an entry ranks above all that its session had read or written,
+ * and above all that its office showed when it was written. So a correction counts, at whatever
+ * office, if it is written in the session that wrote the entry or was handed it, or in a copy of
+ * that session: where the correction is shown, and wherever a session reads that has written or
+ * read it, no reading hands back what it corrects. But a later value can lose to an older one that
+ * was hidden where the later one was written, and that its session did not know; a fresh session
+ * knows nothing. Who corrects a plot reads it first, where it is shown.
  *
  *
  * 2 A WHOLE PROGRAM

@@ -158,9 +158,10 @@ static void test_correction(void)
     first = hears(1, &first);
     first = hears(2, &first);
     expect(first.words == 0 && shown(2, 5) == 709);
-    for (uint32_t own = 0; own < RING; own++)
+    for (uint32_t own = RING; own-- > 0;)
         expect(reads(&foreman, own, 5) == 710);
     end("an own entry corrected in another office: he reads the correction everywhere");
+    expect(shown(1, 5) == 709 && shown(2, 5) == 709);
     for (uint32_t own = 0; own < RING; own++)
         expect(reads(&visitor, own, 5) == 710 && shown(own, 5) == 710);
     end("wherever a correction is shown, it is what is read, and not what it corrects");

@@ -3,7 +3,7 @@
 
 use crate::model::codec::read_frame;
 use crate::model::entry::{has, ids, insert, is_subset, Entry, IdSet, MOST_PLOTS};
-use crate::model::past::{clock_covers, Log, FRESH};
+use crate::model::past::{clock_covers, Log, EMPTY};
 use crate::model::session::{fresh_session, Session};
 use crate::model::store::Store;
 use crate::report::Report;
@@ -75,7 +75,7 @@ pub fn over_visible(report: &mut Report, new: &Entry, store: &[u32]) {
 /// A new entry and its writer's past; where that is not empty, also which kinds of writes it is one of.
 pub fn made(report: &mut Report, log: &Log, new: &Entry, offices: u32, copied: Option<&str>) {
     let past = log.writers_past(new.id());
-    if past == FRESH {
+    if past == EMPTY {
         return;
     }
     let holds = is_later_than_past(report, "write", new, log.entries(past));
@@ -111,7 +111,7 @@ fn in_stores(report: &mut Report, log: &Log, stores: &[Vec<u32>]) {
 fn to_fresh_readers(twin: &mut Twin, log: &Log, store: &[u32], offices: u32) {
     for visible in entries(store, |store| store.visible()) {
         let mut reader = fresh_session(offices).unwrap();
-        let read = twin.read_plot(&mut store.to_vec(), &mut reader, visible.plot);
+        let read = twin.read_plot(&mut store.to_vec(), &mut reader, visible.plot).flatten();
         let say = || format!("{read:?}\n  where {visible:?} is visible");
         let above = read.is_some_and(|read| read == visible || read.outranks(&visible));
         twin.report.check("read_plot: visible or above", above, say);
@@ -127,7 +127,7 @@ fn to_fresh_readers(twin: &mut Twin, log: &Log, store: &[u32], offices: u32) {
 /// Rank does not come in.
 fn some_chain_comes_back(log: &Log) -> bool {
     let mut left: Vec<(u32, u32)> = log.ids().collect();
-    let mut gone = FRESH;
+    let mut gone = EMPTY;
     while let Some(at) = left.iter().position(|&id| is_subset(&log.writers_past(id), &gone)) {
         let (office, serial) = left.swap_remove(at);
         insert(&mut gone, office, serial);

@@ -69,9 +69,10 @@ const OUTCOMES: &[(&str, &[&str])] = &[
     ("write", &later::PAST),
     ("write", &later::VISIBLE),
     ("write", &later::RINGS),
-    ("write", &["same in session, frame and store", later::CORRECTED, later::BY_COPY, later::BY_TOKEN]),
+    ("write", &["a new id", "same in session, frame and store"]),
+    ("write", &[later::CORRECTED, later::BY_COPY, later::BY_TOKEN]),
     ("stores", &later::PAST),
-    ("read_plot", &["visible or above", "never what was corrected"]),
+    ("read_plot", &["keeps the session's past", "visible or above", "never what was corrected"]),
     ("pasts", &["lack only what an own entry outranks", "no chain comes back"]),
     ("token", &["the session itself"]),
 ];

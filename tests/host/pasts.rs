@@ -1,7 +1,7 @@
 //! What readings owe to the model's pasts.
 
 use crate::model::entry::{has, union, Entry, IdSet};
-use crate::model::past::{Log, FRESH};
+use crate::model::past::{Log, EMPTY};
 use crate::model::session::Session;
 
 /// The office and serial of the entry that is handed back for a plot, if any.
@@ -27,7 +27,7 @@ pub fn keeps_past(log: &Log, past: IdSet, plots: &[u32], answer: &[u32]) -> Opti
 /// Whether no reply is below the past of the writer of an entry that is handed back with it.
 pub fn goes_together(log: &Log, plots: &[u32], answer: &[u32]) -> Option<bool> {
     let pasts = handed_back(answer).map(|id| log.writers_past(id));
-    keeps_past(log, pasts.fold(FRESH, |past, more| union(&past, &more)), plots, answer)
+    keeps_past(log, pasts.fold(EMPTY, |past, more| union(&past, &more)), plots, answer)
 }
 
 /// Whether each entry that was read and that the past lacks is below an own one, as it was not handed back;

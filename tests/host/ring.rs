@@ -5,7 +5,7 @@ use crate::archive::office::store_need;
 use crate::archive::tokens::{fresh_session, open_office, read_token, write_token};
 use crate::later;
 use crate::model::entry::IdSet;
-use crate::model::past::{Log, FRESH};
+use crate::model::past::{Log, EMPTY};
 use crate::model::session::Session;
 use crate::model::token::token_words;
 use crate::pasts;
@@ -26,13 +26,15 @@ struct Tracked {
 }
 
 impl Tracked {
-    fn fresh(offices: u32) -> Tracked {
-        Tracked { session: fresh_session(offices).1, past: FRESH, copied: None }
+    fn fresh(twin: &mut Twin, offices: u32) -> Tracked {
+        let (refusal, session) = fresh_session(offices);
+        twin.report.same("fresh_session: of a ring", &refusal, &0);
+        Tracked { session, past: EMPTY, copied: None }
     }
 
     /// A copy keeps the past.
     fn copy(&self, session: Session, how: &'static str) -> Tracked {
-        Tracked { session, past: self.past, copied: (self.past != FRESH).then_some(how) }
+        Tracked { session, past: self.past, copied: (self.past != EMPTY).then_some(how) }
     }
 }
 
@@ -81,7 +83,7 @@ impl Ring {
         let plots = twin.random.pick(&[1, 3, 8, 64]);
         let stores = (0..offices).map(|own| opened(twin, offices, own, plots)).collect();
         let waiting = vec![VecDeque::new(); offices as usize];
-        let sessions = [Tracked::fresh(offices); SESSIONS];
+        let sessions = [Tracked::fresh(twin, offices); SESSIONS];
         Ring { offices, plots, stores, waiting, sessions, log: Log::default() }
     }
 
@@ -115,47 +117,52 @@ impl Ring {
         self.sessions[at] = match twin.random.below(4) {
             0 => other.copy(through_token(twin, &other.session, self.plots), later::BY_TOKEN),
             1 => other.copy(other.session, later::BY_COPY),
-            _ => Tracked::fresh(self.offices),
+            _ => Tracked::fresh(twin, self.offices),
         };
     }
 
-    fn handed_back(&mut self, twin: &mut Twin, at: usize, ids: impl IntoIterator<Item = (u32, u32)>) {
+    /// What a reading handed back, as the answer of a joint one: it keeps the session's past, and joins it.
+    fn handed_back(&mut self, twin: &mut Twin, call: &str, at: usize, plots: &[u32], answer: &[u32]) {
         let Tracked { session, past, .. } = &mut self.sessions[at];
-        self.log.read(past, ids);
-        if let Some(holds) = pasts::lacks_only_outranked(&self.log, *past, session) {
-            let claim = "pasts: lack only what an own entry outranks";
-            twin.report.check(claim, holds, || format!("past {past:08X?}, {session:08X?}"));
+        let kept = pasts::keeps_past(&self.log, *past, plots, answer);
+        self.log.read(past, pasts::handed_back(answer));
+        let lacks = pasts::lacks_only_outranked(&self.log, *past, session);
+        let claims = [
+            (format!("{call}: keeps the session's past"), kept),
+            ("pasts: lack only what an own entry outranks".to_string(), lacks),
+        ];
+        for (claim, holds) in claims {
+            if let Some(holds) = holds {
+                twin.report
+                    .check(&claim, holds, || format!("plots {plots:?}, answer {answer:?}, {session:?}"));
+            }
         }
     }
 
     fn read_plot(&mut self, twin: &mut Twin, office: usize, at: usize, plot: u32) {
-        let entry = twin.read_plot(&mut self.stores[office], &mut self.sessions[at].session, plot);
-        self.handed_back(twin, at, entry.map(|entry| entry.id()));
+        let read = twin.read_plot(&mut self.stores[office], &mut self.sessions[at].session, plot);
+        if let Some(found) = read {
+            let answer = found.map_or([0; 3], |entry| [1, entry.value, entry.payload()]);
+            self.handed_back(twin, "read_plot", at, &[plot], &answer);
+        }
     }
 
     fn read_joint(&mut self, twin: &mut Twin, office: usize, at: usize) {
-        let reader = &mut self.sessions[at];
-        let plots = some_plots(&mut twin.random, self.plots, &reader.session);
-        let Some(answer) = twin.read_joint(&mut self.stores[office], &mut reader.session, &plots) else {
-            return;
-        };
-        let (log, past) = (&self.log, reader.past);
-        let claims = [
-            ("read_joint: goes together", pasts::goes_together(log, &plots, &answer)),
-            ("read_joint: keeps the session's past", pasts::keeps_past(log, past, &plots, &answer)),
-        ];
-        for (claim, holds) in claims {
-            if let Some(holds) = holds {
-                twin.report.check(claim, holds, || format!("plots {plots:?}, answer {answer:?}"));
-            }
+        let session = &mut self.sessions[at].session;
+        let plots = some_plots(&mut twin.random, self.plots, session);
+        let Some(answer) = twin.read_joint(&mut self.stores[office], session, &plots) else { return };
+        if let Some(holds) = pasts::goes_together(&self.log, &plots, &answer) {
+            let say = || format!("plots {plots:?}, answer {answer:?}");
+            twin.report.check("read_joint: goes together", holds, say);
         }
-        self.handed_back(twin, at, pasts::handed_back(&answer));
+        self.handed_back(twin, "read_joint", at, &plots, &answer);
     }
 
     /// The write of a session that sent this frame last.
     fn made(&mut self, twin: &mut Twin, office: usize, at: usize, frame: &[u32]) {
         let (store, writer) = (&self.stores[office], &mut self.sessions[at]);
         let Some(new) = later::new_entry(&mut twin.report, &writer.session, frame, store) else { return };
+        twin.report.same("write: a new id", &self.log.entry(new.id()), &None);
         later::over_visible(&mut twin.report, &new, store);
         self.log.wrote(&mut writer.past, &new);
         later::made(&mut twin.report, &self.log, &new, self.offices, writer.copied);

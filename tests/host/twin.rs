@@ -153,8 +153,13 @@ impl Twin {
         self.report.same(&name, &archive, &(model, true));
     }
 
-    /// The entry that is handed back, if any.
-    pub fn read_plot(&mut self, store: &mut [u32], session: &mut Session, plot: u32) -> Option<Entry> {
+    /// The entry that is handed back, if any; none where the reading is refused.
+    pub fn read_plot(
+        &mut self,
+        store: &mut [u32],
+        session: &mut Session,
+        plot: u32,
+    ) -> Option<Option<Entry>> {
         let lent: Lent = (store, session, &[]);
         let archive = each_form(PLOT_READS, lent, |call, store, session, _| call(store, session, plot));
         let model = on_copies(lent, |store, session, _| match model::read_plot(store, session, plot) {
@@ -167,8 +172,8 @@ impl Twin {
             _ => "presented",
         });
         self.compare_forms(&outcome, &archive, &model);
-        let ((_, (found, entry)), _) = self.go_on(archive, store, session);
-        (found == 1).then_some(entry)
+        let ((refusal, (found, entry)), _) = self.go_on(archive, store, session);
+        (refusal == 0).then_some((found == 1).then_some(entry))
     }
 
     /// A joint reading of one plot is the reading of that plot.

@@ -6,7 +6,7 @@ use super::entry::{ids, insert, union, Entry, IdSet};
 use std::collections::BTreeMap;
 
 /// "A fresh errand has a clock of zeros, nothing read and nothing of its own; its past is empty."
-pub const FRESH: IdSet = [0; 8];
+pub const EMPTY: IdSet = [0; 8];
 
 struct Made {
     entry: Entry,
@@ -44,7 +44,7 @@ impl Log {
 
     /// Empty where no such entry was made.
     pub fn writers_past(&self, id: (u32, u32)) -> IdSet {
-        self.made.get(&id).map_or(FRESH, |made| made.writers_past)
+        self.made.get(&id).map_or(EMPTY, |made| made.writers_past)
     }
 
     pub fn ids(&self) -> impl Iterator<Item = (u32, u32)> + '_ {

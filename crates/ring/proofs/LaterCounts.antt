@@ -160,7 +160,7 @@ module _ (n p : ℕ) (two : 2 ≤ n) (eight : n ≤ 8) (one : 1 ≤ p) (p64 : p 
   prevailing : (m x : Made) → List·Memᴰ x (g .log) → (f : Found) → f ≡ Some (x .entry) → (x ≡ m) ⊎ (outranks (x .entry) (m .entry) ≡ true)
       → Prevails (g .log) m f
   prevailing m x i f e o =
-      record { answer = x; made = i; found = e; over = o; beyond = beyond; not-corrected = apart }
+      record { winner = x; made = i; found = e; over = o; beyond = beyond; not-corrected = apart }
     where
       beyond : (d : Made) → Knew (g .log) m d → outranks (x .entry) (d .entry) ≡ true
       beyond d y =

@@ -35,14 +35,14 @@ pub data Before (log : List Made) (d : Made) : Made → Type 0 where
   direct : {m : Made} → Knew log m d → Before log d m
   through : {k m : Made} → Before log d k → Knew log m k → Before log d m
 
--- f, an answer on m's plot, is m or an entry made that outranks m; so it outranks all that m's writer knew, and is none of it, not what m corrects
+-- f, found on m's plot, is m or an entry made that outranks m; so it outranks all that m's writer knew, and is none of it, not what m corrects
 pub record Prevails (log : List Made) (m : Made) (f : Found) : Type 0 where
-  pub answer : Made
-  pub made : List·Memᴰ answer log
-  pub found : f ≡ Some (answer .entry)
-  pub over : (answer ≡ m) ⊎ (outranks (answer .entry) (m .entry) ≡ true)
-  pub beyond : (d : Made) → Knew log m d → outranks (answer .entry) (d .entry) ≡ true
-  pub not-corrected : (d : Made) → Knew log m d → idOf (answer .entry) ≡ idOf (d .entry) → ⊥
+  pub winner : Made
+  pub made : List·Memᴰ winner log
+  pub found : f ≡ Some (winner .entry)
+  pub over : (winner ≡ m) ⊎ (outranks (winner .entry) (m .entry) ≡ true)
+  pub beyond : (d : Made) → Knew log m d → outranks (winner .entry) (d .entry) ≡ true
+  pub not-corrected : (d : Made) → Knew log m d → idOf (winner .entry) ≡ idOf (d .entry) → ⊥
 
 -- a reading by s at the store ws meets m: m is visible once the session's read names are brought out, or it is in the session's past
 abbrev pub Meets : List ℕ → Tracked → Made → Type 0
@@ -55,12 +55,12 @@ pub record LaterIn (n : ℕ) (g : State (List ℕ) (List ℕ) (List ℕ)) : Type
   pub over-past-held : (o q : ℕ) → o < n → q < n → (m d : Made) → Knew (g .log) m d
       → has (officeOf (g .stores o) .held) (idOf (m .entry)) ≡ 1 → has (officeOf (g .stores q) .held) (idOf (d .entry)) ≡ 1
       → Later (officeOf (g .stores o) .entry (idOf (m .entry))) (officeOf (g .stores q) .entry (idOf (d .entry)))
-  -- rank never goes round: no entry made comes back to itself by entries each in the next one's past
+  -- so rank never goes round: no entry made comes back to itself by entries each in the next one's past
   pub never-round : (m : Made) → Before (g .log) m m → ⊥
   -- what a foreman relies on: wherever his correction m is visible, the current entry of its plot is m or outranks it, and never what he corrected
   pub prevails : (o : ℕ) → o < n → (m : Made) → List·Memᴰ m (g .log) → Shows (g .stores o) (m .entry)
       → Prevails (g .log) m (current (officeOf (g .stores o)) (m .entry .plot))
-  -- .. and so is what a reading that meets it hands back, a single or a joint one: to himself, and to whoever has heard of it or reads there
+  -- .. and so is what a reading that meets it hands back, a single or a joint one: to himself, to who has it in his past, to whoever reads there
   pub prevails-read : (o i : ℕ) (s : Tracked) → o < n → at (g .sessions) i ≡ s ∷ [] → (m : Made) → List·Memᴰ m (g .log) → Meets (g .stores o) s m
       → readPlot (g .stores o) (s .session) (m .entry .plot) .code ≡ 0
       → (f : Found) → List·Memᴰ f (readPlot (g .stores o) (s .session) (m .entry .plot) .found) → Prevails (g .log) m f
