@@ -2,7 +2,7 @@
 
 use super::checks::Check;
 use super::codec::Frame;
-use super::entry::{insert, Entry, IdSet};
+use super::entry::{insert, Clock, Entry, IdSet};
 use super::office::{read_plot, receive, write};
 use super::office_checks::{fresh, opened, words_of};
 use super::past::{clock_covers, Log, EMPTY};
@@ -35,6 +35,10 @@ fn set<const N: usize>(entries: [Entry; N]) -> IdSet {
     set
 }
 
+fn clock_of([first, second, third]: [u32; 3]) -> Clock {
+    [first, second, third, 0, 0, 0, 0, 0]
+}
+
 impl Ring {
     fn write(&mut self, writer: &mut Tracked, office: usize, plot: u32) -> Entry {
         write(&mut self.stores[office], &mut writer.session, plot, 7, &mut [0; 99]).unwrap();
@@ -56,6 +60,13 @@ impl Ring {
 
     fn writers_past(&self, entry: Entry) -> IdSet {
         self.log.writers_past(entry.id())
+    }
+
+    /// Whether a correction's writer knew just this entry, and document 02 (iii) holds of the two.
+    fn corrects(&self, correction: Entry, corrected: Entry) -> bool {
+        self.writers_past(correction) == set([corrected])
+            && correction.outranks(&corrected)
+            && clock_covers(&correction, &corrected)
     }
 }
 
@@ -121,11 +132,8 @@ fn copies_go_on_by_themselves() -> bool {
 fn own_entry_corrected_elsewhere() -> bool {
     let (mut ring, mut foreman) = (ring(), newcomer());
     let (first, correction) = (ring.write(&mut foreman, 0, 5), ring.write(&mut foreman, 1, 5));
-    ring.writers_past(correction) == set([first])
-        && first.clock[..3] == [1, 0, 0]
-        && correction.clock[..3] == [1, 1, 0]
-        && correction.outranks(&first)
-        && clock_covers(&correction, &first)
+    let clocks = [first.clock, correction.clock] == [clock_of([1, 0, 0]), clock_of([1, 1, 0])];
+    ring.corrects(correction, first) && clocks
 }
 
 /// He reads at office 2 what is still hidden at office 1, where he corrects it.
@@ -138,17 +146,13 @@ fn read_entry_corrected_elsewhere() -> bool {
     let words = words_of(&Frame { offices: 3, hops: 1, entry: read });
     receive(&mut ring.stores[1], &words, &mut [0; 7]).unwrap();
     let correction = ring.write(&mut foreman, 1, 5);
-    ring.writers_past(correction) == set([read])
-        && read.clock[..3] == [2, 0, 0]
-        && correction.clock[..3] == [2, 1, 0]
-        && correction.outranks(&read)
-        && clock_covers(&correction, &read)
+    let clocks = [read.clock, correction.clock] == [clock_of([2, 0, 0]), clock_of([2, 1, 0])];
+    ring.corrects(correction, read) && clocks
 }
 
 /// A clock that outranks may still have a lower number.
 fn rank_does_not_cover() -> bool {
-    let entry =
-        |clock: [u32; 3]| Entry { clock: [clock[0], clock[1], clock[2], 0, 0, 0, 0, 0], ..Entry::default() };
+    let entry = |numbers| Entry { clock: clock_of(numbers), ..Entry::default() };
     let (high, low) = (entry([2, 0, 1]), entry([1, 1, 1]));
     high.outranks(&low) && !clock_covers(&high, &low) && clock_covers(&high, &high)
 }

@@ -1,5 +1,5 @@
 -- A write keeps the invariant, and is never refused with 10, 11 or 12. Assumes nothing.
-use Prim.Native.Nat.{ℕ, _*_, _+_, _-_, _/_, _<_, _≤_, max}
+use Prim.Native.Nat.{ℕ, _*_, _+_, _-_, _/_, _<_, _≤_, max, suc}
 use mathlib.Core.Bool.{Bool, cond, false, true}
 use mathlib.Core.List.{List, List·Memᴰ, List·Memᴰ·append-cases, List·Memᴰ·cases-cons, List·Memᴰ·eq-of-singleton, List·Memᴰ·head, List·Memᴰ·not-nil, List·Memᴰ·tail, Memᴰ·append-left, Memᴰ·append-right, Memᴰ·map, Memᴰ·of-map, [], _++_, _∷_, map, map-append}
 use mathlib.Core.Logic.{_⊎_, inl, inr, ⊎-elim}
@@ -629,69 +629,66 @@ module _ (n p : ℕ) (two : 2 ≤ n) (eight : n ≤ 8) (E : ℕ → Entry) (P : 
                 (List·Memᴰ·append-cases (ids (g .log)) (rw log-are at m));
           }
 
-  abbrev pub T8 : Bool
+  abbrev T8 : Bool
   T8 = leb (length (rowsOf (writeSends O s plot value))) (length row)
 
-  pub write-code : writeCode O s plot value (length row) ≡
+  write-code : writeCode O s plot value (length row) ≡
       check (sessionOk (O .offices) (O .plots) s) 3
       (check (ltb plot (O .plots)) 4
       (check (ltb value 268435456) 5 (check (ltb (length (s .own)) 16) 7 (check (ltb (made O) 32) 6 (check T8 8 0)))))
   unfolding writeCode check orElse
   write-code = rw (read-held n p two eight E P g w o lt s (r .past) F, own-code n p two eight E P g w o (s .own) own-made)
 
-  refused : (c : ℕ) → Fine c
-      → Whole n p two E P (refusedBy onContents n g o i r (refusal {A = Office} {B = Frame} c O s row))
-  refused c f = refused-whole n p two eight E P g w o c row i r in-r f
+  abbrev Passed : Type 0
+  Passed =
+      (sessionOk (O .offices) (O .plots) s ≡ true) × (ltb plot (O .plots) ≡ true) × (ltb value 268435456 ≡ true) × (ltb (made O) 32 ≡ true)
 
-  abbrev pub after : ℕ → Sys
-  after c = writeBy onContents n g o i r (given c O s row R) (given c O s row R .code)
-
-  pub write-whole : Agrees E P (writeBy onContents n g o i r (writeOn O s plot value row) (writeOn O s plot value row .code) .log) →
-      Whole n p two E P (writeBy onContents n g o i r (writeOn O s plot value row) (writeOn O s plot value row .code))
-  unfolding writeOn check
-  write-whole =
+  -- what holds of every refusal that can be, and where the tests are passed, holds of the write's code
+  by-code : (Q : ℕ → Type 0) → ((c : ℕ) → Fine (suc c) → Q (suc c)) → (Passed → Q 0) → Q (writeCode O s plot value (length row))
+  unfolding check
+  by-code Q refuse accept =
       rw write-code
       (go (sessionOk (O .offices) (O .plots) s) refl (ltb plot (O .plots)) refl (ltb value 268435456) refl (ltb (length (s .own)) 16)
       (ltb (made O) 32) refl T8)
     where
       go : (a : Bool) → sessionOk (O .offices) (O .plots) s ≡ a → (b : Bool) → ltb plot (O .plots) ≡ b → (c : Bool) → ltb value 268435456 ≡ c
-          → (d : Bool) → (f : Bool) → ltb (made O) 32 ≡ f → (h : Bool) →
-          Agrees E P (after (check a 3 (check b 4 (check c 5 (check d 7 (check f 6 (check h 8 0)))))) .log) →
-          Whole n p two E P (after (check a 3 (check b 4 (check c 5 (check d 7 (check f 6 (check h 8 0)))))))
-      go true qa true qb true qc true true qf true A = rw wrote-is (wrote-whole (rw (ap (λ (x : Sys). x .log) wrote-is) at A) qa qb qc qf)
-      go true qa true qb true qc true true qf false A = refused 8 (λ x. omega arith, λ x. omega arith, λ x. omega arith)
-      go true qa true qb true qc true false qf h A = refused 6 (λ x. omega arith, λ x. omega arith, λ x. omega arith)
-      go true qa true qb true qc false f qf h A = refused 7 (λ x. omega arith, λ x. omega arith, λ x. omega arith)
-      go true qa true qb false qc d f qf h A = refused 5 (λ x. omega arith, λ x. omega arith, λ x. omega arith)
-      go true qa false qb c qc d f qf h A = refused 4 (λ x. omega arith, λ x. omega arith, λ x. omega arith)
-      go false qa b qb c qc d f qf h A = refused 3 (λ x. omega arith, λ x. omega arith, λ x. omega arith)
+          → (d : Bool) → (f : Bool) → ltb (made O) 32 ≡ f → (h : Bool) → Q (check a 3 (check b 4 (check c 5 (check d 7 (check f 6 (check h 8 0))))))
+      go true qa true qb true qc true true qf true = accept (qa, qb, qc, qf)
+      go true qa true qb true qc true true qf false = refuse 7 (λ x. omega arith, λ x. omega arith, λ x. omega arith)
+      go true qa true qb true qc true false qf h = refuse 5 (λ x. omega arith, λ x. omega arith, λ x. omega arith)
+      go true qa true qb true qc false f qf h = refuse 6 (λ x. omega arith, λ x. omega arith, λ x. omega arith)
+      go true qa true qb false qc d f qf h = refuse 4 (λ x. omega arith, λ x. omega arith, λ x. omega arith)
+      go true qa false qb c qc d f qf h = refuse 3 (λ x. omega arith, λ x. omega arith, λ x. omega arith)
+      go false qa b qb c qc d f qf h = refuse 2 (λ x. omega arith, λ x. omega arith, λ x. omega arith)
+
+  abbrev after : ℕ → Sys
+  after c = writeBy onContents n g o i r (given c O s row R) (given c O s row R .code)
+
+  log-is : wrote onContents n g o i r R .log ≡ g .log ++ (made-now ∷ [])
+  log-is = ap (λ (x : Sys). x .log) wrote-is
+
+  pub write-whole : Agrees E P (writeBy onContents n g o i r (writeOn O s plot value row) (writeOn O s plot value row .code) .log) →
+      Whole n p two E P (writeBy onContents n g o i r (writeOn O s plot value row) (writeOn O s plot value row .code))
+  unfolding writeOn
+  write-whole =
+      by-code (λ c. Agrees E P (after c .log) → Whole n p two E P (after c))
+      (λ c f A. refused-whole n p two eight E P g w o (suc c) row i r in-r f)
+      (λ t A. rw wrote-is (wrote-whole (rw log-is at A) (t .0) (t .1) (t .2) (t .3)))
 
   pub write-distinct : Distinct (g .log)
       → Distinct (writeBy onContents n g o i r (writeOn O s plot value row) (writeOn O s plot value row .code) .log)
-  unfolding writeOn check
+  unfolding writeOn
   write-distinct D =
-      rw write-code
-      (go (sessionOk (O .offices) (O .plots) s) (ltb plot (O .plots)) (ltb value 268435456) (ltb (length (s .own)) 16) (ltb (made O) 32) refl T8)
-    where
-      go : (a b c d f : Bool) → ltb (made O) 32 ≡ f → (h : Bool)
-          → Distinct (after (check a 3 (check b 4 (check c 5 (check d 7 (check f 6 (check h 8 0)))))) .log)
-      go true true true true true qf true =
-          rw (ap (λ (x : Sys). x .log) wrote-is) (distinct-more (g .log) made-now D (fresh-id (ltb-true (made O) 32 qf)))
-      go true true true true true qf false = D
-      go true true true true false qf h = D
-      go true true true false f qf h = D
-      go true true false d f qf h = D
-      go true false c d f qf h = D
-      go false b c d f qf h = D
+      by-code (λ c. Distinct (after c .log)) (λ c f. D)
+      (λ t. rw log-is (distinct-more (g .log) made-now D (fresh-id (ltb-true (made O) 32 (t .3)))))
 
   pub write-clocks : Clocks n E g
       → Agrees E P (writeBy onContents n g o i r (writeOn O s plot value row) (writeOn O s plot value row .code) .log) →
       Clocks n E (writeBy onContents n g o i r (writeOn O s plot value row) (writeOn O s plot value row .code))
-  unfolding writeOn check
+  unfolding writeOn
   write-clocks K =
-      rw write-code
-      (go (sessionOk (O .offices) (O .plots) s) refl (ltb plot (O .plots)) refl (ltb value 268435456) refl (ltb (length (s .own)) 16)
-      (ltb (made O) 32) refl T8)
+      by-code (λ c. Agrees E P (after c .log) → Clocks n E (after c)) (λ c f A. kept (suc c))
+      (λ t A. rw wrote-is (wrote-clocks (rw log-is at A) (t .0) (t .1) (t .2) (t .3) K))
     where
       kept : (c : ℕ) → Clocks n E (refusedBy onContents n g o i r (refusal {A = Office} {B = Frame} c O s row))
       kept c =
@@ -700,37 +697,14 @@ module _ (n p : ℕ) (two : 2 ≤ n) (eight : n ≤ 8) (E : ℕ → Entry) (P : 
           (λ x m. ⊎-elim (λ (q : x ≡ record { session = s; past = r .past }). rw q (K .sessions r in-r)) (λ j. K .sessions x j)
           (mem-set (g .sessions) i (record { session = s; past = r .past }) x m)) _ _)
 
-      go : (a : Bool) → sessionOk (O .offices) (O .plots) s ≡ a → (b : Bool) → ltb plot (O .plots) ≡ b → (c : Bool) → ltb value 268435456 ≡ c
-          → (d : Bool) → (f : Bool) → ltb (made O) 32 ≡ f → (h : Bool) →
-          Agrees E P (after (check a 3 (check b 4 (check c 5 (check d 7 (check f 6 (check h 8 0)))))) .log) →
-          Clocks n E (after (check a 3 (check b 4 (check c 5 (check d 7 (check f 6 (check h 8 0)))))))
-      go true qa true qb true qc true true qf true A = rw wrote-is (wrote-clocks (rw (ap (λ (x : Sys). x .log) wrote-is) at A) qa qb qc qf K)
-      go true qa true qb true qc true true qf false A = kept _
-      go true qa true qb true qc true false qf h A = kept _
-      go true qa true qb true qc false f qf h A = kept _
-      go true qa true qb false qc d f qf h A = kept _
-      go true qa false qb c qc d f qf h A = kept _
-      go false qa b qb c qc d f qf h A = kept _
-
   -- the entry of a write that is not refused, the last of the session's own, is later than all that its office shows
   pub write-over : Clocks n E g → Agrees E P (writeBy onContents n g o i r (writeOn O s plot value row) (writeOn O s plot value row .code) .log)
       → writeOn O s plot value row .code ≡ 0 → (d : ℕ) → has (O .visible) d ≡ 1 → Later (lastOf (writeOn O s plot value row .session .own)) (E d)
-  unfolding writeOn check
+  unfolding writeOn
   write-over K =
-      rw write-code
-      (go (sessionOk (O .offices) (O .plots) s) refl (ltb plot (O .plots)) refl (ltb value 268435456) refl (ltb (length (s .own)) 16)
-      (ltb (made O) 32) refl T8)
-    where
-      go : (a : Bool) → sessionOk (O .offices) (O .plots) s ≡ a → (b : Bool) → ltb plot (O .plots) ≡ b → (c : Bool) → ltb value 268435456 ≡ c
-          → (d : Bool) → (f : Bool) → ltb (made O) 32 ≡ f → (h : Bool) →
-          Agrees E P (after (check a 3 (check b 4 (check c 5 (check d 7 (check f 6 (check h 8 0)))))) .log) →
-          given (check a 3 (check b 4 (check c 5 (check d 7 (check f 6 (check h 8 0)))))) O s row R .code ≡ 0 → (x : ℕ) → has (O .visible) x ≡ 1 →
-          Later (lastOf (given (check a 3 (check b 4 (check c 5 (check d 7 (check f 6 (check h 8 0)))))) O s row R .session .own)) (E x)
-      go true qa true qb true qc true true qf true A z x v =
-          rw last-is (over-shown (rw (ap (λ (x : Sys). x .log) wrote-is) at A) qa qb qc qf K x v)
-      go true qa true qb true qc true true qf false A z x v = absurd (omega arith)
-      go true qa true qb true qc true false qf h A z x v = absurd (omega arith)
-      go true qa true qb true qc false f qf h A z x v = absurd (omega arith)
-      go true qa true qb false qc d f qf h A z x v = absurd (omega arith)
-      go true qa false qb c qc d f qf h A z x v = absurd (omega arith)
-      go false qa b qb c qc d f qf h A z x v = absurd (omega arith)
+      by-code
+      (λ c.
+      Agrees E P (after c .log) → given c O s row R .code ≡ 0 → (x : ℕ) → has (O .visible) x ≡ 1 →
+      Later (lastOf (given c O s row R .session .own)) (E x))
+      (λ c f A z x v. absurd (omega arith))
+      (λ t A z x v. rw last-is (over-shown (rw log-is at A) (t .0) (t .1) (t .2) (t .3) K x v))
