@@ -8,6 +8,8 @@ pub mod Turns
 pub mod Reading
 pub mod Ids
 pub mod Sessions
+pub mod LeaveOut
+pub mod OwnLess
 pub mod Sane
 pub mod Back
 pub mod Tokens

@@ -261,7 +261,7 @@ own-count zero n ws = refl
 own-count (suc k) n ws = ap suc (own-count k n (drop (frameLength n ws) ws))
 
 -- a row of sixteen gets one entry more
-fill-next : (es : List Entry) (x : Entry) → length es < 16 → set (filled es) (length es) x ≡ filled (es ++ (x ∷ []))
+pub fill-next : (es : List Entry) (x : Entry) → length es < 16 → set (filled es) (length es) x ≡ filled (es ++ (x ∷ []))
 unfolding filled
 fill-next es x h =
     let e : 16 - length es ≡ suc (15 - length es) = omega arith in

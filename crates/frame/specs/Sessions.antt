@@ -1,6 +1,6 @@
 -- Sessions (01: errands): content, and when one is sound. Paper 01, "Entries and rank", "Sound stores and errands". Assumes nothing.
 use Prim.Native.Nat.{ℕ, _-_}
-use mathlib.Core.Bool.{Bool, true, not}
+use mathlib.Core.Bool.{Bool, true, not, cond}
 use mathlib.Core.List.{List, [], _∷_, _++_, foldl}
 use lib.Dec.{leb, eqb}
 use lib.ListN.{length, getD, replicate}
@@ -38,6 +38,11 @@ sessionOf c = record { offices = c .offices; clock = c .clock; read = c .read; c
 -- the ids of entries, as a set
 unfoldable pub idsOf : List Entry → List ℕ
 idsOf es = foldl (λ (s : List ℕ) (e : Entry). inserted s (idOf e)) zeros es
+
+-- the entries, in order, but for those that a test takes out
+unfoldable pub leaveOut : (Entry → Bool) → List Entry → List Entry
+leaveOut t [] = []
+leaveOut t (e ∷ es) = cond (t e) (leaveOut t es) (e ∷ leaveOut t es)
 
 -- "own entries have distinct names and keep the entry rules, and each depends only on read names and earlier own entries": seen is the set of
 -- the earlier ones

@@ -15,6 +15,7 @@ use Rattle.frame.specs.Promises.{ReadFramePromise, ReadTokenPromise, WriteFrame
 use Rattle.frame.specs.declared.entry.Frame.{Frame}
 use Rattle.frame.specs.declared.session.Session.{Session}
 use Rattle.frame.proofs.Contract.{Four, Lent, One, Row, Three, Two}
+use Rattle.joining.specs.Promises.{JoinPromise}
 use Rattle.office.specs.Promises.{FreshPromise, JointPromise, NeedPromise, OpenPromise, ReadPromise, ReceivePromise, SettingsPromise, WritePromise}
 use Rattle.host.specs.Bytes.{CheckPromise}
 use Rattle.host.specs.Flags.{isSet}
@@ -40,6 +41,7 @@ use Rattle.host.proofs.offices.burial_receive as receive
 use Rattle.host.proofs.offices.burial_store_need as need
 use Rattle.host.proofs.offices.burial_store_settings as settings
 use Rattle.host.proofs.offices.burial_write as write
+use Rattle.host.proofs.sessions.burial_join_sessions as join-sessions
 use Rattle.host.proofs.tokens.burial_read_token as read-token
 use Rattle.host.proofs.tokens.burial_write_token as write-token
 use Rattle.host.proofs.version.burial_version as version
@@ -86,6 +88,11 @@ module _ {M : Type 1} (𝓤 : URA M) (H : Heap 𝓤) (A : Atoms 𝓤) (mem : Mem
         → fresh.clauses 𝓤 H A mem run tt (n, tt) .ensures tt r (n, tt)
         ≡ fact 𝓤 (FreshPromise n (r .refusal) (r .session))
     pub fresh-asks : (n : ℕ) → fresh.clauses 𝓤 H A mem run tt (n, tt) .requires tt ≡ emp 𝓤
+    pub join-sessions-met : join-sessions.Statement.statement M
+    pub join-sessions-is : (n p : ℕ) (a b : Session) (r : SessionAnswer)
+        → join-sessions.clauses 𝓤 H A mem run tt (n, (p, (a, (b, tt)))) .ensures tt r (n, (p, (a, (b, tt))))
+        ≡ fact 𝓤 (JoinPromise n p a b (r .refusal) (r .session))
+    pub join-sessions-asks : (n p : ℕ) (a b : Session) → join-sessions.clauses 𝓤 H A mem run tt (n, (p, (a, (b, tt)))) .requires tt ≡ emp 𝓤
     pub settings-met : settings.Statement.statement M
     pub settings-is : (κs : One) (ws : Row) (r : SettingsAnswer) (ws′ : Row)
         → settings.clauses 𝓤 H A mem run κs (ws, tt) .ensures tt r (ws′, tt)
@@ -157,6 +164,9 @@ module _ {M : Type 1} (𝓤 : URA M) (H : Heap 𝓤) (A : Atoms 𝓤) (mem : Mem
         fresh-met = fresh.Met.met;
         fresh-is = λ n r. refl;
         fresh-asks = λ n. refl;
+        join-sessions-met = join-sessions.Met.met;
+        join-sessions-is = λ n p a b r. refl;
+        join-sessions-asks = λ n p a b. refl;
         settings-met = settings.Met.met;
         settings-is = λ κs ws r ws′. refl;
         settings-asks = λ κs ws. refl;

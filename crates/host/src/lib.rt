@@ -3,5 +3,6 @@ pub mod answer;
 pub mod frames;
 pub mod lent;
 pub mod offices;
+pub mod sessions;
 pub mod tokens;
 pub mod version;

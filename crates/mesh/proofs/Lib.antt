@@ -4,4 +4,6 @@ pub mod Carry
 pub mod Receive
 pub mod Write
 pub mod Reveal
+pub mod Without
 pub mod Sessions
+pub mod Join

@@ -1,14 +1,15 @@
 -- Every step keeps a session sound, and at an office that shows all it has read, whatever its past has is visible there or is its own.
 -- Assumes nothing.
 use Prim.Native.Nat.{ℕ}
-use mathlib.Core.List.{List, List·Memᴰ, List·Memᴰ·append-cases, List·Memᴰ·cases-cons, List·Memᴰ·eq-of-singleton, List·Memᴰ·head, List·Memᴰ·not-nil, List·Memᴰ·tail, Memᴰ·append-left, Memᴰ·append-right, [], _++_, _∷_, append-nil}
+use mathlib.Core.List.{List, List·Memᴰ, List·Memᴰ·append-cases, List·Memᴰ·eq-of-singleton, List·Memᴰ·head, List·Memᴰ·not-nil, Memᴰ·append-left, Memᴰ·append-right, [], _++_, _∷_, append-nil}
 use mathlib.Core.Logic.{_⊎_, inl, inr, ⊎-elim}
-use mathlib.Core.Path.{_∙_, _≡_, ap, sym}
+use mathlib.Core.Path.{_∙_, _≡_, sym}
 use native.Mathlib.Omega.{arith}
 use Rattle.mesh.specs.Ring.{Shape}
-use Rattle.mesh.specs.Sessions.{IdSession, Law, Picked, SoundSession, TakesIn, Writes, picked-nil, picked-skip, picked-take}
+use Rattle.mesh.specs.Sessions.{IdSession, Law, SoundSession, TakesIn, Writes}
 use Rattle.mesh.specs.World.{Inv, Reach, World, Write, self, via}
 use Rattle.mesh.proofs.Lists.{Side, left, mem-split, nil-split, one-split, right, side}
+use Rattle.mesh.proofs.Without.{without-all, without-in, without-split}
 
 module _ (S : Shape) (wpast : ℕ → ℕ → Type 0) where
   -- a session stays sound while others act
@@ -121,37 +122,6 @@ module _ (S : Shape) (wpast : ℕ → ℕ → Type 0) where
         past q (inl b) = let t = J .past-from q b in (t .0, base (t .0) (t .1), t .2)
         past q (inr t) = (t .0, source (t .0) (T .handed (t .0) (t .1)), gain (t .0) q (handed-made (t .0) (T .handed (t .0) (t .1))) (t .2))
 
-module _ (W : World) (C : ℕ) where
-  -- each own write is held, or picked
-  pub picked-all : {own ds : List ℕ} → Picked W C own ds → (y : ℕ) → List·Memᴰ y own → W .held C y ⊎ List·Memᴰ y ds
-  picked-all picked-nil y m = absurd (List·Memᴰ·not-nil m)
-  picked-all (picked-take k) y m =
-      ⊎-elim (λ e. inr (List·Memᴰ·head e)) (λ i. ⊎-elim (λ h. inl h) (λ j. inr (List·Memᴰ·tail j)) (picked-all k y i)) (List·Memᴰ·cases-cons m)
-  picked-all (picked-skip h k) y m = ⊎-elim (λ e. inl (rw e h)) (λ i. picked-all k y i) (List·Memᴰ·cases-cons m)
-
-  pub picked-own : {own ds : List ℕ} → Picked W C own ds → (y : ℕ) → List·Memᴰ y ds → List·Memᴰ y own
-  picked-own picked-nil y m = m
-  picked-own (picked-take k) y m = ⊎-elim (λ e. List·Memᴰ·head e) (λ i. List·Memᴰ·tail (picked-own k y i)) (List·Memᴰ·cases-cons m)
-  picked-own (picked-skip h k) y m = List·Memᴰ·tail (picked-own k y m)
-
-  -- what stands before a picked id among the own writes is held, or stands before it among those picked
-  picked-split : {own ds : List ℕ} → Picked W C own ds → (bef : List ℕ) (y : ℕ) (aft : List ℕ) → ds ≡ bef ++ y ∷ aft →
-      (b : List ℕ) × (a : List ℕ) × (own ≡ b ++ y ∷ a) × ((d : ℕ) → List·Memᴰ d b → W .held C d ⊎ List·Memᴰ d bef)
-  picked-split picked-nil bef y aft e = absurd (nil-split bef y aft e)
-  picked-split (picked-take {own = own} k) [] y aft e = ([], own, cc, λ d m. absurd (List·Memᴰ·not-nil m))
-  picked-split (picked-take {y = c} k) (x ∷ bef) y aft e =
-      let r = picked-split k bef y aft (cc) in
-      let q : c ≡ x = cc in (
-        c ∷ r .0,
-        r .1,
-        ap (λ (l : List ℕ). c ∷ l) (r .2),
-        λ d m.
-            ⊎-elim (λ i. inr (List·Memᴰ·head (i ∙ q))) (λ i. ⊎-elim (λ h. inl h) (λ j. inr (List·Memᴰ·tail j)) (r .3 d i)) (List·Memᴰ·cases-cons m),
-      )
-  picked-split (picked-skip {y = c} h k) bef y aft e =
-      let r = picked-split k bef y aft e in
-      (c ∷ r .0, r .1, ap (λ (l : List ℕ). c ∷ l) (r .2), λ d m. ⊎-elim (λ i. inl (rw i h)) (λ i. r .3 d i) (List·Memᴰ·cases-cons m))
-
 module _ (S : Shape) (wpast : ℕ → ℕ → Type 0) where
   module _ (W W′ : World) (I : Inv S W) (L : Law S wpast W) (s s′ : IdSession) (J : SoundSession S wpast W s) (C : ℕ) (ds : List ℕ) (e : ℕ)
       (R : Writes S wpast W W′ s s′ C ds e) where
@@ -160,19 +130,19 @@ module _ (S : Shape) (wpast : ℕ → ℕ → Type 0) where
 
     -- no session's write is ever refused for what it depends on
     pub write-ready : Write S W W′ C ds e
-    write-ready = record { in-ring = R .in-ring; carried = λ d m. J .own-made d (picked-own W C (R .picked) d m); ready = ready; does = R .does }
+    write-ready = record { in-ring = R .in-ring; carried = λ d m. J .own-made d (without-in (R .picked) d m); ready = ready; does = R .does }
       where
         ready : (bef : List ℕ) (y : ℕ) (aft : List ℕ) → ds ++ e ∷ [] ≡ bef ++ y ∷ aft → (d : ℕ) → S .deps y d → W .held C d ⊎ List·Memᴰ d bef
         ready bef y aft q d m = go (side ds (e ∷ []) bef y aft q)
           where
             go : Side ds (e ∷ []) bef y aft → W .held C d ⊎ List·Memᴰ d bef
             go (left aft′ p) =
-                let r = picked-split W C (R .picked) bef y aft′ p in
+                let r = without-split (R .picked) bef y aft′ p in
                 ⊎-elim (λ i. inl (read-held d i)) (λ i. r .3 d i) (J .own-deps (r .0) y (r .1) (r .2) d m)
             go (right bef′ p p′) =
                 let r = one-split e bef′ y aft p′ in
                 let all : bef ≡ ds = p ∙ rw (r .0) (append-nil ds) in
-                rw all (⊎-elim (λ i. inl (read-held d i)) (λ i. picked-all W C (R .picked) d i) (R .deps-in d (rw (r .1) at m)))
+                rw all (⊎-elim (λ i. inl (read-held d i)) (λ i. without-all (R .picked) d i) (R .deps-in d (rw (r .1) at m)))
 
     pub write-law : Law S wpast W′
     write-law x q m w = go (R .does .made-from x m)

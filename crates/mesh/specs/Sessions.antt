@@ -1,4 +1,4 @@
--- Sessions on ids: what a session has read and written, when it is sound, what a reading and a write do to it. Assumes nothing.
+-- Sessions on ids: what a session has read and written, when it is sound, what a reading, a write and a join do to it. Assumes nothing.
 use Prim.Native.Nat.{ℕ, _<_}
 use mathlib.Core.List.{List, List·Memᴰ, [], _++_, _∷_}
 use mathlib.Core.Logic.{_⊎_}
@@ -12,11 +12,27 @@ pub record IdSession : Type 1 where
   pub own : List ℕ
   pub past : ℕ → Type 0
 
+-- m has the ids of l, in order, but for some of Q
+pub data Without (Q : ℕ → Type 0) : List ℕ → List ℕ → Type 0 where
+  without-nil : Without Q [] []
+  without-keep : {y : ℕ} {l m : List ℕ} → Without Q l m → Without Q (y ∷ l) (y ∷ m)
+  without-drop : {y : ℕ} {l m : List ℕ} → Q y → Without Q l m → Without Q (y ∷ l) m
+
 -- ds are the ids of own, in order, that C need not hold
-pub data Picked (W : World) (C : ℕ) : List ℕ → List ℕ → Type 0 where
-  picked-nil : Picked W C [] []
-  picked-take : {y : ℕ} {own ds : List ℕ} → Picked W C own ds → Picked W C (y ∷ own) (y ∷ ds)
-  picked-skip : {y : ℕ} {own ds : List ℕ} → W .held C y → Picked W C own ds → Picked W C (y ∷ own) ds
+abbrev pub Picked : World → ℕ → List ℕ → List ℕ → Type 0
+Picked W C own ds = Without (W .held C) own ds
+
+-- s is the join of a and b: both have read what it has read; the own writes of a, then those of b that are not among them (rest); both pasts
+pub record Joins (a b s : IdSession) (rest : List ℕ) : Type 0 where
+  pub reads-from : (r : ℕ) → s .reads r → a .reads r ⊎ b .reads r
+  pub reads-first : (r : ℕ) → a .reads r → s .reads r
+  pub reads-second : (r : ℕ) → b .reads r → s .reads r
+  pub left-out : Without (λ (y : ℕ). List·Memᴰ y (a .own)) (b .own) rest
+  pub not-among : (y : ℕ) → List·Memᴰ y rest → ¬ (List·Memᴰ y (a .own))
+  pub own-are : s .own ≡ a .own ++ rest
+  pub past-from : (q : ℕ) → s .past q → a .past q ⊎ b .past q
+  pub past-first : (q : ℕ) → a .past q → s .past q
+  pub past-second : (q : ℕ) → b .past q → s .past q
 
 module _ (S : Shape) (wpast : ℕ → ℕ → Type 0) where
   -- the past of who wrote e is reached from what e depends on

@@ -10,7 +10,7 @@ use Rattle.causal.specs.Lists.{zeros}
 use Rattle.causal.specs.Sets.{IdSet, Within, has, inserted, isIn, unite}
 use Rattle.causal.proofs.Sets.{has-zeros, ids-inserted, ids-unite, ids-zeros, in-inserted, in-is, in-or-out, in-unite, inserted-old, out-is, subset-within}
 use Rattle.frame.specs.Entries.{entryOk, idOf}
-use Rattle.frame.specs.Sessions.{ownOk}
+use Rattle.frame.specs.Sessions.{leaveOut, ownOk}
 use Rattle.frame.specs.declared.entry.Entry.{Entry}
 use Rattle.frame.proofs.Entries.{EntryFacts, entry-facts}
 use Rattle.frame.proofs.Ids.{id-range, inserted-new}
@@ -119,7 +119,7 @@ module _ (O : Office) (S : Sound O) (read : List ℕ) (read-set : IdSet read) (r
   -- all of them
   pub along-own : (es : List Entry) (Oi : Office) (seen : List ℕ) → Along O Oi seen → ownOk (O .offices) (O .plots) read seen es ≡ true
       → ((e : Entry) → List·Memᴰ e es → SaneEntry e × Known O e) → Along O (holdAll Oi (missing O es)) (idsWith seen es)
-  unfolding holdAll missing
+  unfolding holdAll leaveOut
   along-own [] Oi seen A h sane = A
   along-own (e ∷ es) Oi seen A h sane =
       go (isIn (O .held) (idOf e)) refl (own-facts (O .offices) (O .plots) read seen e es h) (sane e (List·Memᴰ·head refl))

@@ -14,14 +14,14 @@ use Rattle.causal.specs.Tests.{allBelow, both, either, implies}
 use Rattle.frame.specs.Calls.{laid}
 use Rattle.frame.specs.Entries.{boundsOk, clockOk, clockPlaceOk, entryOk, idsOk, idsPlaceOk, outranks, sameContent}
 use Rattle.frame.specs.Frames.{accepts, bodyWords, frameOf, frameOk, frameWords, framed, ringOk}
-use Rattle.frame.specs.Sessions.{Content, freshContent, idsOf, ownOk, sessionOk}
+use Rattle.frame.specs.Sessions.{Content, freshContent, idsOf, leaveOut, ownOk, sessionOk}
 use Rattle.frame.specs.Tokens.{rowsOf}
 use Rattle.frame.specs.Words.{clockFrom, clockWords, idWordIf, idWords, idWordsTo, idsFrom, summed, total}
 use Rattle.frame.specs.declared.entry.Frame.{Frame}
 use Rattle.frame.proofs.Cases.{entryA, entryB}
 use Rattle.store.specs.Offices.{None, Office, Some, bestOwn, bestTo, better, clockOf, consider, current, emptyOffice, hold, made, maxTo, reveal, settingsOk}
 use Rattle.store.specs.Reveal.{revealed, steps}
-use Rattle.office.specs.Calls.{answerWords, entryCode, freshCode, handed, holdAll, holdNew, jointCode, jointOn, missing, newEntry, noted, notedAll, openOffice, ownCode, plotsOk, readCode, readOn, receiveCode, receiveOn, receiveSends, receivedBy, sentOf, storeNeed, threeWords, writeCode, writeOn, wroteSession}
+use Rattle.office.specs.Calls.{answerWords, entryCode, freshCode, handed, holdAll, holdNew, jointCode, jointOn, newEntry, noted, notedAll, openOffice, ownCode, plotsOk, readCode, readOn, receiveCode, receiveOn, receiveSends, receivedBy, sentOf, storeNeed, threeWords, writeCode, writeOn, wroteSession}
 
 abbrev row : List ℕ
 row = replicate 20 0
@@ -78,7 +78,7 @@ pub record Cases : Type 0 where
   pub need-of-3 : storeNeed 3 2 64 ≡ (0, 1747)
 
 pub cases : Cases
-unfolding trailingZeros both either implies allBelow check orElse part tab sumBelow eqWords bit has isIn unite minus inserted wordIn subsetOf lowestIn lowestOf join higher ranksAbove outranks clockWords clockFrom idWordIf idWordsTo idWords idsFrom total summed clockPlaceOk clockOk idsPlaceOk idsOk boundsOk entryOk sameContent ringOk bodyWords frameWords frameOk frameOf accepts laid idsOf ownOk sessionOk rowsOf steps revealed settingsOk made maxTo clockOf reveal hold better consider bestTo current bestOwn entryCode ownCode noted readCode handed plotsOk jointCode notedAll threeWords answerWords newEntry missing sentOf writeCode holdAll wroteSession receiveCode holdNew receivedBy receiveSends readOn jointOn writeOn receiveOn freshCode openOffice storeNeed
+unfolding trailingZeros both either implies allBelow check orElse part tab sumBelow eqWords bit has isIn unite minus inserted wordIn subsetOf lowestIn lowestOf join higher ranksAbove outranks clockWords clockFrom idWordIf idWordsTo idWords idsFrom total summed clockPlaceOk clockOk idsPlaceOk idsOk boundsOk entryOk sameContent ringOk bodyWords frameWords frameOk frameOf accepts laid idsOf ownOk sessionOk rowsOf steps revealed settingsOk made maxTo clockOf reveal hold better consider bestTo current bestOwn entryCode ownCode noted readCode handed plotsOk jointCode notedAll threeWords answerWords newEntry leaveOut sentOf writeCode holdAll wroteSession receiveCode holdNew receivedBy receiveSends readOn jointOn writeOn receiveOn freshCode openOffice storeNeed
 cases =
     record {
       last-shows = refl;

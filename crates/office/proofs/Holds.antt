@@ -11,7 +11,7 @@ use Rattle.causal.proofs.Sets.{in-is, out-is}
 use Rattle.causal.proofs.Lists.{tab-more}
 use Rattle.frame.specs.declared.entry.Entry.{Entry}
 use Rattle.frame.specs.Entries.{idOf}
-use Rattle.frame.specs.Sessions.{ownOk}
+use Rattle.frame.specs.Sessions.{leaveOut, ownOk}
 use Rattle.frame.proofs.Sessions.{OwnFacts, SaneEntry, own-facts}
 use Rattle.store.specs.Offices.{Office, need, storeWords, hold}
 use Rattle.store.specs.Slots.{holdWords}
@@ -62,7 +62,7 @@ module _ (ws : List ℕ) (O : Office) (S : Sound O) (long : need (O .offices) �
   pub holds-are : (es : List Entry) (Oi : Office) (seen : List ℕ) → Along O Oi seen → ownOk (O .offices) (O .plots) read seen es ≡ true
       → ((e : Entry) → List·Memᴰ e es → SaneEntry e × Known O e)
       → holdsIn (O .held) (storeWords ws Oi) es ≡ storeWords ws (holdAll Oi (missing O es))
-  unfolding holdAll missing holdsIn
+  unfolding holdAll leaveOut holdsIn
   holds-are [] Oi seen A h sane = refl
   holds-are (e ∷ es) Oi seen A h sane =
       go (isIn (O .held) (idOf e)) refl (own-facts (O .offices) (O .plots) read seen e es h) (sane e (List·Memᴰ·head refl))

@@ -34,7 +34,7 @@ use Rattle.office.proofs.KeepWrite.{R, e-from, e-id, e-ok, e-set, not-o
 abbrev Q : Office → Content → Type 0
 Q O s = sessionOk (O .offices) (O .plots) s ≡ true
 
-noted-sane : (f : Found) (s : Content) → SaneContent s → SaneContent (noted f s)
+pub noted-sane : (f : Found) (s : Content) → SaneContent s → SaneContent (noted f s)
 unfolding noted join
 noted-sane None s N = N
 noted-sane (Some e) s N = record { clock8 = refl; read = ids-inserted (s .read) (idOf e) (N .read); own = N .own }

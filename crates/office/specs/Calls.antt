@@ -15,7 +15,7 @@ use Rattle.frame.specs.declared.entry.Frame.{Frame}
 use Rattle.frame.specs.Entries.{idOf, nameOf, sameContent}
 use Rattle.frame.specs.Frames.{framed, frameWords, frameOf, accepts}
 use Rattle.frame.specs.Calls.{laid}
-use Rattle.frame.specs.Sessions.{Content, sessionOk, freshContent, idsOf}
+use Rattle.frame.specs.Sessions.{Content, sessionOk, freshContent, idsOf, leaveOut}
 use Rattle.frame.specs.Tokens.{rowsOf}
 use Rattle.store.specs.Offices.{Office, emptyOffice, need, officeOf, storeWords, settingsOk, soundStore, made, clockOf, reveal, hold, Found, None, Some, current, bestOwn}
 
@@ -91,9 +91,8 @@ newEntry O s plot value =
     }
 
 -- the own entries that are not held, in order
-unfoldable pub missing : Office → List Entry → List Entry
-missing O [] = []
-missing O (e ∷ es) = cond (isIn (O .held) (idOf e)) (missing O es) (e ∷ missing O es)
+abbrev pub missing : Office → List Entry → List Entry
+missing O es = leaveOut (λ (e : Entry). isIn (O .held) (idOf e)) es
 
 -- "each own entry not held is held hidden and framed with offices − 2 to hear; .. Last comes the new entry, hidden"
 unfoldable pub sentOf : Office → Content → ℕ → ℕ → List Entry

@@ -2,7 +2,7 @@
 -- Assumes nothing.
 use Prim.Native.Nat.{ℕ, suc, zero, _+_, _-_, _<_, _≤_}
 use mathlib.Core.Bool.{Bool, cond, false, true}
-use mathlib.Core.List.{List, List·Memᴰ, List·Memᴰ·append-cases, List·Memᴰ·cases-cons, List·Memᴰ·eq-of-singleton, List·Memᴰ·head, List·Memᴰ·not-nil, List·Memᴰ·tail, Memᴰ·of-map, [], _++_, _∷_, append-nil, map}
+use mathlib.Core.List.{List, List·Memᴰ, List·Memᴰ·append-cases, List·Memᴰ·eq-of-singleton, List·Memᴰ·not-nil, Memᴰ·of-map, [], _++_, _∷_, append-nil, map}
 use mathlib.Core.Logic.{⊎-elim}
 use mathlib.Core.Path.{_∙_, _≡_, ap, refl}
 use native.Mathlib.Omega.{arith}
@@ -25,30 +25,13 @@ use Rattle.frame.specs.declared.entry.Frame.{Frame}
 use Rattle.frame.proofs.Back.{accepted-ok}
 use Rattle.frame.proofs.Entries.{EntryFacts, entry-facts, facts-ids, frame-facts, ids-facts}
 use Rattle.frame.proofs.Ids.{id-range, ids-of}
+use Rattle.frame.proofs.LeaveOut.{left-few, left-from}
 use Rattle.frame.proofs.Sessions.{SessionFacts, ids-from, ids-set, own-ok, session-facts}
 use Rattle.store.specs.Offices.{Office, hold, officeOf, reveal, soundStore, storeWords}
 use Rattle.office.specs.Calls.{Result, entryCode, given, holdAll, holdNew, missing, newEntry, onward, ownCode, parsed, readCode, readOn, readPlot, receive, receiveCode, receiveOn, receiveSends, receivedBy, sentOf, worded, write, writeCode, writeOn, writeSends}
 use Rattle.player.proofs.Room.{Fit3}
 
 -- ---- what a call sends
-
-missing-mem : (O : Office) (es : List Entry) (e : Entry) → List·Memᴰ e (missing O es) → List·Memᴰ e es
-unfolding missing
-missing-mem O [] e m = m
-missing-mem O (x ∷ es) e m = go (isIn (O .held) (idOf x)) (missing-mem O es e) m
-  where
-    go : (t : Bool) → (List·Memᴰ e (missing O es) → List·Memᴰ e es) → List·Memᴰ e (cond t (missing O es) (x ∷ missing O es)) → List·Memᴰ e (x ∷ es)
-    go true f i = List·Memᴰ·tail (f i)
-    go false f i = ⊎-elim (λ q. List·Memᴰ·head q) (λ j. List·Memᴰ·tail (f j)) (List·Memᴰ·cases-cons i)
-
-missing-few : (O : Office) (es : List Entry) → length (missing O es) ≤ length es
-unfolding missing
-missing-few O [] = omega arith
-missing-few O (x ∷ es) = go (isIn (O .held) (idOf x)) (missing-few O es)
-  where
-    go : (t : Bool) → length (missing O es) ≤ length es → length (cond t (missing O es) (x ∷ missing O es)) ≤ suc (length es)
-    go true h = omega arith
-    go false h = omega arith
 
 module _ (p : ℕ) (s : Content) (ok : sessionOk 3 p s ≡ true) where
   facts : SessionFacts 3 p s
@@ -74,7 +57,7 @@ module _ (p : ℕ) (s : Content) (ok : sessionOk 3 p s ≡ true) where
   sent-ids : (O : Office) (plot value : ℕ) (e : Entry) → List·Memᴰ e (sentOf O s plot value) → idsOk 3 (e .deps) ≡ true
   unfolding sentOf
   sent-ids O plot value e m =
-      ⊎-elim (λ i. own-deps e (missing-mem O (s .own) e i) .deps) (λ i. ap (λ (x : Entry). idsOk 3 (x .deps)) (List·Memᴰ·eq-of-singleton i) ∙ new-ids O plot value)
+      ⊎-elim (λ i. own-deps e (left-from (λ (x : Entry). isIn (O .held) (idOf x)) (s .own) e i .0) .deps) (λ i. ap (λ (x : Entry). idsOk 3 (x .deps)) (List·Memᴰ·eq-of-singleton i) ∙ new-ids O plot value)
       (List·Memᴰ·append-cases (missing O (s .own)) m)
 
   pub sends-fit : (O : Office) → O .offices ≡ 3 → (plot value : ℕ) (f : Frame) → List·Memᴰ f (writeSends O s plot value) → Fit3 f
@@ -93,7 +76,7 @@ sends-few O s plot value =
       arith,
       length-map (framed (O .offices) (O .offices - 2)) (missing O (s .own) ++ (newEntry O s plot value ∷ [])),
       length-append (missing O (s .own)) (newEntry O s plot value ∷ []),
-      missing-few O (s .own),
+      left-few (λ (x : Entry). isIn (O .held) (idOf x)) (s .own),
     )
 
 -- ---- no refusal

@@ -21,6 +21,7 @@ use Rattle.frame.specs.declared.entry.Frame.{Frame}
 use Rattle.frame.proofs.Entries.{ids-facts}
 use Rattle.frame.proofs.Frames.{length-frame}
 use Rattle.frame.proofs.Words.{ids-length}
+use Rattle.ring.proofs.CarryWrites.{rows-append}
 use Rattle.player.specs.Desks.{Cut, frameLen, lengthAt, startOf}
 
 -- ---- how long a frame is
@@ -66,11 +67,6 @@ pub at-mem : {A : Type 0} (l : List A) (k : ℕ) (d : A) → k < length l → Li
 at-mem [] k d h = absurd (omega arith)
 at-mem (x ∷ l) zero d h = List·Memᴰ·head refl
 at-mem (x ∷ l) (suc k) d h = List·Memᴰ·tail (at-mem l k d (omega arith))
-
-rows-append : (fs gs : List Frame) → rowsOf (fs ++ gs) ≡ rowsOf fs ++ rowsOf gs
-unfolding rowsOf
-rows-append [] gs = refl
-rows-append (f ∷ fs) gs = ap (λ (l : List ℕ). frameWords f ++ l) (rows-append fs gs) ∙ sym (append-assoc (frameWords f) (rowsOf fs) (rowsOf gs))
 
 rows-one : (f : Frame) → rowsOf (f ∷ []) ≡ frameWords f
 unfolding rowsOf

@@ -2,19 +2,18 @@
 -- Assumes nothing.
 use Prim.Native.Nat.{ℕ, _*_, _/_, _<_, _≤_}
 use mathlib.Core.Bool.{Bool, false, true}
-use mathlib.Core.List.{List, List·Memᴰ, List·Memᴰ·append-cases, List·Memᴰ·eq-of-singleton, List·Memᴰ·head, List·Memᴰ·not-nil, List·Memᴰ·tail, [], _++_, _∷_}
+use mathlib.Core.List.{List, List·Memᴰ, List·Memᴰ·append-cases, List·Memᴰ·eq-of-singleton, List·Memᴰ·head, List·Memᴰ·not-nil, List·Memᴰ·tail, Memᴰ·map, [], _++_, _∷_}
 use mathlib.Core.Logic.{⊎-elim}
 use mathlib.Core.Path.{_∙_, _≡_, ap, refl, sym}
 use native.Mathlib.Omega.{arith}
 use lib.Dec.{eqb, leb}
 use lib.ListN.{length}
-use borrow.Author.Tests.{eq-eqb, eqb-true}
+use borrow.Author.Tests.{eqb-true}
 use Rattle.causal.specs.Codes.{check, orElse}
 use Rattle.causal.specs.Sets.{IdSet, Within, has, isIn, subsetOf}
 use Rattle.causal.specs.Tests.{either, implies}
-use Rattle.causal.proofs.Lists.{eqWords-refl}
 use Rattle.causal.proofs.Sets.{in-is, is-in, subset-by}
-use Rattle.causal.proofs.Tests.{both-intro, implies-intro}
+use Rattle.causal.proofs.Tests.{implies-intro}
 use Rattle.frame.specs.Calls.{laid}
 use Rattle.frame.specs.Entries.{idOf, sameContent}
 use Rattle.frame.specs.Frames.{frameWords}
@@ -24,6 +23,8 @@ use Rattle.frame.specs.declared.entry.Entry.{Entry}
 use Rattle.frame.specs.declared.entry.Frame.{Frame}
 use Rattle.frame.proofs.Entries.{EntryFacts, entry-facts}
 use Rattle.frame.proofs.Ids.{id-office, id-range}
+use Rattle.frame.proofs.SameContent.{same-refl}
+use Rattle.frame.proofs.Sessions.{SaneContent, SaneEntry}
 use Rattle.store.specs.Offices.{Office, reveal}
 use Rattle.office.specs.Calls.{Result, entryCode, given, onward, ownCode, receiveCode, receiveOn, receiveSends, receivedBy, refusal}
 use Rattle.mesh.specs.World.{Reach}
@@ -31,15 +32,19 @@ use Rattle.ring.specs.Run.{Event, Made, Tracked, eventOf, noted-event, o
 use Rattle.ring.proofs.Change.{Changed, Never, reveal-changed}
 use Rattle.ring.proofs.Fit.{EventFit, Sys, TrackedFit, Whole, ids, mem-set, shape, upd-self, world}
 
-pub same-refl : (e : Entry) → sameContent e e ≡ true
-unfolding sameContent
-same-refl e =
-    both-intro _ _ (eq-eqb (e .plot) (e .plot) refl)
-    (both-intro _ _ (eq-eqb (e .value) (e .value) refl) (both-intro _ _ (eqWords-refl (e .clock)) (eqWords-refl (e .deps))))
-
 module _ (n p : ℕ) (two : 2 ≤ n) (eight : n ≤ 8) (E : ℕ → Entry) (P : ℕ → List ℕ) (g : Sys) (w : Whole n p two E P g) where
   abbrev Made? : ℕ → Type 0
   Made? k = List·Memᴰ k (ids (g .log))
+
+  -- a session or token of the run is one that a program can have
+  pub fit-sane : (s : Content) (past : List ℕ) → TrackedFit n two E P (world g) s past → SaneContent s
+  fit-sane s past F = record { clock8 = F .fit .clock8; read = F .fit .read-set; own = own }
+    where
+      own : (e : Entry) → List·Memᴰ e (s .own) → SaneEntry e
+      own e j =
+          let is = F .fit .own-is e j in
+          let G = w .good (idOf e) (F .sound .own-made (idOf e) (Memᴰ·map idOf j)) in
+          record { clock8 = ap (λ (x : Entry). length (x .clock)) is ∙ G .clock8; deps-set = rw is (G .deps-set) }
 
   pub facts : (k : ℕ) → Made? k → EntryFacts n p (E k)
   facts k m = entry-facts n p (E k) (w .good k m .ok)

@@ -7,8 +7,9 @@ use lib.Dec.{eqb, ltb}
 use lib.ListN.{length}
 use borrow.Author.Tests.{ltb-true}
 use Rattle.frame.specs.TokenCalls.{writeTokenCode}
+use Rattle.joining.specs.Joins.{joinCode}
 use Rattle.office.specs.Calls.{Result, freshCode}
-use Rattle.ring.specs.Run.{Call, Calls, Made, State, Tracked, TrackedToken, at, copy-session, copy-token, copySession, copyToken, fresh, startBy, fromToken, fromTokenAt, joint, jointAt, readAt, readBy, reading, receiveAt, receiveBy, receiving, receiving-words, step, token-reading, token-writing, tokenAt, tokenBy, turnedBy, withSession, withToken, wordsBy, writeAt, writeBy, writing}
+use Rattle.ring.specs.Run.{Call, Calls, Made, State, Tracked, TrackedToken, at, copy-session, copy-token, copySession, copyToken, fresh, fromToken, fromTokenAt, joinAt, joinBy, joining, joint, jointAt, readAt, readBy, reading, receiveAt, receiveBy, receiving, receiving-words, startBy, step, token-reading, token-writing, tokenAt, tokenBy, turnedBy, withSession, withToken, wordsBy, writeAt, writeBy, writing}
 use Rattle.ring.proofs.Fit.{mem-at}
 
 module _ {A B C : Type 0} (F : Calls A B C) (n : ℕ) (g : State A B C) where
@@ -30,6 +31,8 @@ module _ {A B C : Type 0} (F : Calls A B C) (n : ℕ) (g : State A B C) where
     pub token-reads : (r : TrackedToken C) (m p : ℕ) → List·Memᴰ r (g .tokens) → Q (fromToken F n g r (F .token-code m p (r .token)))
     pub copies : (r : Tracked) → List·Memᴰ r (g .sessions) → Q (withSession g r)
     pub token-copies : (r : TrackedToken C) → List·Memᴰ r (g .tokens) → Q (withToken g r)
+    pub joins : (a b : Tracked) (m p : ℕ) → List·Memᴰ a (g .sessions) → List·Memᴰ b (g .sessions)
+        → Q (joinBy F n g a b (joinCode m p (a .session) (b .session)))
 
   module _ (Q : State A B C → Type 0) (E : Each Q) where
     -- a call at an office of the ring
@@ -89,6 +92,14 @@ module _ {A B C : Type 0} (F : Calls A B C) (n : ℕ) (g : State A B C) where
         by : (l : List (TrackedToken C)) → ((r : TrackedToken C) → List·Memᴰ r l → List·Memᴰ r (g .tokens)) → Q (copyToken F n g l)
         by [] mem = E .none
         by (r ∷ rs) mem = E .token-copies r (mem r (List·Memᴰ·head refl))
+    step-each (joining i j m p) =
+        by (at (g .sessions) i) (at (g .sessions) j) (λ r k. mem-at (g .sessions) i r k) (λ r k. mem-at (g .sessions) j r k)
+      where
+        by : (l k : List Tracked) → ((r : Tracked) → List·Memᴰ r l → List·Memᴰ r (g .sessions))
+            → ((r : Tracked) → List·Memᴰ r k → List·Memᴰ r (g .sessions)) → Q (joinAt F n g m p l k)
+        by [] k first second = E .none
+        by (a ∷ l) [] first second = E .none
+        by (a ∷ l) (b ∷ k) first second = E .joins a b m p (first a (List·Memᴰ·head refl)) (second b (List·Memᴰ·head refl))
 
   -- ---- only a write adds to the log
 
@@ -119,6 +130,10 @@ module _ {A B C : Type 0} (F : Calls A B C) (n : ℕ) (g : State A B C) where
   from-log r zero = refl
   from-log r (suc c) = refl
 
+  pub join-log : (a b : Tracked) (c : ℕ) → joinBy F n g a b c .log ≡ g .log
+  join-log a b zero = refl
+  join-log a b (suc c) = refl
+
   -- what holds of the log, of the log after a write too, holds of it after a step
   pub log-each : (L : List Made → Type 0) → L (g .log)
       → ((o i plot value : ℕ) (row : List ℕ) (r : Tracked) → o < n → List·Memᴰ r (g .sessions)
@@ -144,4 +159,5 @@ module _ {A B C : Type 0} (F : Calls A B C) (n : ℕ) (g : State A B C) where
         token-reads = λ r m p i. rw (from-log r (F .token-code m p (r .token))) same;
         copies = λ r m. same;
         token-copies = λ r m. same;
+        joins = λ a b m p i j. rw (join-log a b (joinCode m p (a .session) (b .session))) same;
       })

@@ -8,12 +8,13 @@ use lib.ListN.{length}
 use Rattle.causal.proofs.Tests.{lt-or-le}
 use Rattle.frame.specs.Sessions.{contentOf, sessionOf}
 use Rattle.frame.specs.TokenCalls.{readToken, readTokenCode, writeToken, writeTokenRow}
+use Rattle.joining.specs.Joins.{joinCode, joinSessions}
 use Rattle.store.specs.Offices.{need}
 use Rattle.office.specs.Answers.{anyFound, entryFound, freshBy, readJointSession, readPlotSession, writeSession}
 use Rattle.office.specs.Calls.{freshCode, openOffice, readJoint, readPlot, receive, write}
 use Rattle.ring.specs.Answers.{Ring}
-use Rattle.ring.specs.Claim.{Absent, Answered, Opened, Runs, Step, absent, begins-fresh, copies-session, copies-token, more, none, reads, reads-jointly, reads-token, receives, receives-words, writes, writes-token}
-use Rattle.ring.specs.Run.{Call, at, copy-session, copy-token, fresh, joint, reading, receiving, receiving-words, token-reading, token-writing, writing}
+use Rattle.ring.specs.Claim.{Absent, Answered, Opened, Runs, Step, absent, begins-fresh, copies-session, copies-token, joins, more, none, reads, reads-jointly, reads-token, receives, receives-words, writes, writes-token}
+use Rattle.ring.specs.Run.{Call, at, copy-session, copy-token, fresh, joining, joint, reading, receiving, receiving-words, token-reading, token-writing, writing}
 use Rattle.ring.proofs.Theorem.{opens}
 
 -- ---- each call has an answer
@@ -107,6 +108,16 @@ module _ (n : ℕ) (σ : Ring) where
   answer (copy-session i) =
       ⊎-elim (λ e. (σ, absent (copy-session i) e)) (λ a. (_, copies-session i (a .0) (a .1))) (at-one (σ .sessions) i)
   answer (copy-token t) = ⊎-elim (λ e. (σ, absent (copy-token t) e)) (λ a. (_, copies-token t (a .0) (a .1))) (at-one (σ .tokens) t)
+  answer (joining i j m p) =
+      ⊎-elim (λ e. (σ, absent (joining i j m p) (inl e)))
+      (λ a.
+      ⊎-elim (λ e. (σ, absent (joining i j m p) (inr e)))
+      (λ b.
+      let A = contentOf (a .0 .session) in
+      let B = contentOf (b .0 .session) in
+      (_, joins i j m p (a .0) (b .0) (record { code = joinCode m p A B; session = sessionOf (joinSessions m p A B) }) (a .1) (b .1) (refl, refl)))
+      (at-one (σ .sessions) j))
+      (at-one (σ .sessions) i)
 
 chain : (n : ℕ) (cs : List Call) (σ : Ring) → (τ : Ring) × Runs n σ cs τ
 chain n [] σ = (σ, none)

@@ -25,19 +25,20 @@ use Rattle.frame.specs.declared.entry.Frame.{Frame}
 use Rattle.frame.specs.declared.session.Session.{Session}
 use Rattle.frame.proofs.Entries.{entry-facts}
 use Rattle.frame.proofs.OwnTurns.{content-back}
+use Rattle.joining.specs.Joins.{joinCode, joined}
 use Rattle.store.specs.Offices.{Found, Office, Some, emptyOffice, need, officeOf, reveal, settingsOk, soundStore, storeWords}
 use Rattle.office.specs.Calls.{Result, answerWords, freshCode, given, handed, jointCode, jointOn, openOffice, parsed, readAll, readCode, readJoint, readOn, readPlot, receive, receiveCode, receiveOn, worded, write, writeCode, writeOn}
 use Rattle.office.specs.Promises.{JointPromise, ReadPromise, ReceivePromise, WritePromise}
 use Rattle.office.proofs.Refused.{receive-words-refused, write-words-refused}
 use Rattle.ring.specs.Answers.{ReadAnswer, SessionAnswer, WriteAnswer, Carried, Ring, Said, contentIn, jointBack, jointSaid, namedIn, ownOf, readSaid, receivedSaid, shown, tokenWritten, wroteSaid}
-use Rattle.ring.specs.Claim.{Absent, Claim, Opened, Runs, Step, absent, begins-fresh, begun, copies-session, copies-token, more, none, reads, reads-jointly, reads-token, receives, receives-words, writes, writes-token}
+use Rattle.ring.specs.Claim.{Absent, Claim, Opened, Runs, Step, absent, begins-fresh, begun, copies-session, copies-token, joins, more, none, reads, reads-jointly, reads-token, receives, receives-words, writes, writes-token}
 use Rattle.ring.specs.Holds.{Holds, Same}
-use Rattle.ring.specs.Run.{Call, Event, Made, Tracked, TrackedToken, answered, at, begins, contentsRun, copy-session, copy-token, copySession, copyToken, fresh, startBy, fromToken, fromTokenAt, joint, jointAt, nextOf, noted-event, onContents, onWords, readAt, readBy, readLeft, reading, receiveAt, receiveBy, receiveLeft, receiving, receiving-words, refused, refusedBy, run, starting, step, token-reading, token-writing, tokenAt, tokenBy, turned, turnedBy, upd, withSession, wordsBy, wordsRun, writeAt, writeBy, writeLeft, writerPast, writing}
+use Rattle.ring.specs.Run.{Call, Event, Made, Tracked, TrackedToken, answered, at, begins, contentsRun, copy-session, copy-token, copySession, copyToken, fresh, fromToken, fromTokenAt, joinAt, joinBy, joining, joint, jointAt, nextOf, noted-event, onContents, onWords, readAt, readBy, readLeft, reading, receiveAt, receiveBy, receiveLeft, receiving, receiving-words, refused, refusedBy, run, startBy, starting, step, token-reading, token-writing, tokenAt, tokenBy, turned, turnedBy, upd, withSession, wordsBy, wordsRun, writeAt, writeBy, writeLeft, writerPast, writing}
 use Rattle.ring.proofs.Together.{together-to}
 use Rattle.ring.proofs.Cuts.{cut-row, found-row, named-is}
 use Rattle.ring.proofs.Fit.{Agrees, Sys, Whole, upd-same}
 use Rattle.ring.proofs.Log.{entryIn, log-agrees}
-use Rattle.ring.proofs.Promises.{answers-joined, fresh-step, joint-step, read-step, read-token-step, receive-sends, receive-step, write-sends, write-step, write-token-step}
+use Rattle.ring.proofs.Promises.{answers-joined, fresh-step, join-step, joint-step, read-step, read-token-step, receive-sends, receive-step, write-sends, write-step, write-token-step}
 use Rattle.ring.proofs.SameRun.{WState, accepts-frame, at-map, joint-is, step-same}
 use Rattle.ring.proofs.Sized.{Sized, sized-at, step-sized}
 use Rattle.ring.proofs.Steps.{Ok, contents-ok, ok-whole, step-ok}
@@ -194,6 +195,11 @@ module _ (n : ℕ) (σ : Ring) where
   from-shown s x zero h = begins-zero s (x .past) (onWords .token-read (x .token)) (h refl)
   from-shown s x (suc c) h = refl
 
+  join-shown : (s : Session) (a b : Carried) (c : ℕ) → (c ≡ 0 → contentOf s ≡ joined (contentOf (a .session)) (contentOf (b .session)))
+      → shown (begins σ s (a .past ++ b .past) c) ≡ joinBy onWords n (shown σ) (contentIn a) (contentIn b) c
+  join-shown s a b zero h = begins-zero s (a .past ++ b .past) (joined (contentOf (a .session)) (contentOf (b .session))) (h refl)
+  join-shown s a b (suc c) h = refl
+
   token-shown : (s : Carried) (row : List ℕ) (r : Reply) (row′ : List ℕ) → WriteTokenPromise (s .session) row r row′ → (c : ℕ)
       → writeTokenCode (contentOf (s .session)) (length row) ≡ c
       → shown (tokenWritten σ s r row′ c) ≡ tokenBy onWords n (shown σ) (contentIn s) row c
@@ -319,6 +325,13 @@ module _ (n p : ℕ) (two : 2 ≤ n) (eight : n ≤ 8) (one : 1 ≤ p) (p64 : p 
     absent-is (token-reading t m q) a = sym (ap (fromTokenAt onWords n (shown σ) m q) a)
     absent-is (copy-session i) a = sym (ap (copySession onWords n (shown σ)) (nobody-there i a))
     absent-is (copy-token t) a = sym (ap (copyToken onWords n (shown σ)) a)
+    absent-is (joining i j m q) a =
+        ⊎-elim (λ e. sym (ap (λ (l : List Tracked). joinAt onWords n (shown σ) m q l (at (map contentIn (σ .sessions)) j)) (nobody-there i e)))
+        (λ e. sym (ap (joinAt onWords n (shown σ) m q (at (map contentIn (σ .sessions)) i)) (nobody-there j e) ∙ none-second (at (map contentIn (σ .sessions)) i))) a
+      where
+        none-second : (l : List Tracked) → joinAt onWords n (shown σ) m q l [] ≡ shown σ
+        none-second [] = refl
+        none-second (x ∷ l) = refl
 
     -- a row that is sent is a frame, since it waits in a line afterwards
     module _ (o : ℕ) (l : ℕ → List (List ℕ)) (R : Res) where
@@ -530,6 +543,11 @@ module _ (n p : ℕ) (two : 2 ≤ n) (eight : n ≤ 8) (one : 1 ≤ p) (p64 : p 
         ∙ sym (ap (fromTokenAt onWords n (shown σ) m q) e)
     step-is (copies-session i s e) = copy-shown n σ s ∙ sym (ap (copySession onWords n (shown σ)) (there i s e))
     step-is (copies-token t x e) = sym (ap (copyToken onWords n (shown σ)) e)
+    step-is (joins i j m q s t r e f h) =
+        let u = join-step m q (s .session) (t .session) r h in
+        ap (λ (x : ℕ). shown (begins σ (r .session) (s .past ++ t .past) x)) (u .0)
+        ∙ join-shown n σ (r .session) s t (joinCode m q (contentOf (s .session)) (contentOf (t .session))) (u .1)
+        ∙ sym (λ k. joinAt onWords n (shown σ) m q (there i s e k) (there j t f k))
 
   -- ---- a chain of steps
 

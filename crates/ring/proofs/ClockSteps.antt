@@ -1,7 +1,7 @@
 -- Every call keeps the clocks: what Clocks.antt and WriteKeeps.antt say of single calls, of any call; and so does the start. Assumes nothing.
 use Prim.Native.Nat.{ℕ, _≤_, suc, zero}
 use mathlib.Core.Bool.{Bool, cond, false, true}
-use mathlib.Core.List.{List, List·Memᴰ, List·Memᴰ·append-cases, List·Memᴰ·eq-of-singleton, List·Memᴰ·not-nil, [], _∷_}
+use mathlib.Core.List.{List, List·Memᴰ, List·Memᴰ·append-cases, List·Memᴰ·eq-of-singleton, List·Memᴰ·not-nil, [], _++_, _∷_}
 use mathlib.Core.Logic.{⊎-elim}
 use mathlib.Core.Path.{_≡_, refl}
 use native.Mathlib.Omega.{arith}
@@ -15,14 +15,16 @@ use Rattle.frame.specs.Frames.{accepts, frameOf}
 use Rattle.frame.specs.Sessions.{Content, freshContent}
 use Rattle.frame.specs.TokenCalls.{writeTokenCode}
 use Rattle.frame.specs.declared.entry.Entry.{Entry}
+use Rattle.joining.specs.Joins.{joinCode, joined}
 use Rattle.store.specs.Offices.{Office, emptyOffice}
 use Rattle.office.specs.Calls.{freshCode, jointOn, parsed, readOn, receiveOn}
-use Rattle.ring.specs.Run.{Call, Event, Tracked, TrackedToken, answered, fromToken, noted-event, onContents, startBy, starting, step, tokenBy, turnedBy, withSession, withToken, wordsBy}
+use Rattle.ring.specs.Run.{Call, Event, Tracked, TrackedToken, answered, fromToken, joinBy, noted-event, onContents, startBy, starting, step, tokenBy, turnedBy, withSession, withToken, wordsBy}
 use Rattle.ring.proofs.Base.{not-nine}
 use Rattle.ring.proofs.ByCases.{step-each}
 use Rattle.ring.proofs.Clocks.{ClockFit, Clocks, joint-clocks, one-clocks, receive-clocks}
 use Rattle.ring.proofs.Fit.{Agrees, Sys, Whole, upd-self}
 use Rattle.ring.proofs.WriteKeeps.{write-clocks}
+use Rattle.ring.proofs.JoinKeeps.{join-clock}
 
 module _ (n p : ℕ) (two : 2 ≤ n) (eight : n ≤ 8) where
   module _ (E : ℕ → Entry) (P : ℕ → List ℕ) where
@@ -83,6 +85,7 @@ module _ (n p : ℕ) (two : 2 ≤ n) (eight : n ≤ 8) where
           token-reads = λ r m q i B. by-from r i (onContents .token-code m q (r .token));
           copies = λ r m B. with-session g r (K .sessions r m) K;
           token-copies = λ r m B. with-token g r (K .tokens r m) K;
+          joins = λ a b m q i j B. by-join a b i j (joinCode m q (a .session) (b .session));
         })
       where
         other : (o : ℕ) (words row : List ℕ) (t : Bool) → eqb (receiveOn (g .stores o) (frameOf words) row .code) 9 ≡ t
@@ -101,6 +104,12 @@ module _ (n p : ℕ) (two : 2 ≤ n) (eight : n ≤ 8) where
             with-session (noted-event g (answered 0 0 [])) (record { session = freshContent m; past = [] }) (blank (g .stores) m)
             (noted g (answered 0 0 []) K)
         by-start m (suc c) = noted g (answered (suc c) 0 []) K
+
+        by-join : (a b : Tracked) → List·Memᴰ a (g .sessions) → List·Memᴰ b (g .sessions) → (c : ℕ) → Clocks n E (joinBy onContents n g a b c)
+        by-join a b i j zero =
+            with-session (noted-event g (answered 0 0 [])) (record { session = joined (a .session) (b .session); past = a .past ++ b .past })
+            (join-clock n p two eight E P g w a b i j (g .stores) (K .sessions a i) (K .sessions b j)) (noted g (answered 0 0 []) K)
+        by-join a b i j (suc c) = noted g (answered (suc c) 0 []) K
 
         by-token : (r : Tracked) (row : List ℕ) → List·Memᴰ r (g .sessions) → (c : ℕ) → Clocks n E (tokenBy onContents n g r row c)
         by-token r row m zero =

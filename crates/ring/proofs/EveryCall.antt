@@ -1,12 +1,12 @@
 -- A run with every kind of call, accepted and refused, and with every way in which a call finds nothing to do: what it leads to, by computing on
 -- contents, and so on words whatever the rows held before they were opened. It begins as the script of paper 01's table. So the definitions
--- of a run do what they say, also where the script does not go: joint readings, tokens, copies, refusals, other words. Assumes nothing.
+-- of a run do what they say, also where the script does not go: joint readings, tokens, copies, joins, refusals, other words. Assumes nothing.
 use Prim.Native.Nat.{ℕ, _<_, _≤_}
 use mathlib.Core.List.{List, [], _++_, _∷_, map}
 use mathlib.Core.Path.{_∙_, _≡_, refl}
 use native.Mathlib.Omega.{arith}
 use lib.Count.{trailingZeros}
-use lib.ListN.{length, replicate, take}
+use lib.ListN.{drop, length, replicate, take}
 use Rattle.causal.specs.Clocks.{join}
 use Rattle.causal.specs.Codes.{check, orElse}
 use Rattle.causal.specs.Lists.{eqWords, part, sumBelow, tab}
@@ -16,16 +16,17 @@ use Rattle.causal.specs.Tests.{allBelow, both, either, implies}
 use Rattle.frame.specs.Calls.{laid, laidIf}
 use Rattle.frame.specs.Entries.{boundsOk, clockOk, clockPlaceOk, entryOk, idOf, idsOk, idsPlaceOk, outranks, sameContent}
 use Rattle.frame.specs.Frames.{accepts, bodyWords, frameOf, frameOk, frameWords, ringOk}
-use Rattle.frame.specs.Sessions.{idsOf, ownOk, sessionOk}
+use Rattle.frame.specs.Sessions.{idsOf, leaveOut, ownOk, sessionOk}
 use Rattle.frame.specs.TokenCalls.{writeTokenCode, writeTokenRow}
 use Rattle.frame.specs.Tokens.{rowsOf, tokenWords}
 use Rattle.frame.specs.Words.{clockFrom, clockWords, idWordIf, idWords, idWordsTo, idsFrom, summed, total}
 use Rattle.frame.proofs.Cases.{entryA, entryB, rowA, rowB}
+use Rattle.joining.specs.Joins.{allAlike, alike, each, joinCode, joined}
 use Rattle.store.specs.Offices.{None, Some, bestOwn, bestTo, better, clockOf, consider, current, hold, made, maxTo, need, reveal, settingsOk}
 use Rattle.store.specs.Reveal.{revealed, steps}
-use Rattle.office.specs.Calls.{answerWords, entryCode, freshCode, handed, holdAll, holdNew, jointCode, jointOn, missing, newEntry, noted, notedAll, ownCode, plotsOk, readCode, readOn, receiveCode, receiveOn, receiveSends, receivedBy, sentOf, threeWords, writeCode, writeOn, wroteSession}
+use Rattle.office.specs.Calls.{answerWords, entryCode, freshCode, handed, holdAll, holdNew, jointCode, jointOn, newEntry, noted, notedAll, ownCode, plotsOk, readCode, readOn, receiveCode, receiveOn, receiveSends, receivedBy, sentOf, threeWords, writeCode, writeOn, wroteSession}
 use Rattle.ring.specs.Holds.{Same, tokenOn}
-use Rattle.ring.specs.Run.{Call, Event, Made, Tracked, TrackedToken, at, contentsRun, copy-session, copy-token, fresh, gained, joint, lastOf, nextOf, onContents, reading, receiving, receiving-words, run, step, together, token-reading, token-writing, upd, wordsRun, writerPast, writing}
+use Rattle.ring.specs.Run.{Call, Event, Made, Tracked, TrackedToken, at, contentsRun, copy-session, copy-token, fresh, gained, joining, joint, lastOf, nextOf, onContents, reading, receiving, receiving-words, run, step, together, token-reading, token-writing, upd, wordsRun, writerPast, writing}
 use Rattle.ring.proofs.Theorem.{demand3}
 
 abbrev row : List ℕ
@@ -71,6 +72,14 @@ others =
     ∷ token-reading 0 9 64  -- 1
     ∷ fresh 4  -- session 6, of another ring
     ∷ reading 0 6 5  -- 3
+    ∷ joining 5 0 3 64  -- session 7: 1.2, then 0.1 and 1.1, which session 5 has read and session 0 wrote
+    ∷ joining 0 5 3 64  -- session 8, the other way round
+    ∷ joining 7 8 3 64  -- session 9: what both carry stands once
+    ∷ joining 7 7 3 4  -- plots 5 and 6 are no plots of four: 3
+    ∷ joining 0 6 3 64  -- of another ring: 3
+    ∷ joining 0 1 3 65  -- 1
+    ∷ joint 2 7 (3 ∷ 5 ∷ 6 ∷ []) row  -- 1.2, 0.1 and 1.1
+    ∷ joint 2 8 (3 ∷ 5 ∷ 6 ∷ []) row  -- the same
     ∷ []
 
 -- no such office; no such session; no such token; no frame waits; words that would not be refused with 9 (proofs/NoCall.antt: they change nothing)
@@ -81,11 +90,13 @@ absent =
     ∷ joint 3 0 [] row
     ∷ receiving 3 row
     ∷ receiving-words 3 [] row
-    ∷ writing 0 7 5 1 row
-    ∷ reading 0 7 5
-    ∷ joint 0 7 [] row
-    ∷ token-writing 7 row
-    ∷ copy-session 7
+    ∷ writing 0 10 5 1 row
+    ∷ reading 0 10 5
+    ∷ joint 0 10 [] row
+    ∷ token-writing 10 row
+    ∷ copy-session 10
+    ∷ joining 10 0 3 64
+    ∷ joining 0 10 3 64
     ∷ token-reading 2 3 64
     ∷ copy-token 2
     ∷ receiving 0 row
@@ -108,6 +119,13 @@ rowC = 0x11021302 ∷ 0x30000003 ∷ 0x40000008 ∷ 0x50000001 ∷ 0x50000002 �
 abbrev pub past-1 : List ℕ
 past-1 = 0 ∷ 32 ∷ 0 ∷ 0 ∷ 0 ∷ 32 ∷ 0 ∷ []
 
+-- that of session 0, which wrote both; that of session 5, which wrote and then read 1.2 (id 33)
+abbrev pub past-0 : List ℕ
+past-0 = 32 ∷ 0 ∷ []
+
+abbrev pub past-5 : List ℕ
+past-5 = 33 ∷ (past-1 ++ (33 ∷ past-1))
+
 -- token 0 and its copy
 abbrev pub twice : List (TrackedToken (List ℕ))
 twice = record { token = token; past = past-1 } ∷ record { token = token; past = past-1 } ∷ []
@@ -116,7 +134,7 @@ pub record Led (events : List Event) (sessions : List Tracked) (log : List Made)
   -- the script; then `others`; `absent` leaves no reply
   pub codes : map (λ (v : Event). v .code) events
       ≡ 0 ∷ 0 ∷ 0 ∷ 0 ∷ 0 ∷ 0 ∷ 0 ∷ 0 ∷ 0 ∷ 0 ∷ 0 ∷ 0 ∷ 0
-      ∷ 0 ∷ 8 ∷ 0 ∷ 8 ∷ 0 ∷ 9 ∷ 9 ∷ 0 ∷ 8 ∷ 0 ∷ 1 ∷ 4 ∷ 4 ∷ 1 ∷ 0 ∷ 3 ∷ []
+      ∷ 0 ∷ 8 ∷ 0 ∷ 8 ∷ 0 ∷ 9 ∷ 9 ∷ 0 ∷ 8 ∷ 0 ∷ 1 ∷ 4 ∷ 4 ∷ 1 ∷ 0 ∷ 3 ∷ 0 ∷ 0 ∷ 0 ∷ 3 ∷ 3 ∷ 1 ∷ 0 ∷ 0 ∷ []
   -- the script's last reading, and the joint one: what was handed back, the past, the answer row
   pub last-read : map (λ (v : Event). v .reads) (at events 12) ≡ ((5, Some entryA) ∷ []) ∷ []
   pub last-past : map (λ (v : Event). v .past) (at events 12) ≡ (0 ∷ 32 ∷ 0 ∷ []) ∷ []
@@ -130,8 +148,18 @@ pub record Led (events : List Event) (sessions : List Tracked) (log : List Made)
   -- the token's words in its row
   pub token-count : map (λ (v : Event). v .count) (at events 15) ≡ 7 ∷ []
   pub token-row : map (λ (v : Event). take 7 (v .row)) (at events 15) ≡ token ∷ []
-  -- sessions read from tokens, and copies, keep the past of their origin
-  pub pasts : map (λ (r : Tracked). r .past) sessions ≡ (32 ∷ 0 ∷ []) ∷ past-1 ∷ [] ∷ [] ∷ past-1 ∷ (33 ∷ (past-1 ++ (33 ∷ past-1))) ∷ [] ∷ []
+  -- sessions read from tokens, and copies, keep the past of their origin; a joined one has both pasts (7 and 8 then read 1.2, 0.1 and 1.1)
+  pub pasts : map (λ (r : Tracked). r .past) (take 7 sessions) ≡ past-0 ∷ past-1 ∷ [] ∷ [] ∷ past-1 ∷ past-5 ∷ [] ∷ []
+  pub joined-pasts : map (λ (r : Tracked). r .past) (drop 7 sessions)
+      ≡ (32 ∷ 0 ∷ 0 ∷ 33 ∷ (past-1 ++ (past-5 ++ past-0)))
+      ∷ (32 ∷ 0 ∷ 0 ∷ 33 ∷ (past-1 ++ (past-0 ++ past-5)))
+      ∷ ((past-5 ++ past-0) ++ (past-0 ++ past-5))
+      ∷ []
+  -- .. and carries the first's own entries, then those of the second not among them, and has read what either has read
+  pub joined-own : map (λ (r : Tracked). map idOf (r .session .own)) (drop 7 sessions) ≡ (33 ∷ 0 ∷ 32 ∷ []) ∷ (0 ∷ 32 ∷ 33 ∷ []) ∷ (33 ∷ 0 ∷ 32 ∷ []) ∷ []
+  pub joined-read : map (λ (r : Tracked). take 2 (r .session .read)) (drop 7 sessions) ≡ (1 ∷ 1 ∷ []) ∷ (1 ∷ 1 ∷ []) ∷ (1 ∷ 1 ∷ []) ∷ []
+  pub joined-replies : map (λ (v : Event). take 9 (v .row)) (at events 35 ++ at events 36)
+      ≡ (1 ∷ 8 ∷ 258 ∷ 1 ∷ 709 ∷ 1 ∷ 1 ∷ 1 ∷ 257 ∷ []) ∷ (1 ∷ 8 ∷ 258 ∷ 1 ∷ 709 ∷ 1 ∷ 1 ∷ 1 ∷ 257 ∷ []) ∷ []
   pub entries-made : map (λ (m : Made). idOf (m .entry)) log ≡ 0 ∷ 32 ∷ 33 ∷ []
 
 -- .. and frames and tokens
@@ -158,7 +186,7 @@ pub record Computed : Type 0 where
   pub tokens : map tokenOn (contentsRun 3 64 everyCall .tokens) ≡ twice
 
 pub computed : Computed
-unfolding trailingZeros both either implies allBelow check orElse part tab sumBelow eqWords bit has isIn unite minus inserted wordIn subsetOf lowestIn lowestOf join higher ranksAbove outranks clockWords clockFrom idWordIf idWordsTo idWords idsFrom total summed clockPlaceOk clockOk idsPlaceOk idsOk boundsOk entryOk sameContent ringOk bodyWords frameWords frameOk frameOf accepts laid laidIf idsOf ownOk sessionOk writeTokenCode writeTokenRow tokenWords rowsOf steps revealed settingsOk made maxTo clockOf reveal hold better consider bestTo current bestOwn entryCode ownCode noted notedAll plotsOk jointCode jointOn threeWords answerWords readCode handed newEntry missing sentOf writeCode holdAll wroteSession receiveCode holdNew receivedBy receiveSends readOn writeOn receiveOn freshCode at upd nextOf writerPast gained together lastOf step run onContents contentsRun
+unfolding trailingZeros both either implies allBelow check orElse part tab sumBelow eqWords bit has isIn unite minus inserted wordIn subsetOf lowestIn lowestOf join higher ranksAbove outranks clockWords clockFrom idWordIf idWordsTo idWords idsFrom total summed clockPlaceOk clockOk idsPlaceOk idsOk boundsOk entryOk sameContent ringOk bodyWords frameWords frameOk frameOf accepts laid laidIf idsOf ownOk sessionOk writeTokenCode writeTokenRow tokenWords rowsOf steps revealed settingsOk made maxTo clockOf reveal hold better consider bestTo current bestOwn entryCode ownCode noted notedAll plotsOk jointCode jointOn threeWords answerWords readCode handed newEntry leaveOut sentOf writeCode holdAll wroteSession receiveCode holdNew receivedBy receiveSends readOn writeOn receiveOn freshCode each alike allAlike joined joinCode at upd nextOf writerPast gained together lastOf step run onContents contentsRun
 computed =
     record {
       led =
@@ -174,6 +202,10 @@ computed =
             token-count = refl;
             token-row = refl;
             pasts = refl;
+            joined-pasts = refl;
+            joined-own = refl;
+            joined-read = refl;
+            joined-replies = refl;
             entries-made = refl;
           };
       sent-1 = refl;

@@ -7,7 +7,9 @@ pub mod Together
 pub mod ReadKeeps
 pub mod Clocks
 pub mod Log
+pub mod LeaveOut
 pub mod WriteKeeps
+pub mod JoinKeeps
 pub mod ClockSteps
 pub mod Steps
 pub mod Sounds
@@ -24,6 +26,11 @@ pub mod Corrected
 pub mod NoCall
 pub mod Cuts
 pub mod Sized
+pub mod BestOwn
+pub mod Carrying
+pub mod CarryWrites
+pub mod GoesOn
+pub mod EitherWay
 pub mod Claim
 pub mod Chain
 pub mod Demand

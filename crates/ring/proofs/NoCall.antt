@@ -2,10 +2,10 @@
 -- refused with 9, is no call: the state stays, whatever the state and the calls. Assumes nothing.
 use Prim.Native.Nat.{ℕ}
 use mathlib.Core.Bool.{Bool, cond, false, true}
-use mathlib.Core.List.{List, []}
-use mathlib.Core.Path.{_≡_, ap, refl}
+use mathlib.Core.List.{List, [], _∷_}
+use mathlib.Core.Path.{_∙_, _≡_, ap, refl}
 use lib.Dec.{eqb, ltb}
-use Rattle.ring.specs.Run.{Calls, State, Tracked, TrackedToken, at, copy-session, copy-token, copySession, copyToken, fromTokenAt, joint, jointAt, readAt, reading, receiveAt, receiving, receiving-words, step, token-reading, token-writing, tokenAt, writeAt, writing}
+use Rattle.ring.specs.Run.{Calls, State, Tracked, TrackedToken, at, copy-session, copy-token, copySession, copyToken, fromTokenAt, joinAt, joining, joint, jointAt, readAt, reading, receiveAt, receiving, receiving-words, step, token-reading, token-writing, tokenAt, writeAt, writing}
 
 module _ {A B C : Type 0} (F : Calls A B C) (n : ℕ) (g : State A B C) where
   unless : (t : Bool) (h : State A B C) → t ≡ false → cond t h g ≡ g
@@ -39,6 +39,8 @@ module _ {A B C : Type 0} (F : Calls A B C) (n : ℕ) (g : State A B C) where
     pub no-joint : (o : ℕ) (plots row : List ℕ) → step F n g (joint o i plots row) ≡ g
     pub no-token-writing : (row : List ℕ) → step F n g (token-writing i row) ≡ g
     pub no-copy : step F n g (copy-session i) ≡ g
+    pub no-join-first : (j m p : ℕ) → step F n g (joining i j m p) ≡ g
+    pub no-join-second : (j m p : ℕ) → step F n g (joining j i m p) ≡ g
 
   pub no-session : (i : ℕ) → at (g .sessions) i ≡ [] → NoSession i
   unfolding step
@@ -49,7 +51,13 @@ module _ {A B C : Type 0} (F : Calls A B C) (n : ℕ) (g : State A B C) where
         no-joint = λ o plots row. either-way (ltb o n) _ (ap (λ (rs : List Tracked). jointAt F n g o i plots row rs) e);
         no-token-writing = λ row. ap (λ (rs : List Tracked). tokenAt F n g row rs) e;
         no-copy = ap (λ (rs : List Tracked). copySession F n g rs) e;
+        no-join-first = λ j m p. ap (λ (rs : List Tracked). joinAt F n g m p rs (at (g .sessions) j)) e;
+        no-join-second = λ j m p. ap (joinAt F n g m p (at (g .sessions) j)) e ∙ none m p (at (g .sessions) j);
       }
+    where
+      none : (m p : ℕ) (l : List Tracked) → joinAt F n g m p l [] ≡ g
+      none m p [] = refl
+      none m p (a ∷ l) = refl
 
   pub record NoToken (t : ℕ) : Type 0 where
     pub no-token-reading : (m p : ℕ) → step F n g (token-reading t m p) ≡ g

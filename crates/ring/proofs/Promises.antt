@@ -19,6 +19,9 @@ use Rattle.frame.specs.declared.session.Session.{Session}
 use Rattle.frame.proofs.Changed.{token-sound}
 use Rattle.frame.proofs.OwnTurns.{content-back}
 use Rattle.frame.proofs.Sessions.{session-facts}
+use Rattle.joining.specs.Joins.{joinCode, joinSessions, joined as joinedSession, joinedIf}
+use Rattle.joining.specs.Promises.{JoinPromise}
+use Rattle.joining.proofs.Laws.{joinable}
 use Rattle.store.specs.Offices.{Found, None, Office, Some, officeOf, reveal, soundStore}
 use Rattle.office.specs.Answers.{anyFound, entryFound, freshBy}
 use Rattle.office.specs.Calls.{Result, answerWords, freshCode, given, handed, handedAll, holdAll, jointCode, jointOn, notedAll, openOffice, parsed, readAll, readCode, readJoint, readOn, readPlot, receive, receiveCode, receiveOn, receiveSends, receivedBy, sentOf, threeWords, worded, write, writeCode, writeOn, writeSends, wroteSession}
@@ -213,3 +216,21 @@ pub read-token-step : (words : List ℕ) (n p : ℕ) (r : SessionAnswer) → Rea
 unfolding onWords readToken contentIf
 read-token-step words n p r h =
     (h .0, λ a. ap contentOf (h .1) ∙ ap (λ (c : ℕ). contentOf (sessionOf (contentIf c words))) a ∙ content-back (contentFrom words) (token-few words n p a))
+
+-- ---- a join
+
+-- a join that is not refused carries at most 16
+pub join-few : (n p : ℕ) (a b : Content) → joinCode n p a b ≡ 0 → length (joinedSession a b .own) ≤ 16
+join-few n p a b h = joinable n p a b h .few
+
+pub join-step : (n p : ℕ) (a b : Session) (r : SessionAnswer) → JoinPromise n p a b (r .code) (r .session)
+    → (r .code ≡ joinCode n p (contentOf a) (contentOf b))
+    × (joinCode n p (contentOf a) (contentOf b) ≡ 0 → contentOf (r .session) ≡ joinedSession (contentOf a) (contentOf b))
+unfolding joinSessions joinedIf
+join-step n p a b r h = (
+  h .0,
+  λ z.
+      ap contentOf (h .1)
+      ∙ ap (λ (c : ℕ). contentOf (sessionOf (joinedIf c (contentOf a) (contentOf b)))) z
+      ∙ content-back (joinedSession (contentOf a) (contentOf b)) (join-few n p (contentOf a) (contentOf b) z),
+)

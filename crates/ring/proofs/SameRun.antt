@@ -21,6 +21,7 @@ use Rattle.frame.proofs.Back.{frame-accepted, frame-back}
 use Rattle.frame.proofs.Entries.{facts-frame}
 use Rattle.frame.proofs.Sessions.{SaneContent, SaneEntry}
 use Rattle.frame.proofs.Tokens.{token-accepted, token-back}
+use Rattle.joining.specs.Joins.{joinCode, joined}
 use Rattle.store.specs.Offices.{Office, need, officeOf, soundStore, storeWords}
 use Rattle.store.proofs.Keep.{sound-store}
 use Rattle.store.proofs.StoreBack.{Canon, store-again, store-back, store-long}
@@ -29,7 +30,8 @@ use Rattle.office.proofs.Grows.{Grows, joint-grows, read-grows, receive-grows, 
 use Rattle.office.proofs.Refused.{joint-refused, parsed-refused, read-refused, receive-refused, write-refused}
 use Rattle.mesh.proofs.Carry.{line-made}
 use Rattle.ring.specs.Holds.{Same, tokenOn}
-use Rattle.ring.specs.Run.{Call, Event, Made, State, Tracked, TrackedToken, answered, at, copy-session, copy-token, copySession, copyToken, eventOf, fresh, startBy, fromToken, fromTokenAt, gained, joint, jointAt, lastOf, nextOf, noted-event, onContents, onWords, readAt, readBy, readIn, reading, receiveAt, receiveBy, received, receiving, receiving-words, refusedBy, step, together, token-reading, token-writing, tokenAt, tokenBy, turnedBy, upd, withSession, wordsBy, writeAt, writeBy, writerPast, writing, wrote}
+use Rattle.ring.specs.Run.{Call, Event, Made, State, Tracked, TrackedToken, answered, at, copy-session, copy-token, copySession, copyToken, eventOf, fresh, fromToken, fromTokenAt, gained, joinAt, joinBy, joining, joint, jointAt, lastOf, nextOf, noted-event, onContents, onWords, readAt, readBy, readIn, reading, receiveAt, receiveBy, received, receiving, receiving-words, refusedBy, startBy, step, together, token-reading, token-writing, tokenAt, tokenBy, turnedBy, upd, withSession, wordsBy, writeAt, writeBy, writerPast, writing, wrote}
+use Rattle.ring.proofs.Base.{fit-sane}
 use Rattle.ring.proofs.Fit.{Sys, Whole, frameId, ids, mem-at, shape, upd-other, upd-same, upd-self, world}
 use Rattle.ring.proofs.Log.{entryIn}
 use Rattle.ring.proofs.Sounds.{canon, office-sound}
@@ -333,15 +335,8 @@ module _ (n p : ℕ) (two : 2 ≤ n) (eight : n ≤ 8) (one : 1 ≤ p) (p64 : p 
 
     -- tokens
     module _ (r : TrackedToken Content) (m : List·Memᴰ r (c .tokens)) where
-      sane-own : (e : Entry) → List·Memᴰ e (r .token .own) → SaneEntry e
-      sane-own e j =
-          let F = w .tokens r m in
-          let is = F .fit .own-is e j in
-          let G = w .good (idOf e) (F .sound .own-made (idOf e) (Memᴰ·map idOf j)) in
-          record { clock8 = ap (λ (x : Entry). length (x .clock)) is ∙ G .clock8; deps-set = rw is (G .deps-set) }
-
       sane : SaneContent (r .token)
-      sane = record { clock8 = w .tokens r m .fit .clock8; read = w .tokens r m .fit .read-set; own = sane-own }
+      sane = fit-sane n p two eight (entryIn (c .log)) (writerPast (c .log)) c w (r .token) (r .past) (w .tokens r m)
 
       token-reads : contentFrom (tokenWords (r .token)) ≡ r .token
       token-reads = token-back (r .token) (w .tokens-ok r m .0) (w .tokens-ok r m .1) sane
@@ -535,3 +530,16 @@ module _ (n p : ℕ) (two : 2 ≤ n) (eight : n ≤ 8) (one : 1 ≤ p) (p64 : p 
               log = S .log;
               events = S .events;
             }
+    step-same (joining i j m q) = λ K. rw (same i, same j) (by (at (c .sessions) i) (at (c .sessions) j))
+      where
+        same : (k : ℕ) → at (g .sessions) k ≡ at (c .sessions) k
+        same k = ap (λ (l : List Tracked). at l k) (S .sessions)
+
+        go : (a b : Tracked) (x : ℕ) → Same n rows (joinBy onWords n g a b x) (joinBy onContents n c a b x)
+        go a b zero = with-session-same (answered 0 0 []) (record { session = joined (a .session) (b .session); past = a .past ++ b .past })
+        go a b (suc x) = noted-same (answered (suc x) 0 [])
+
+        by : (l k : List Tracked) → Same n rows (joinAt onWords n g m q l k) (joinAt onContents n c m q l k)
+        by [] k = S
+        by (a ∷ l) [] = S
+        by (a ∷ l) (b ∷ k) = go a b (joinCode m q (a .session) (b .session))

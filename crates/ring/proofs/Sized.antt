@@ -13,14 +13,15 @@ use Rattle.frame.specs.Sessions.{Content, contentOf, filled, freshContent, sess
 use Rattle.frame.specs.TokenCalls.{contentIf, readToken, readTokenCode}
 use Rattle.frame.specs.Tokens.{contentFrom}
 use Rattle.frame.specs.declared.session.Session.{Session}
+use Rattle.joining.specs.Joins.{joinCode, joinSessions, joined, joinedIf}
 use Rattle.store.specs.Offices.{Found, None, Office, Some, current, officeOf, reveal}
 use Rattle.office.specs.Answers.{extendedBy, freshBy, notedAllIn, notedIn, readJointSession, readPlotSession, sessionIf, writeSession}
 use Rattle.office.specs.Calls.{freshCode, newEntry, readJoint, readPlot, write}
 use Rattle.ring.specs.Answers.{Carried, Ring, Said, jointSaid, ownOf, readSaid, receivedSaid, tokenWritten, wroteSaid}
-use Rattle.ring.specs.Claim.{Step, absent, begins-fresh, copies-session, copies-token, reads, reads-jointly, reads-token, receives, receives-words, writes, writes-token}
+use Rattle.ring.specs.Claim.{Step, absent, begins-fresh, copies-session, copies-token, joins, reads, reads-jointly, reads-token, receives, receives-words, writes, writes-token}
 use Rattle.ring.specs.Run.{Call, at, begins, readLeft, receiveLeft, turned, writeLeft}
 use Rattle.ring.proofs.Fit.{mem-at, mem-set}
-use Rattle.ring.proofs.Promises.{token-few}
+use Rattle.ring.proofs.Promises.{join-few, token-few}
 
 abbrev pub Sized : Ring → Type 0
 Sized σ = (s : Carried) → List·Memᴰ s (σ .sessions) → length (s .session .own) ≡ 16
@@ -83,6 +84,14 @@ sized-token words m p = go (readTokenCode m p words) refl
     go zero e = sized-of (contentFrom words) (token-few words m p e)
     go (suc c) e = sized-of (freshContent 0) (omega arith)
 
+sized-join : (m p : ℕ) (a b : Content) → length (sessionOf (joinSessions m p a b) .own) ≡ 16
+unfolding joinSessions joinedIf
+sized-join m p a b = go (joinCode m p a b) refl
+  where
+    go : (c : ℕ) → joinCode m p a b ≡ c → length (sessionOf (joinedIf c a b) .own) ≡ 16
+    go zero e = sized-of (joined a b) (join-few m p a b e)
+    go (suc c) e = sized-of (freshContent 0) (omega arith)
+
 -- ---- a step
 
 module _ (n : ℕ) (σ : Ring) (z : Sized σ) where
@@ -142,3 +151,6 @@ module _ (n : ℕ) (σ : Ring) (z : Sized σ) where
       begins-sized (r .session) (x .past) (own-is (r .session) _ (h .1) (sized-token (x .token) m p)) (r .code)
   step-sized (copies-session i s e) = more-sized s (sized-at i s e)
   step-sized (copies-token t x e) = z
+  step-sized (joins i j m p s t r e f h) =
+      begins-sized (r .session) (s .past ++ t .past) (own-is (r .session) _ (h .1) (sized-join m p (contentOf (s .session)) (contentOf (t .session))))
+      (r .code)

@@ -1,7 +1,7 @@
 -- Every call keeps the invariant: so it holds in every run on contents. Assumes nothing.
 use Prim.Native.Nat.{ℕ, _*_, _+_, _≤_, suc, zero}
 use mathlib.Core.Bool.{Bool, cond, false, true}
-use mathlib.Core.List.{List, List·Memᴰ, List·Memᴰ·append-cases, List·Memᴰ·eq-of-singleton, List·Memᴰ·not-nil, [], _∷_}
+use mathlib.Core.List.{List, List·Memᴰ, List·Memᴰ·append-cases, List·Memᴰ·eq-of-singleton, List·Memᴰ·not-nil, [], _++_, _∷_}
 use mathlib.Core.Logic.{⊎-elim}
 use mathlib.Core.Path.{_≡_, refl}
 use native.Mathlib.Omega.{arith}
@@ -19,15 +19,16 @@ use Rattle.frame.specs.Sessions.{Content, freshContent, sessionOk}
 use Rattle.frame.specs.TokenCalls.{writeTokenCode}
 use Rattle.frame.specs.Tokens.{tokenWords}
 use Rattle.frame.specs.declared.entry.Entry.{Entry}
+use Rattle.joining.specs.Joins.{joinCode, joined}
 use Rattle.store.specs.Offices.{emptyOffice}
 use Rattle.office.specs.Calls.{freshCode, jointOn, parsed, readOn, receiveOn}
 use Rattle.mesh.specs.World.{World}
 use Rattle.mesh.proofs.Carry.{fresh-inv}
 use Rattle.mesh.proofs.Sessions.{blank-sound}
 use Rattle.ring.specs.Holds.{Distinct}
-use Rattle.ring.specs.Run.{Call, Made, Tracked, TrackedToken, answered, at, contentsRun, startBy, fromToken, noted-event, onContents, run, starting, step, tokenBy, turnedBy, withSession, withToken, wordsBy, writeAt, writeBy, writerPast}
+use Rattle.ring.specs.Run.{Call, Made, Tracked, TrackedToken, answered, at, contentsRun, fromToken, joinBy, noted-event, onContents, run, startBy, starting, step, tokenBy, turnedBy, withSession, withToken, wordsBy, writeAt, writeBy, writerPast}
 use Rattle.ring.proofs.Base.{event-fine, not-nine, noted-whole, turned-whole}
-use Rattle.ring.proofs.ByCases.{fresh-log, from-log, log-each, read-log, receive-log, step-each, token-log, words-log}
+use Rattle.ring.proofs.ByCases.{fresh-log, from-log, join-log, log-each, read-log, receive-log, step-each, token-log, words-log}
 use Rattle.ring.proofs.Clocks.{Clocks}
 use Rattle.ring.proofs.ClockSteps.{start-clocks, step-clocks}
 use Rattle.ring.proofs.Fit.{Agrees, Sys, TrackedFit, Whole, seen, shape, world, wpast}
@@ -35,6 +36,7 @@ use Rattle.ring.proofs.Log.{agrees-part, distinct-none, entryIn, log-ag
 use Rattle.ring.proofs.ReadKeeps.{joint-whole, one-whole}
 use Rattle.ring.proofs.ReceiveKeeps.{receive-whole}
 use Rattle.ring.proofs.WriteKeeps.{write-distinct, write-whole}
+use Rattle.ring.proofs.JoinKeeps.{join-alike, join-fit}
 
 module _ (n p : ℕ) (two : 2 ≤ n) (eight : n ≤ 8) where
   module _ (E : ℕ → Entry) (P : ℕ → List ℕ) where
@@ -140,6 +142,21 @@ module _ (n p : ℕ) (two : 2 ≤ n) (eight : n ≤ 8) where
         go true false = noted g w 9 0 [] (λ x. omega arith) (λ x. omega arith) (λ x. omega arith)
         go false u = noted g w 1 0 [] (λ x. omega arith) (λ x. omega arith) (λ x. omega arith)
 
+    join-whole : (g : Sys) → Whole n p two E P g → (a b : Tracked) → List·Memᴰ a (g .sessions) → List·Memᴰ b (g .sessions) → (m q : ℕ)
+        → Whole n p two E P (joinBy onContents n g a b (joinCode m q (a .session) (b .session)))
+    unfolding joinCode check
+    join-whole g w a b ia ib m q =
+        rw (join-alike n p two eight E P g w a b ia ib)
+        (go (ringOk m q) (both (sessionOk m q (a .session)) (sessionOk m q (b .session))) (leb (length (joined (a .session) (b .session) .own)) 16))
+      where
+        go : (t u v : Bool) → Whole n p two E P (joinBy onContents n g a b (check t 1 (check u 3 (check v 7 0))))
+        go true true true =
+            with-session _ (noted g w 0 0 [] (λ x. omega arith) (λ x. omega arith) (λ x. omega arith))
+            (record { session = joined (a .session) (b .session); past = a .past ++ b .past }) (join-fit n p two eight E P g w a b ia ib)
+        go true true false = noted g w 7 0 [] (λ x. omega arith) (λ x. omega arith) (λ x. omega arith)
+        go true false v = noted g w 3 0 [] (λ x. omega arith) (λ x. omega arith) (λ x. omega arith)
+        go false u v = noted g w 1 0 [] (λ x. omega arith) (λ x. omega arith) (λ x. omega arith)
+
     words-whole : (g : Sys) → Whole n p two E P g → (o : ℕ) (words row : List ℕ)
         → Whole n p two E P (wordsBy onContents n g o (onContents .on-words (g .stores o) words row))
     unfolding onContents
@@ -196,6 +213,8 @@ module _ (n p : ℕ) (two : 2 ≤ n) (eight : n ≤ 8) where
           token-reads = λ r m q i A. from-whole g (W (rw (from-log onContents n g r (onContents .token-code m q (r .token))) at A)) r i m q;
           copies = λ r m A. with-session g (W A) r (W A .sessions r m);
           token-copies = λ r m A. with-token g (W A) r (W A .tokens r m) (W A .tokens-ok r m);
+          joins =
+              λ a b m q i j A. join-whole g (W (rw (join-log onContents n g a b (joinCode m q (a .session) (b .session))) at A)) a b i j m q;
         })
 
     start-whole : Whole n p two E P (starting (λ o. emptyOffice n o p))

@@ -22,12 +22,13 @@ use Rattle.frame.specs.Tokens.{rowsOf}
 use Rattle.frame.specs.declared.entry.Entry.{Entry}
 use Rattle.frame.specs.declared.entry.Frame.{Frame}
 use Rattle.frame.proofs.Entries.{entry-facts}
+use Rattle.frame.proofs.LeaveOut.{left-from}
 use Rattle.frame.proofs.Sessions.{session-facts}
 use Rattle.store.specs.Offices.{Office, hold, made, maxTo, visibleAt}
 use Rattle.office.specs.Calls.{Result, given, holdAll, missing, newEntry, refusal, sentOf, writeCode, writeOn, writeSends, wroteSession}
 use Rattle.office.proofs.New.{Counting, Writable, deps-from, deps-set, deps-to, id-is, max-ge, max-le, new-clock8, new-next, new-not-held, new-ok, place-at, place-own}
 use Rattle.mesh.specs.Ring.{Shape}
-use Rattle.mesh.specs.Sessions.{Picked, Writes, picked-nil, picked-skip, picked-take}
+use Rattle.mesh.specs.Sessions.{Writes}
 use Rattle.mesh.specs.World.{Write, Written, frames}
 use Rattle.mesh.proofs.Sessions.{sound-later, write-law, write-ready, write-sound}
 use Rattle.mesh.proofs.Write.{write-inv}
@@ -38,6 +39,7 @@ use Rattle.ring.proofs.Base.{Fine, event-fine, events-more, facts, held
 use Rattle.ring.proofs.Change.{Changed, Never, hold-changed}
 use Rattle.ring.proofs.Clocks.{ClockFit, Clocks, Under, fit-later, later, made-over, under-outranks, upd-mono}
 use Rattle.ring.proofs.Fit.{Agrees, EventFit, Good, OfficeFit, SessionFit, Sys, TrackedFit, Whole, frameId, ids, mem-set, seen, shape, upd-case, upd-other, upd-said, upd-same, upd-self, world, wpast}
+use Rattle.ring.proofs.LeaveOut.{left-without}
 use Rattle.ring.proofs.Log.{distinct-more}
 
 pub last-snoc : (l : List Entry) (e : Entry) → lastOf (l ++ (e ∷ [])) ≡ e
@@ -80,18 +82,6 @@ hold-all n p E o (e ∷ es) O fit h =
       visible-new = λ k m. absurd m;
       visible-from = λ k m. ⊎-elim (λ i. C .visible-from k i) (λ i. absurd i) (D .visible-from k m);
     }
-
-missing-in : (O : Office) (es : List Entry) (e : Entry) → List·Memᴰ e (missing O es) → List·Memᴰ e es × (has (O .held) (idOf e) ≡ 0)
-unfolding missing
-missing-in O [] e m = absurd (List·Memᴰ·not-nil m)
-missing-in O (x ∷ es) e m = go (isIn (O .held) (idOf x)) refl m (λ i. missing-in O es e i)
-  where
-    go : (t : Bool) → isIn (O .held) (idOf x) ≡ t → List·Memᴰ e (cond t (missing O es) (x ∷ missing O es))
-        → (List·Memᴰ e (missing O es) → List·Memᴰ e es × (has (O .held) (idOf e) ≡ 0)) → List·Memᴰ e (x ∷ es) × (has (O .held) (idOf e) ≡ 0)
-    go true t i ih = (List·Memᴰ·tail (ih i .0), ih i .1)
-    go false t i ih =
-        ⊎-elim (λ (q : e ≡ x). (List·Memᴰ·head q, rw q (out-is (O .held) (idOf x) t))) (λ j. (List·Memᴰ·tail (ih j .0), ih j .1))
-        (List·Memᴰ·cases-cons i)
 
 -- the frames of entries, as ids
 frames-are : (n t : ℕ) (es : List Entry) → map frameId (map (framed n t) es) ≡ frames t (map idOf es)
@@ -305,9 +295,9 @@ module _ (n p : ℕ) (two : 2 ≤ n) (eight : n ≤ 8) (E : ℕ → Entry) (P : 
         old : List·Memᴰ x (missing O (s .own))
             → (x ≡ E (idOf x)) × (idOf x < 256) × ((t : ℕ) → t < 31 → 32 * o + (t + 1) ≡ idOf x → has (O .held) (32 * o + t) ≡ 1)
         old j =
-            let a = missing-in O (s .own) x j in
+            let a = left-from (λ (y : Entry). isIn (O .held) (idOf y)) (s .own) x j in
             let b = own-made x (a .0) in
-            (b .0, omega (arith, own-range x (a .0)), λ t l q. absurd (away (a .1) (b .1) t l q))
+            (b .0, omega (arith, own-range x (a .0)), λ t l q. absurd (away (out-is (O .held) (idOf x) (a .1)) (b .1) t l q))
           where
             away : has (O .held) (idOf x) ≡ 0 → List·Memᴰ (idOf x) (ids (g .log)) → (t : ℕ) → t < 31 → 32 * o + (t + 1) ≡ idOf x → ⊥
             away z mm t l q =
@@ -365,22 +355,14 @@ module _ (n p : ℕ) (two : 2 ≤ n) (eight : n ≤ 8) (E : ℕ → Entry) (P : 
           others = λ q a. ap (map frameId) (upd-other (g .lines) (nextOf n o) (g .lines (nextOf n o) ++ writeSends O s plot value) q a);
         }
 
-    picked : (es : List Entry) → Picked (world g) o (map idOf es) (map idOf (missing O es))
-    unfolding missing
-    picked [] = picked-nil
-    picked (x ∷ es) = go (isIn (O .held) (idOf x)) refl (picked es)
-      where
-        go : (t : Bool) → isIn (O .held) (idOf x) ≡ t → Picked (world g) o (map idOf es) (map idOf (missing O es))
-            → Picked (world g) o (map idOf (x ∷ es)) (map idOf (cond t (missing O es) (x ∷ missing O es)))
-        go true t ih = picked-skip (in-is (O .held) (idOf x) t) ih
-        go false t ih = picked-take ih
-
     is-writes : Writes S′ (wpast P) (world g) (world g′) (seen s (r .past)) (seen (wroteSession O s plot value) (k ∷ r .past)) o ds k
     unfolding wroteSession
     is-writes =
         record {
           in-ring = lt;
-          picked = picked (s .own);
+          picked =
+              left-without (λ (x : Entry). isIn (O .held) (idOf x)) (λ (y : ℕ). has (O .held) y ≡ 1) (s .own)
+              (λ x m t. in-is (O .held) (idOf x) t);
           deps-in = λ d h. e-from d (rw (← e-is) at h);
           deps-all = λ d h. rw (← e-is) (e-to d h);
           wpast-is = λ q m. rw past-is at m;

@@ -1,21 +1,22 @@
 -- THE CLAIM OVER ANSWERS (paper 01, "Runs"): promises → run → Holds. `Step` is one call on what really crosses: stores, frames, tokens and
 -- lent rows as words, sessions as structs. It is made with ANY answer that keeps the call's promise (frame/specs/Promises.antt,
--- office/specs/Promises.antt), and leaves what that answer says, read off it by specs/Answers.antt. `Claim`: from offices opened by answers
+-- joining/specs/Promises.antt, office/specs/Promises.antt), and leaves what that answer says, read off it by specs/Answers.antt. `Claim`: from offices opened by answers
 -- that keep their promise, every chain of such steps leads to what `wordsRun` says, so `Holds`. `Answered`: there is such a chain for every
 -- list of calls. That the promises are the contracts of the code, and the code keeps them: specs/Demand.antt. Assumes nothing.
 use Prim.Native.Nat.{ℕ, _<_, _≤_}
 use mathlib.Core.Bool.{cond}
-use mathlib.Core.List.{List, [], _∷_}
+use mathlib.Core.List.{List, [], _++_, _∷_}
 use mathlib.Core.Logic.{_⊎_}
 use mathlib.Core.Path.{_≡_}
 use lib.Dec.{eqb, ltb}
 use lib.ListN.{length}
 use Rattle.frame.specs.Promises.{ReadTokenPromise, WriteTokenPromise}
 use Rattle.frame.specs.Refusals.{Reply}
+use Rattle.joining.specs.Promises.{JoinPromise}
 use Rattle.store.specs.Offices.{need}
 use Rattle.office.specs.Promises.{FreshPromise, JointPromise, OpenPromise, ReadPromise, ReceivePromise, WritePromise}
 use Rattle.ring.specs.Holds.{Holds}
-use Rattle.ring.specs.Run.{Call, TrackedToken, at, begins, contentsRun, copy-session, copy-token, fresh, joint, readLeft, reading, receiveLeft, receiving, receiving-words, token-reading, token-writing, turned, withSession, withToken, wordsRun, writeLeft, writing}
+use Rattle.ring.specs.Run.{Call, TrackedToken, at, begins, contentsRun, copy-session, copy-token, fresh, joining, joint, readLeft, reading, receiveLeft, receiving, receiving-words, token-reading, token-writing, turned, withSession, withToken, wordsRun, writeLeft, writing}
 use Rattle.ring.specs.Answers.{ReadAnswer, SessionAnswer, WriteAnswer, Carried, Ring, jointSaid, ownOf, readSaid, receivedSaid, shown, tokenWritten, wroteSaid}
 
 -- ---- one call
@@ -33,6 +34,7 @@ Absent n σ (token-writing i row) = at (σ .sessions) i ≡ []
 Absent n σ (token-reading t m p) = at (σ .tokens) t ≡ []
 Absent n σ (copy-session i) = at (σ .sessions) i ≡ []
 Absent n σ (copy-token t) = at (σ .tokens) t ≡ []
+Absent n σ (joining i j m p) = (at (σ .sessions) i ≡ []) ⊎ (at (σ .sessions) j ≡ [])
 
 -- In each: the answer r and the lent rows as they are left (ws′, row′), which keep the promise; then the ring that they leave. The numbers and
 -- the lent row are any. "A call gets store and errand as the last call on them left them": refused or accepted, what is left is what the answer
@@ -65,6 +67,10 @@ pub data Step (n : ℕ) (σ : Ring) : Call → Ring → Type 0 where
       → Step n σ (token-reading t m p) (begins σ (r .session) (x .past) (r .code))
   copies-session : (i : ℕ) (s : Carried) → at (σ .sessions) i ≡ s ∷ [] → Step n σ (copy-session i) (withSession σ s)
   copies-token : (t : ℕ) (x : TrackedToken (List ℕ)) → at (σ .tokens) t ≡ x ∷ [] → Step n σ (copy-token t) (withToken σ x)
+  -- with any ring size and plots, of any two sessions, also of one with itself; they stay
+  joins : (i j m p : ℕ) (s t : Carried) (r : SessionAnswer) → at (σ .sessions) i ≡ s ∷ [] → at (σ .sessions) j ≡ t ∷ []
+      → JoinPromise m p (s .session) (t .session) (r .code) (r .session)
+      → Step n σ (joining i j m p) (begins σ (r .session) (s .past ++ t .past) (r .code))
 
 -- ---- a list of calls
 

@@ -1,6 +1,7 @@
 pub mod Run
 pub mod Holds
 pub mod Answers
+pub mod Carrying
 pub mod Claim
 pub mod Settings
 pub mod Joint

@@ -13,6 +13,7 @@ use Rattle.frame.specs.TokenCalls.{readTokenCode, writeTokenCode, writeTokenRow
 use Rattle.frame.specs.Tokens.{contentFrom, tokenWords}
 use Rattle.frame.specs.declared.entry.Entry.{Entry}
 use Rattle.frame.specs.declared.entry.Frame.{Frame}
+use Rattle.joining.specs.Joins.{joinCode, joined}
 use Rattle.store.specs.Offices.{Found, None, Office, Some, emptyOffice}
 use Rattle.office.specs.Calls.{Result, freshCode, jointOn, openOffice, parsed, readJoint, readOn, readPlot, receive, receiveOn, write, writeOn}
 
@@ -67,7 +68,8 @@ pub record SaidAs (S A B : Type 0) : Type 0 where
   pub row : List ℕ
   pub sent : List B
 
--- "any list of writes, single and joint readings, hearings, fresh errands, slip writings and slip readings, with any numbers and room"
+-- "any list of writes, single and joint readings, hearings, fresh errands, slip writings and slip readings, with any numbers and room"; 02, (iv):
+-- "the third demand's list takes in the join"
 pub data Call : Type 0 where
   writing : (o i plot value : ℕ) (row : List ℕ) → Call
   reading : (o i plot : ℕ) → Call
@@ -79,6 +81,7 @@ pub data Call : Type 0 where
   token-reading : (t m p : ℕ) → Call
   copy-session : (i : ℕ) → Call
   copy-token : (t : ℕ) → Call
+  joining : (i j m p : ℕ) → Call
 
 -- the calls of an office, whose stores are A, frames B, tokens C
 pub record Calls (A B C : Type 0) : Type 0 where
@@ -204,7 +207,7 @@ module _ {S A B C : Type 0} (n : ℕ) (g : StateAs S A B C) where
   receiveLeft o rest a (suc c) = turned g o a
 
 module _ {S A B C : Type 0} (g : StateAs S A B C) where
-  -- a session handed out, fresh or read from a token; a refused call hands none out
+  -- a session handed out, fresh, read from a token or joined from two; a refused call hands none out
   abbrev pub begins : S → List ℕ → ℕ → StateAs S A B C
   begins s past zero = withSession (noted-event g (answered 0 0 [])) (record { session = s; past = past })
   begins s past (suc c) = noted-event g (answered (suc c) 0 [])
@@ -300,6 +303,15 @@ module _ {A B C : Type 0} (F : Calls A B C) (n : ℕ) where
   copyToken g [] = g
   copyToken g (r ∷ rs) = withToken g r
 
+  -- "The joined errand is returned and the two given stay as they are. Its past is both pasts"
+  abbrev pub joinBy : State A B C → Tracked → Tracked → ℕ → State A B C
+  joinBy g a b c = begins g (joined (a .session) (b .session)) (a .past ++ b .past) c
+
+  abbrev pub joinAt : State A B C → ℕ → ℕ → List Tracked → List Tracked → State A B C
+  joinAt g m p [] bs = g
+  joinAt g m p (a ∷ l) [] = g
+  joinAt g m p (a ∷ l) (b ∷ bs) = joinBy g a b (joinCode m p (a .session) (b .session))
+
   -- "or else words that it refuses with 9": other words are no call of a run
   abbrev pub wordsBy : State A B C → ℕ → Result A B → State A B C
   wordsBy g o R = cond (eqb (R .code) 9) (turnedBy g o R) g
@@ -315,6 +327,7 @@ module _ {A B C : Type 0} (F : Calls A B C) (n : ℕ) where
   step g (token-reading t m p) = fromTokenAt g m p (at (g .tokens) t)
   step g (copy-session i) = copySession g (at (g .sessions) i)
   step g (copy-token t) = copyToken g (at (g .tokens) t)
+  step g (joining i j m p) = joinAt g m p (at (g .sessions) i) (at (g .sessions) j)
 
   -- the calls in order
   unfoldable pub run : State A B C → List Call → State A B C

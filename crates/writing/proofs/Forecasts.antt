@@ -11,7 +11,7 @@ use Rattle.causal.proofs.Lists.{tab-more}
 use Rattle.frame.specs.declared.entry.Entry.{Entry}
 use Rattle.frame.specs.Entries.{idOf}
 use Rattle.frame.specs.Frames.{framed}
-use Rattle.frame.specs.Sessions.{contentOf}
+use Rattle.frame.specs.Sessions.{contentOf, leaveOut}
 use Rattle.frame.specs.declared.session.Session.{Session}
 use Rattle.store.specs.Offices.{Office, officeOf}
 use Rattle.office.specs.Calls.{missing, newEntry, sentOf, writeSends}
@@ -36,7 +36,7 @@ one-le false = omega arith
 
 -- the own entries that are not held
 outside-missing : (O : Office) (es : List Entry) → outside (O .held) es ≡ length (missing O es)
-unfolding outside missing
+unfolding outside leaveOut
 outside-missing O [] = refl
 outside-missing O (e ∷ es) = go (isIn (O .held) (idOf e)) (outside-missing O es)
   where

@@ -16,6 +16,7 @@ use Rattle.frame.specs.Entries.{idOf}
 use Rattle.frame.specs.Frames.{framed, frameOk, frameWords}
 use Rattle.frame.specs.Tokens.{rowsOf}
 use Rattle.frame.specs.Calls.{laid}
+use Rattle.frame.specs.Sessions.{leaveOut}
 use Rattle.frame.proofs.Frames.{length-frame}
 use Rattle.frame.proofs.Tokens.{reads-le}
 use Rattle.store.specs.Offices.{Office}
@@ -127,7 +128,7 @@ module _ (b : Bool) (held : List ℕ) (n : ℕ) (own : List Entry) (k : ℕ) (e 
 
 frames-missing : (O : Office) (n : ℕ) (es : List Entry) (e : Entry)
     → framesIn (O .held) n es ++ frameWords (started n e) ≡ rowsOf (map (framed n (n - 2)) (missing O es ++ (e ∷ [])))
-unfolding framesIn rowsOf missing
+unfolding framesIn rowsOf leaveOut
 frames-missing O n [] e = sym (append-nil (frameWords (started n e)))
 frames-missing O n (x ∷ es) e = go (isIn (O .held) (idOf x)) (frames-missing O n es e)
   where

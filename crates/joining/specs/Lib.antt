@@ -1,0 +1,4 @@
+pub mod Joins
+pub mod Promises
+pub mod Orders
+pub mod Laws

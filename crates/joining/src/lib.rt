@@ -1,0 +1,3 @@
+// The join of two sessions: one errand, two people.
+mod alike;
+pub mod join;
