@@ -4,4 +4,5 @@ pub mod Codes
 pub mod Orders
 pub mod Sound
 pub mod Laws
+pub mod Bounds
 pub mod Contract
