@@ -15,11 +15,11 @@ use Rattle.causal.proofs.Lists.{eqWords-eq, eqWords-refl}
 use Rattle.causal.proofs.Tests.{both-true, lt-or-le, both-one}
 use Rattle.frame.specs.Entries.{clockOk}
 use Rattle.frame.specs.Frames.{accepts, bodyWords, countIn, frameOf, frameOk, frameWords, officesIn}
+use Rattle.frame.specs.Sessions.{SaneEntry}
 use Rattle.frame.specs.Words.{clockFrom, clockPlace, clockWord, idWords, idsFrom, payAt, payload, summed}
 use Rattle.frame.specs.declared.entry.Frame.{Frame}
 use Rattle.frame.proofs.Entries.{BoundsFacts, FrameFacts, clock-facts, entry-facts, frame-facts}
 use Rattle.frame.proofs.Frames.{HeadFits, clock-word, deps-part, head-count, head-fits, head-hops, head-office, head-offices, head-pay, head-serial}
-use Rattle.frame.proofs.Sessions.{SaneEntry}
 use Rattle.frame.proofs.Words.{clock-from-at, clock-from-eight, ids-back}
 
 -- clock words from i on give the clock

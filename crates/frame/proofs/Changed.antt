@@ -12,7 +12,7 @@ use Rattle.causal.proofs.Lists.{eqWords-eq}
 use Rattle.causal.proofs.Tests.{both-true}
 use Rattle.frame.specs.Entries.{idOf}
 use Rattle.frame.specs.Frames.{accepts, bodyWords, countIn, frameOf, frameOk, frameWords, framed, officesIn, ringOk}
-use Rattle.frame.specs.Sessions.{Content, ownOk, sessionOk}
+use Rattle.frame.specs.Sessions.{Content, SaneContent, ownOk, sessionOk}
 use Rattle.frame.specs.Tokens.{acceptsToken, contentFrom, frameLength, rowsOf, tokenHead, tokenOwns, tokenReads, tokenWords}
 use Rattle.frame.specs.Words.{clockWords, idWords, kindOf, payAt, sumWord, summed}
 use Rattle.frame.specs.declared.entry.Entry.{Entry}
@@ -22,7 +22,7 @@ use Rattle.frame.proofs.Entries.{RingFacts, entry-facts, entry-wider, f
 use Rattle.frame.proofs.Frames.{head-fits, head-kind, length-frame}
 use Rattle.frame.proofs.Payloads.{drop-pay, kind, kinds-clock, kinds-ids, one-change, pay, pay-head}
 use Rattle.frame.proofs.Sane.{token-sane}
-use Rattle.frame.proofs.Sessions.{SaneContent, facts-own, facts-session, own-facts, session-facts}
+use Rattle.frame.proofs.Sessions.{facts-own, facts-session, own-facts, session-facts}
 use Rattle.frame.proofs.Tokens.{after-reads, first-length, is-k, is-n, is-r, own-frames, reads-le, row-is}
 
 -- ---- frames

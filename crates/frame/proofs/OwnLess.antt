@@ -8,11 +8,11 @@ use native.Mathlib.Omega.{arith}
 use Rattle.causal.specs.Sets.{IdSet, has, inserted, unite}
 use Rattle.causal.proofs.Sets.{ids-inserted, ids-unite, in-inserted, in-or-out, in-unite, inserted-old, subset-by, subset-within, unite-left, unite-right}
 use Rattle.frame.specs.Entries.{idOf}
-use Rattle.frame.specs.Sessions.{leaveOut, ownOk}
+use Rattle.frame.specs.Sessions.{SaneEntry, leaveOut, ownOk}
 use Rattle.frame.specs.declared.entry.Entry.{Entry}
 use Rattle.frame.proofs.Entries.{entry-facts}
 use Rattle.frame.proofs.Ids.{id-range, inserted-new}
-use Rattle.frame.proofs.Sessions.{OwnFacts, SaneEntry, facts-own, idsWith, own-facts}
+use Rattle.frame.proofs.Sessions.{OwnFacts, facts-own, idsWith, own-facts}
 
 -- a list that keeps the rules, and behind it one that keeps them after it
 pub own-append : (n p : ℕ) (read seen : List ℕ) (xs ys : List Entry) → ownOk n p read seen xs ≡ true → ownOk n p read (idsWith seen xs) ys ≡ true

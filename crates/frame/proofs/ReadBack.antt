@@ -18,12 +18,12 @@ use Rattle.frame.specs.declared.entry.Frame.{Frame}
 use Rattle.frame.specs.Entries.{entryOk, idOf}
 use Rattle.frame.specs.Frames.{ringOk, frameOk, frameOf, frameWords, accepts}
 use Rattle.frame.specs.Calls.{readFrameCode, readFrame, frameIf, laid, laidIf, writeFrameCode, writeFrameRow}
-use Rattle.frame.specs.Sessions.{Content, ownOk, sessionOk}
+use Rattle.frame.specs.Sessions.{Content, SaneContent, SaneEntry, ownOk, sessionOk}
 use Rattle.frame.specs.Tokens.{tokenWords, contentFrom, acceptsToken}
 use Rattle.frame.specs.TokenCalls.{readTokenCode, readToken, contentIf, writeTokenCode, writeTokenRow}
 use Rattle.frame.proofs.Entries.{entry-facts, facts-entry, frame-facts, facts-frame, facts-ring, ring-facts}
 use Rattle.frame.proofs.Back.{frame-back, frame-accepted}
-use Rattle.frame.proofs.Sessions.{SaneEntry, SaneContent, session-facts, facts-session, own-facts, facts-own}
+use Rattle.frame.proofs.Sessions.{session-facts, facts-session, own-facts, facts-own}
 use Rattle.frame.proofs.Tokens.{token-back, token-accepted}
 
 -- neither 1 nor 9

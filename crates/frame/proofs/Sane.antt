@@ -6,9 +6,9 @@ use mathlib.Core.Path.{_≡_}
 use lib.ListN.{drop, take}
 use Rattle.causal.specs.Lists.{part}
 use Rattle.frame.specs.Frames.{countIn, frameOf, officesIn}
+use Rattle.frame.specs.Sessions.{SaneContent, SaneEntry}
 use Rattle.frame.specs.Tokens.{contentFrom, frameLength, ownFrom, tokenOffices, tokenOwns, tokenReads}
 use Rattle.frame.specs.declared.entry.Entry.{Entry}
-use Rattle.frame.proofs.Sessions.{SaneContent, SaneEntry}
 use Rattle.frame.proofs.Words.{clock-from-eight, ids-from-set}
 
 pub frame-sane : (ws : List ℕ) → SaneEntry (frameOf ws .entry)

@@ -13,19 +13,9 @@ use Rattle.causal.specs.Sets.{IdSet, Within, has, inserted, isIn, subsetOf, uni
 use Rattle.causal.proofs.Sets.{has-zeros, ids-inserted, ids-unite, ids-zeros, in-inserted, in-unite, inserted-old, is-out, subset-by, subset-within, unite-left, unite-right}
 use Rattle.causal.proofs.Tests.{both-intro, both-true}
 use Rattle.frame.specs.Entries.{clockOk, entryOk, idOf, idsOk}
-use Rattle.frame.specs.Sessions.{Content, idsOf, ownOk, sessionOk}
+use Rattle.frame.specs.Sessions.{Content, SaneEntry, idsOf, ownOk, sessionOk}
 use Rattle.frame.specs.declared.entry.Entry.{Entry}
 use Rattle.frame.proofs.Ids.{inserted-new, not-in}
-
--- what holds of any entry and any session that a program has: arrays of eight places, sets of words below 2 ^ 32
-pub record SaneEntry (e : Entry) : Type 0 where
-  pub clock8 : length (e .clock) ≡ 8
-  pub deps-set : IdSet (e .deps)
-
-pub record SaneContent (s : Content) : Type 0 where
-  pub clock8 : length (s .clock) ≡ 8
-  pub read : IdSet (s .read)
-  pub own : (e : Entry) → List·Memᴰ e (s .own) → SaneEntry e
 
 -- ---- the ids of entries
 

@@ -17,14 +17,14 @@ use Rattle.frame.specs.declared.entry.Frame.{Frame}
 use Rattle.frame.specs.Words.{kindOf, payload, payAt, isKind, kindIs, clockWords, clockFrom, idWords, idsFrom, total, sumWord, summed}
 use Rattle.frame.specs.Frames.{ringOk, framed, frameWords, frameOk, frameOf, accepts}
 use Rattle.frame.specs.Reading.{clockKinds, ascends, sumOk}
-use Rattle.frame.specs.Sessions.{Content, sessionOk}
+use Rattle.frame.specs.Sessions.{Content, SaneContent, SaneEntry, sessionOk}
 use Rattle.frame.specs.Tokens.{rowsOf, ownRows, tokenHead, tokenWords, frameLength, ownFrom, tokenOffices, tokenOwns, tokenReads, contentFrom, acceptsToken}
 use Rattle.frame.specs.TokenReading.{tokenShape, ownFrameOk, ownFramesOk, fieldsOk, tokenChecked}
 use Rattle.frame.proofs.Changed.{session-wider}
 use Rattle.frame.proofs.Entries.{RingFacts, ring-facts, facts-ring, clock-facts, frame-facts}
 use Rattle.frame.proofs.Words.{kind-is, is-kind, ids-ascend, ascends-are}
 use Rattle.frame.proofs.Frames.{clock-again}
-use Rattle.frame.proofs.Sessions.{SaneEntry, SaneContent, SessionFacts, session-facts, own-ok}
+use Rattle.frame.proofs.Sessions.{SessionFacts, session-facts, own-ok}
 use Rattle.frame.proofs.Sane.{token-sane}
 use Rattle.frame.proofs.Back.{frame-back, frame-accepted, accepted-ok, accepted-written}
 use Rattle.frame.proofs.Tokens as K

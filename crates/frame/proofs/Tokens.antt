@@ -13,7 +13,7 @@ use Rattle.causal.proofs.Lists.{eqWords-refl, sum-le}
 use Rattle.causal.proofs.Sets.{has-lt}
 use Rattle.frame.specs.Entries.{entryOk}
 use Rattle.frame.specs.Frames.{bodyWords, countIn, frameOf, frameOk, frameWords, framed, ringOk}
-use Rattle.frame.specs.Sessions.{Content, sessionOk}
+use Rattle.frame.specs.Sessions.{Content, SaneContent, SaneEntry, sessionOk}
 use Rattle.frame.specs.Tokens.{acceptsToken, contentFrom, frameLength, ownFrom, rowsOf, tokenHead, tokenOffices, tokenOwns, tokenReads, tokenWords}
 use Rattle.frame.specs.Words.{clockFrom, clockWord, clockWords, idWords, idsFrom, payload, sumWord, summed}
 use Rattle.frame.specs.declared.entry.Entry.{Entry}
@@ -21,7 +21,7 @@ use Rattle.frame.specs.declared.entry.Frame.{Frame}
 use Rattle.frame.proofs.Back.{clock-back, count-back, frame-back}
 use Rattle.frame.proofs.Entries.{RingFacts, facts-frame, ring-facts}
 use Rattle.frame.proofs.Frames.{length-frame}
-use Rattle.frame.proofs.Sessions.{SaneContent, SaneEntry, SessionFacts, own-ok, session-facts}
+use Rattle.frame.proofs.Sessions.{SessionFacts, own-ok, session-facts}
 use Rattle.frame.proofs.Words.{clock-at, ids-back, ids-size, length-clock}
 use Rattle.causal.proofs.Tests.{both-one}
 

@@ -1,17 +1,19 @@
 -- Sessions (01: errands): content, and when one is sound. Paper 01, "Entries and rank", "Sound stores and errands". Assumes nothing.
 use Prim.Native.Nat.{ℕ, _-_}
 use mathlib.Core.Bool.{Bool, true, not, cond}
-use mathlib.Core.List.{List, [], _∷_, _++_, foldl}
+use mathlib.Core.List.{List, List·Memᴰ, [], _∷_, _++_, foldl}
+use mathlib.Core.Path.{_≡_}
 use lib.Dec.{leb, eqb}
 use lib.ListN.{length, getD, replicate}
 use Rattle.causal.specs.Tests.{both}
 use Rattle.causal.specs.Lists.{tab, zeros}
-use Rattle.causal.specs.Sets.{isIn, unite, inserted, subsetOf}
+use Rattle.causal.specs.Sets.{IdSet, isIn, unite, inserted, subsetOf}
 use Rattle.frame.specs.declared.entry.Entry.{Entry}
 use Rattle.frame.specs.declared.session.Session.{Session}
 use Rattle.frame.specs.Entries.{idOf, clockOk, idsOk, entryOk, blankEntry}
 
--- "An errand has a clock, a set of read names, and its own entries in writing order"
+-- "An errand has a clock, a set of read names, and its own entries in writing order"; of a joined one in carrying order (02, (iv)): the first's, then
+-- the second's
 pub record Content : Type 0 where
   pub offices : ℕ
   pub clock : List ℕ
@@ -72,3 +74,13 @@ sessionOk n p s =
 -- "A fresh errand has a clock of zeros, nothing read and nothing of its own"
 abbrev pub freshContent : ℕ → Content
 freshContent n = record { offices = n; clock = zeros; read = zeros; own = [] }
+
+-- what holds of any entry, and of any session with at most 16 own writes, that a program has: rows of eight words, below 2 ^ 32
+pub record SaneEntry (e : Entry) : Type 0 where
+  pub clock8 : length (e .clock) ≡ 8
+  pub deps-set : IdSet (e .deps)
+
+pub record SaneContent (s : Content) : Type 0 where
+  pub clock8 : length (s .clock) ≡ 8
+  pub read : IdSet (s .read)
+  pub own : (e : Entry) → List·Memᴰ e (s .own) → SaneEntry e

@@ -10,11 +10,11 @@ pub enum Refusal {
     Plot, // 4: plot out of range, or too many plots
     Value, // 5: value too great
     OfficeFull, // 6: the office has made 32 entries
-    SessionFull, // 7: the session carries 16 entries
+    SessionFull, // 7: the session carries 16 entries, or over 16 would be carried
     Room, // 8: row too short
     Format, // 9: not a frame or token for this ring and these plots
     Unmade, // 10: an entry names this office and was not made here
-    Different, // 11: an entry is held with other content
+    Different, // 11: an entry is held with other content, or one name is carried with two
     Missing, // 12: a dependency or a read id is not held
 }
 

@@ -16,6 +16,7 @@ use Rattle.causal.specs.Tests.{either}
 use Rattle.causal.proofs.Codes.{check-none, or-both}
 use Rattle.causal.proofs.Sets.{subset-by}
 use Rattle.causal.proofs.Tests.{not-so}
+use Rattle.frame.specs.Sessions.{SaneEntry}
 use Rattle.frame.specs.declared.entry.Frame.{Frame}
 use Rattle.frame.specs.Entries.{idOf}
 use Rattle.frame.specs.Frames.{ringOk, frameOk, frameWords, frameOf, accepts}
@@ -24,7 +25,6 @@ use Rattle.frame.specs.Tokens.{rowsOf}
 use Rattle.frame.specs.Calls.{laid, readFrameCode, frameIf, readFrame}
 use Rattle.frame.proofs.Entries.{frame-facts, facts-ring}
 use Rattle.frame.proofs.Reading.{told}
-use Rattle.frame.proofs.Sessions.{SaneEntry}
 use Rattle.store.specs.Offices.{Office, need, slotAt, officeOf, storeWords, soundStore, reveal, hold}
 use Rattle.store.specs.Slots.{holdWords}
 use Rattle.store.proofs.Bridge.{store-same}

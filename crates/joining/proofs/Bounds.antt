@@ -11,7 +11,6 @@ use Rattle.causal.specs.Tests.{allBelow, both, either, implies}
 use Rattle.frame.specs.Entries.{boundsOk, clockOk, clockPlaceOk, entryOk, idOf, idsOk, idsPlaceOk, sameContent}
 use Rattle.frame.specs.Frames.{ringOk}
 use Rattle.frame.specs.Sessions.{Content, idsOf, leaveOut, ownOk, sessionOk}
-use Rattle.frame.specs.declared.entry.Entry.{Entry}
 use Rattle.frame.proofs.Bounds.{carrying, loaded, numbered}
 use Rattle.joining.specs.Joins.{alike, allAlike, each, joinCode, joined}
 

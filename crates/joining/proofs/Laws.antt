@@ -16,24 +16,24 @@ use Rattle.causal.specs.Codes.{check}
 use Rattle.causal.specs.Lists.{zeros}
 use Rattle.causal.specs.Sets.{IdSet, Within, has, isIn, unite}
 use Rattle.causal.specs.Tests.{both}
-use Rattle.causal.proofs.Clocks.{join-at}
+use Rattle.causal.proofs.Clocks.{join-at, join-covers}
 use Rattle.causal.proofs.Codes.{check-none}
 use Rattle.causal.proofs.Sets.{has-lt, has-unite, ids-unite, ids-zeros, in-is, in-or-out, in-unite, is-in, same-words, unite-left, unite-right}
 use Rattle.causal.proofs.Tests.{both-true, not-so}
 use Rattle.frame.specs.Entries.{idOf, sameContent}
 use Rattle.frame.specs.Frames.{ringOk}
-use Rattle.frame.specs.Sessions.{Content, idsOf, leaveOut, sessionOk}
+use Rattle.frame.specs.Sessions.{Content, SaneContent, idsOf, leaveOut, sessionOk}
 use Rattle.frame.specs.declared.entry.Entry.{Entry}
 use Rattle.frame.proofs.Entries.{EntryFacts, entry-facts, ring-facts}
 use Rattle.frame.proofs.Ids.{id-office, id-serial}
 use Rattle.frame.proofs.LeaveOut.{left-from, left-in}
 use Rattle.frame.proofs.SameContent.{same-content-is, same-refl}
-use Rattle.frame.proofs.Sessions.{SaneContent, ids-from, ids-new, own-ok, session-facts}
+use Rattle.frame.proofs.Sessions.{ids-from, ids-new, own-ok, session-facts}
 use Rattle.joining.specs.Joins.{allAlike, joinCode, joined, notAmong}
-use Rattle.joining.specs.Laws.{Laws}
+use Rattle.joining.specs.Laws.{JoinedLaws, LawsOfJoin, Sane}
 use Rattle.joining.specs.Orders.{GoneOn, Reordered}
 use Rattle.joining.proofs.Each.{all-alike-at, all-alike-by, all-alike-swap}
-use Rattle.joining.proofs.Orders.{Apart, apart-cons, apart-map, apart-permuted, permuted-length}
+use Rattle.joining.proofs.Orders.{Apart, gone-self, apart-cons, apart-map, apart-permuted, permuted-length}
 use Rattle.joining.proofs.Sound.{joined-ok, joined-own, own-apart, small}
 
 -- what a join that is not refused says of the two
@@ -64,10 +64,6 @@ reads-from : (a b : Content) → SaneContent a → SaneContent b → (k : ℕ) �
 unfolding joined
 reads-from a b A B k m = in-unite (a .read) (b .read) k (ids-unite (a .read) (b .read) (A .read) (B .read)) m
 
-reads-first : (a b : Content) → SaneContent a → (k : ℕ) → has (a .read) k ≡ 1 → has (joined a b .read) k ≡ 1
-unfolding joined
-reads-first a b A k m = unite-left (a .read) (b .read) (A .read) k m
-
 reads-second : (a b : Content) → SaneContent b → (k : ℕ) → has (b .read) k ≡ 1 → has (joined a b .read) k ≡ 1
 unfolding joined
 reads-second a b B k m = unite-right (a .read) (b .read) (B .read) k m
@@ -95,16 +91,16 @@ apart-one (x ∷ l) (apart-cons out a) e f i j q =
 abbrev among : List Entry → Entry → Bool
 among es e = isIn (idsOf es) (idOf e)
 
-carried-from : (a b : Content) (e : Entry) → List·Memᴰ e (joined a b .own) → List·Memᴰ e (a .own) ⊎ List·Memᴰ e (b .own)
+pub carried-from : (a b : Content) (e : Entry) → List·Memᴰ e (joined a b .own) → List·Memᴰ e (a .own) ⊎ List·Memᴰ e (b .own)
 unfolding joined
 carried-from a b e m = ⊎-elim (λ i. inl i) (λ i. inr (left-from (among (a .own)) (b .own) e i .0)) (List·Memᴰ·append-cases (a .own) m)
 
-carried-first : (a b : Content) (e : Entry) → List·Memᴰ e (a .own) → List·Memᴰ e (joined a b .own)
+pub carried-first : (a b : Content) (e : Entry) → List·Memᴰ e (a .own) → List·Memᴰ e (joined a b .own)
 unfolding joined
 carried-first a b e m = Memᴰ·append-left (notAmong (a .own) (b .own)) m
 
 module _ (n p : ℕ) (n8 : n ≤ 8) where
-  carried-second : (a b : Content) → SaneContent a → SaneContent b → sessionOk n p a ≡ true → sessionOk n p b ≡ true → allAlike (b .own) (a .own) ≡ true
+  pub carried-second : (a b : Content) → SaneContent a → SaneContent b → sessionOk n p a ≡ true → sessionOk n p b ≡ true → allAlike (b .own) (a .own) ≡ true
       → (e : Entry) → List·Memᴰ e (b .own) → List·Memᴰ e (joined a b .own)
   unfolding joined
   carried-second a b A B oa ob al e m = go (among (a .own) e) refl
@@ -119,17 +115,17 @@ module _ (n p : ℕ) (n8 : n ≤ 8) where
           Memᴰ·append-left {s = a .own} (notAmong (a .own) (b .own)) (rw q (f .1))
       go false u = Memᴰ·append-right (a .own) (left-in (among (a .own)) (b .own) e m u)
 
+  -- the ids of what is carried are apart
+  pub joined-apart : (x y : Content) → SaneContent x → SaneContent y → sessionOk n p x ≡ true → sessionOk n p y ≡ true → Apart (joined x y .own)
+  unfolding joined
+  joined-apart x y X Y ox oy =
+      apart-map idOf (joined x y .own)
+      (own-apart n p n8 (unite (x .read) (y .read)) zeros ids-zeros (joined x y .own) (joined-own n p n8 x y X Y ox oy))
+
   module _ (a b : Content) (A : SaneContent a) (B : SaneContent b) (oa : sessionOk n p a ≡ true) (ob : sessionOk n p b ≡ true)
       (al : allAlike (b .own) (a .own) ≡ true) where
     al′ : allAlike (a .own) (b .own) ≡ true
     al′ = all-alike-swap (a .own) (b .own) ∙ al
-
-    -- the ids of what is carried are apart
-    joined-apart : (x y : Content) → SaneContent x → SaneContent y → sessionOk n p x ≡ true → sessionOk n p y ≡ true → Apart (joined x y .own)
-    unfolding joined
-    joined-apart x y X Y ox oy =
-        apart-map idOf (joined x y .own)
-        (own-apart n p n8 (unite (x .read) (y .read)) zeros ids-zeros (joined x y .own) (joined-own n p n8 x y X Y ox oy))
 
     over : (x y : Content) → SaneContent x → SaneContent y → sessionOk n p x ≡ true → sessionOk n p y ≡ true → allAlike (x .own) (y .own) ≡ true
         → (e : Entry) → List·Memᴰ e (joined x y .own) → List·Memᴰ e (joined y x .own)
@@ -178,20 +174,9 @@ module _ (n p : ℕ) (n8 : n ≤ 8) where
     pub join-count : length (joined a b .own) ≡ length (joined b a .own)
     join-count = permuted-length (join-swapped .own)
 
--- the other way round it is not refused either
-swap-joinable : (n p : ℕ) (a b : Content) → SaneContent a → SaneContent b → Joinable n p a b → Joinable n p b a
-swap-joinable n p a b A B J =
-    record {
-      ring = J .ring;
-      first = J .second;
-      second = J .first;
-      alike = all-alike-swap (a .own) (b .own) ∙ J .alike;
-      few = omega (arith, J .few, join-count n p (ring-facts n p (J .ring) .high) a b A B (J .first) (J .second) (J .alike));
-    }
-
 -- ---- the same answer the other way round
 
-code-swap : (n p : ℕ) (a b : Content) → SaneContent a → SaneContent b → joinCode n p b a ≡ joinCode n p a b
+code-swap : (n p : ℕ) (a b : Content) → Sane n p a → Sane n p b → joinCode n p b a ≡ joinCode n p a b
 unfolding joinCode check both
 code-swap n p a b A B = go (ringOk n p) refl (sessionOk n p a) refl (sessionOk n p b) refl (allAlike (b .own) (a .own)) refl
   where
@@ -201,7 +186,7 @@ code-swap n p a b A B = go (ringOk n p) refl (sessionOk n p a) refl (sessionOk n
     go false qw x qa y qb z qz = refl
     go true qw true qa true qb true qz =
         ap (λ (t : Bool). check t 11 (check (leb (length (joined b a .own)) 16) 7 0)) (all-alike-swap (a .own) (b .own) ∙ qz)
-        ∙ ap (λ (l : ℕ). check (leb l 16) 7 0) (sym (join-count n p (ring-facts n p qw .high) a b A B qa qb qz))
+        ∙ ap (λ (l : ℕ). check (leb l 16) 7 0) (sym (join-count n p (ring-facts n p qw .high) a b (A qa) (B qb) qa qb qz))
     go true qw true qa true qb false qz =
         ap (λ (t : Bool). check t 11 (check (leb (length (joined b a .own)) 16) 7 0)) (all-alike-swap (a .own) (b .own) ∙ qz)
     go true qw true qa false qb z qz = refl
@@ -303,7 +288,7 @@ module _ (n p : ℕ) (n8 : n ≤ 8) (a b : Content) (A : SaneContent a) (B : San
 
 -- ---- together
 
-gone-code : (n p : ℕ) (a b : Content) → SaneContent a → SaneContent b → GoneOn a b → ringOk n p ≡ true → sessionOk n p a ≡ true
+gone-code : (n p : ℕ) (a b : Content) → Sane n p a → Sane n p b → GoneOn a b → ringOk n p ≡ true → sessionOk n p a ≡ true
     → sessionOk n p b ≡ true → joinCode n p a b ≡ 0
 gone-code n p a b A B G ring oa ob =
     let n8 = ring-facts n p ring .high in
@@ -312,22 +297,56 @@ gone-code n p a b A B G ring oa ob =
       ring = ring;
       first = oa;
       second = ob;
-      alike = gone-alike n p n8 a b A B oa ob G;
-      few = omega (arith, session-facts n p b ob .few, ap (λ (s : Content). length (s .own)) (gone-joined n p n8 a b A B oa ob G .0));
+      alike = gone-alike n p n8 a b (A oa) (B ob) oa ob G;
+      few = omega (arith, session-facts n p b ob .few, ap (λ (s : Content). length (s .own)) (gone-joined n p n8 a b (A oa) (B ob) oa ob G .0));
     })
 
-pub join-laws : Laws
-join-laws n p a b A B =
+joined-sane : (a b : Content) → SaneContent a → SaneContent b → SaneContent (joined a b)
+unfolding joined join
+joined-sane a b A B =
     record {
-      sound = λ h. let J = joinable n p a b h in joined-ok n p (ring-facts n p (J .ring) .high) a b A B (J .first) (J .second) (J .few);
-      reads = reads-from a b A B;
-      reads-first = reads-first a b A;
-      reads-second = reads-second a b B;
-      carries = carried-from a b;
-      carries-first = carried-first a b;
-      carries-second = λ h. let J = joinable n p a b h in carried-second n p (ring-facts n p (J .ring) .high) a b A B (J .first) (J .second) (J .alike);
-      swapped-code = code-swap n p a b A B;
-      swapped = λ h. let J = joinable n p a b h in join-swapped n p (ring-facts n p (J .ring) .high) a b A B (J .first) (J .second) (J .alike);
-      gone-on-code = gone-code n p a b A B;
-      gone-on = λ G h. let J = joinable n p a b h in gone-joined n p (ring-facts n p (J .ring) .high) a b A B (J .first) (J .second) G;
+      clock8 = refl;
+      read = ids-unite (a .read) (b .read) (A .read) (B .read);
+      own = λ e m. ⊎-elim (λ i. A .own e i) (λ i. B .own e i) (carried-from a b e m);
     }
+
+from-first : (a b : Content) → SaneContent a → GoneOn a (joined a b)
+unfolding joined
+from-first a b A =
+    record {
+      offices = refl;
+      clock = join-covers (a .clock) (b .clock) .0;
+      read = unite-left (a .read) (b .read) (A .read);
+      more = notAmong (a .own) (b .own);
+      own = refl;
+    }
+
+clock-second : (a b : Content) → Covers (joined a b .clock) (b .clock)
+unfolding joined
+clock-second a b = join-covers (a .clock) (b .clock) .1
+
+accepted : (n p : ℕ) (a b : Content) → Sane n p a → Sane n p b → joinCode n p a b ≡ 0 → JoinedLaws a b
+accepted n p a b SA SB h =
+    let J = joinable n p a b h in
+    let n8 = ring-facts n p (J .ring) .high in
+    let A = SA (J .first) in
+    let B = SB (J .second) in
+    record {
+      sane = joined-sane a b A B;
+      sound = λ m q r oa ob. joined-ok m q (ring-facts m q r .high) a b A B oa ob (J .few);
+      first = from-first a b A;
+      clock-second = clock-second a b;
+      reads-second = reads-second a b B;
+      reads = reads-from a b A B;
+      carries-second = carried-second n p n8 a b A B (J .first) (J .second) (J .alike);
+      carries = carried-from a b;
+      swapped = join-swapped n p n8 a b A B (J .first) (J .second) (J .alike);
+      gone-on = gone-joined n p n8 a b A B (J .first) (J .second);
+    }
+
+itself : (n p : ℕ) (a : Content) → Sane n p a → ringOk n p ≡ true → sessionOk n p a ≡ true → (joinCode n p a a ≡ 0) × (joined a a ≡ a)
+itself n p a A ring ok =
+    (gone-code n p a a A A (gone-self a) ring ok ok, gone-joined n p (ring-facts n p ring .high) a a (A ok) (A ok) ok ok (gone-self a) .0)
+
+pub join-laws : LawsOfJoin
+join-laws = record { accepted = accepted; swapped-code = code-swap; gone-on-code = gone-code; itself = itself }

@@ -1,10 +1,13 @@
--- One list in two orders: the same members, as many; lists without repeats and of the same members are in some order of each other. Assumes nothing.
-use mathlib.Core.List.{List, append-assoc, List·Memᴰ, List·Memᴰ·append-cases, List·Memᴰ·cases-cons, List·Memᴰ·head, List·Memᴰ·not-nil, List·Memᴰ·tail, Memᴰ·append-left, Memᴰ·append-right, Memᴰ·map, [], _++_, _∷_, map}
+-- One list in two orders: the same members, as many; lists without repeats and of the same members are in some order of each other. Sessions that
+-- have gone on. Assumes nothing.
+use mathlib.Core.List.{List, List·Memᴰ, List·Memᴰ·append-cases, List·Memᴰ·cases-cons, List·Memᴰ·head, List·Memᴰ·not-nil, List·Memᴰ·tail, Memᴰ·append-left, Memᴰ·append-right, Memᴰ·map, [], _++_, _∷_, append-assoc, append-nil, map}
 use mathlib.Core.Logic.{⊎-elim}
 use mathlib.Core.Path.{_∙_, _≡_, ap, refl, sym}
 use native.Mathlib.Omega.{arith}
 use lib.ListN.{length, length-append}
-use Rattle.joining.specs.Orders.{Permuted, permuted-cons, permuted-nil}
+use Rattle.frame.specs.Sessions.{Content}
+use Rattle.frame.specs.declared.entry.Entry.{Entry}
+use Rattle.joining.specs.Orders.{GoneOn, Permuted, permuted-cons, permuted-nil}
 
 module _ {A : Type 0} where
   -- an element in the middle
@@ -82,3 +85,18 @@ module _ {A : Type 0} where
 pub apart-map : {A B : Type 0} (f : A → B) (l : List A) → Apart (map f l) → Apart l
 apart-map f [] a = apart-nil
 apart-map f (x ∷ l) (apart-cons out a) = apart-cons (λ m. out (Memᴰ·map f m)) (apart-map f l a)
+
+-- ---- sessions that have gone on
+
+pub gone-self : (s : Content) → GoneOn s s
+gone-self s = record { offices = refl; clock = λ j l. omega arith; read = λ k h. h; more = []; own = sym (append-nil (s .own)) }
+
+pub gone-then : (a b c : Content) → GoneOn a b → GoneOn b c → GoneOn a c
+gone-then a b c G H =
+    record {
+      offices = G .offices ∙ H .offices;
+      clock = λ j l. omega (arith, G .clock j l, H .clock j l);
+      read = λ k h. H .read k (G .read k h);
+      more = G .more ++ H .more;
+      own = H .own ∙ ap (λ (l : List Entry). l ++ H .more) (G .own) ∙ append-assoc (a .own) (G .more) (H .more);
+    }

@@ -10,12 +10,12 @@ use Rattle.causal.specs.Lists.{zeros}
 use Rattle.causal.specs.Sets.{IdSet, has, inserted, isIn, unite}
 use Rattle.causal.proofs.Sets.{has-zeros, ids-inserted, ids-unite, ids-zeros, in-is, in-or-out, in-unite, inserted-old, out-is, unite-left, unite-right}
 use Rattle.frame.specs.Entries.{idOf}
-use Rattle.frame.specs.Sessions.{Content, idsOf, ownOk, sessionOk}
+use Rattle.frame.specs.Sessions.{Content, SaneContent, idsOf, ownOk, sessionOk}
 use Rattle.frame.specs.declared.entry.Entry.{Entry}
 use Rattle.frame.proofs.Entries.{entry-facts}
 use Rattle.frame.proofs.Ids.{id-range, ids-of, ids-range, inserted-new, join-ok}
 use Rattle.frame.proofs.OwnLess.{Less, own-append, own-less}
-use Rattle.frame.proofs.Sessions.{SaneContent, SessionFacts, facts-session, ids-set, own-facts, own-more, own-ok, session-facts}
+use Rattle.frame.proofs.Sessions.{SessionFacts, facts-session, ids-set, own-facts, own-more, own-ok, session-facts}
 use Rattle.joining.specs.Joins.{joined, notAmong}
 use Rattle.joining.proofs.Orders.{Apart, apart-cons, apart-nil}
 

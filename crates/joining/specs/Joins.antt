@@ -13,7 +13,7 @@ use Rattle.frame.specs.Frames.{ringOk}
 use Rattle.frame.specs.Sessions.{Content, freshContent, idsOf, leaveOut, sessionOk}
 use Rattle.frame.specs.declared.entry.Entry.{Entry}
 
--- the entries of fs, in order, whose names no entry of es has
+-- the entries of fs, in order, whose names no entry of es has: "not among them" is by name, and after refusal 11 so by entry
 abbrev pub notAmong : List Entry → List Entry → List Entry
 notAmong es fs = leaveOut (λ (f : Entry). isIn (idsOf es) (idOf f)) fs
 
@@ -32,7 +32,7 @@ unfoldable pub each : (Entry → Bool) → List Entry → Bool
 each t [] = true
 each t (e ∷ es) = both (t e) (each t es)
 
--- of one name, so of one content
+-- if they have one name, they have one content
 unfoldable pub alike : Entry → Entry → Bool
 alike e f = implies (eqb (idOf e) (idOf f)) (sameContent e f)
 
@@ -40,7 +40,8 @@ alike e f = implies (eqb (idOf e) (idOf f)) (sameContent e f)
 unfoldable pub allAlike : List Entry → List Entry → Bool
 allAlike es fs = each (λ e. each (alike e) fs) es
 
--- "1 for settings, then 3 if either errand is unsound for them, then 11 if one name has two contents, then 7 if over 16 would be carried"
+-- "1 for settings, then 3 if either errand is unsound for them, then 11 if one name has two contents, then 7 if over 16 would be carried". Contents
+-- are those of own entries: a read name has none, and within one errand that is sound no name stands twice
 unfoldable pub joinCode : ℕ → ℕ → Content → Content → ℕ
 joinCode n p a b =
     check (ringOk n p) 1
@@ -52,5 +53,6 @@ unfoldable pub joinedIf : ℕ → Content → Content → Content
 joinedIf zero a b = joined a b
 joinedIf (suc c) a b = freshContent 0
 
+-- what the call hands back
 unfoldable pub joinSessions : ℕ → ℕ → Content → Content → Content
 joinSessions n p a b = joinedIf (joinCode n p a b) a b

@@ -1,35 +1,46 @@
--- LAWS OF THE JOIN, paper 02, (iv), of the contents of any two sessions that a program can have (`SaneContent`: rows of eight words); proved in
--- proofs/Laws.antt. That no reading depends on the carrying order: ring/specs/Order.antt. Assumes nothing.
+-- LAWS OF THE JOIN, paper 02, (iv); proved in proofs/Laws.antt. They are of the contents of any two sessions that a program can have: of such a
+-- content, if it is sound, its rows are sane (`Sane`; a session with a count over 16 is not sound). What later calls make of a join:
+-- ring/specs/Carrying.antt. Assumes nothing.
 use Prim.Native.Nat.{ℕ}
 use mathlib.Core.Bool.{true}
 use mathlib.Core.List.{List·Memᴰ}
 use mathlib.Core.Logic.{_⊎_}
 use mathlib.Core.Path.{_≡_}
+use Rattle.causal.specs.Clocks.{Covers}
 use Rattle.causal.specs.Sets.{has}
 use Rattle.frame.specs.Frames.{ringOk}
-use Rattle.frame.specs.Sessions.{Content, sessionOk}
+use Rattle.frame.specs.Sessions.{Content, SaneContent, sessionOk}
 use Rattle.frame.specs.declared.entry.Entry.{Entry}
-use Rattle.frame.proofs.Sessions.{SaneContent}
 use Rattle.joining.specs.Joins.{joinCode, joined}
 use Rattle.joining.specs.Orders.{GoneOn, Reordered}
 
-pub record JoinLaws (n p : ℕ) (a b : Content) : Type 0 where
-  -- the joined session is sound for the same settings
-  pub sound : joinCode n p a b ≡ 0 → sessionOk n p (joined a b) ≡ true
-  -- it has read what either has read, and carries what either carries. "Read names and own entries may overlap": nothing is asked of a name that the
-  -- one has read and the other wrote
-  pub reads : (k : ℕ) → has (joined a b .read) k ≡ 1 → (has (a .read) k ≡ 1) ⊎ (has (b .read) k ≡ 1)
-  pub reads-first : (k : ℕ) → has (a .read) k ≡ 1 → has (joined a b .read) k ≡ 1
-  pub reads-second : (k : ℕ) → has (b .read) k ≡ 1 → has (joined a b .read) k ≡ 1
-  pub carries : (e : Entry) → List·Memᴰ e (joined a b .own) → List·Memᴰ e (a .own) ⊎ List·Memᴰ e (b .own)
-  pub carries-first : (e : Entry) → List·Memᴰ e (a .own) → List·Memᴰ e (joined a b .own)
-  pub carries-second : joinCode n p a b ≡ 0 → (e : Entry) → List·Memᴰ e (b .own) → List·Memᴰ e (joined a b .own)
-  -- "Swapping the two may change the carrying order only"
-  pub swapped-code : joinCode n p b a ≡ joinCode n p a b
-  pub swapped : joinCode n p a b ≡ 0 → Reordered (joined a b) (joined b a)
-  -- with a copy that has gone on, and so with itself, either way round: not refused, and what the longer one says
-  pub gone-on-code : GoneOn a b → ringOk n p ≡ true → sessionOk n p a ≡ true → sessionOk n p b ≡ true → joinCode n p a b ≡ 0
-  pub gone-on : GoneOn a b → joinCode n p a b ≡ 0 → (joined a b ≡ b) × (joined b a ≡ b)
+abbrev pub Sane : ℕ → ℕ → Content → Type 0
+Sane n p a = sessionOk n p a ≡ true → SaneContent a
 
-abbrev pub Laws : Type 0
-Laws = (n p : ℕ) (a b : Content) → SaneContent a → SaneContent b → JoinLaws n p a b
+-- of a join that is not refused
+pub record JoinedLaws (a b : Content) : Type 0 where
+  -- the joined session is one that a program can have, and sound for whatever settings both are: so for those of the join
+  pub sane : SaneContent (joined a b)
+  pub sound : (m q : ℕ) → ringOk m q ≡ true → sessionOk m q a ≡ true → sessionOk m q b ≡ true → sessionOk m q (joined a b) ≡ true
+  -- it goes on from the first: it knows and carries what the first does, in its order
+  pub first : GoneOn a (joined a b)
+  -- it knows and carries what the second does, and nothing that neither does. "Read names and own entries may overlap": nothing is asked of a name
+  -- that the one has read and the other wrote
+  pub clock-second : Covers (joined a b .clock) (b .clock)
+  pub reads-second : (k : ℕ) → has (b .read) k ≡ 1 → has (joined a b .read) k ≡ 1
+  pub reads : (k : ℕ) → has (joined a b .read) k ≡ 1 → (has (a .read) k ≡ 1) ⊎ (has (b .read) k ≡ 1)
+  pub carries-second : (e : Entry) → List·Memᴰ e (b .own) → List·Memᴰ e (joined a b .own)
+  pub carries : (e : Entry) → List·Memᴰ e (joined a b .own) → List·Memᴰ e (a .own) ⊎ List·Memᴰ e (b .own)
+  -- "Swapping the two may change the carrying order only"
+  pub swapped : Reordered (joined a b) (joined b a)
+  -- with a copy that has gone on, either way round: what the longer one says
+  pub gone-on : GoneOn a b → (joined a b ≡ b) × (joined b a ≡ b)
+
+pub record LawsOfJoin : Type 0 where
+  pub accepted : (n p : ℕ) (a b : Content) → Sane n p a → Sane n p b → joinCode n p a b ≡ 0 → JoinedLaws a b
+  -- swapped, it gets the same answer
+  pub swapped-code : (n p : ℕ) (a b : Content) → Sane n p a → Sane n p b → joinCode n p b a ≡ joinCode n p a b
+  -- a session and a copy that has gone on, both sound, are never refused; nor is a session with itself, and it stays what it is
+  pub gone-on-code : (n p : ℕ) (a b : Content) → Sane n p a → Sane n p b → GoneOn a b → ringOk n p ≡ true → sessionOk n p a ≡ true
+      → sessionOk n p b ≡ true → joinCode n p a b ≡ 0
+  pub itself : (n p : ℕ) (a : Content) → Sane n p a → ringOk n p ≡ true → sessionOk n p a ≡ true → (joinCode n p a a ≡ 0) × (joined a a ≡ a)

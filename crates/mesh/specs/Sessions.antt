@@ -22,17 +22,15 @@ pub data Without (Q : ℕ → Type 0) : List ℕ → List ℕ → Type 0 where
 abbrev pub Picked : World → ℕ → List ℕ → List ℕ → Type 0
 Picked W C own ds = Without (W .held C) own ds
 
--- s is the join of a and b: both have read what it has read; the own writes of a, then those of b that are not among them (rest); both pasts
+-- s is the join of a and b: it has read what either has read, carries what a wrote, then what b wrote and a did not (rest), and has no past but
+-- theirs
 pub record Joins (a b s : IdSession) (rest : List ℕ) : Type 0 where
   pub reads-from : (r : ℕ) → s .reads r → a .reads r ⊎ b .reads r
   pub reads-first : (r : ℕ) → a .reads r → s .reads r
   pub reads-second : (r : ℕ) → b .reads r → s .reads r
   pub left-out : Without (λ (y : ℕ). List·Memᴰ y (a .own)) (b .own) rest
-  pub not-among : (y : ℕ) → List·Memᴰ y rest → ¬ (List·Memᴰ y (a .own))
   pub own-are : s .own ≡ a .own ++ rest
   pub past-from : (q : ℕ) → s .past q → a .past q ⊎ b .past q
-  pub past-first : (q : ℕ) → a .past q → s .past q
-  pub past-second : (q : ℕ) → b .past q → s .past q
 
 module _ (S : Shape) (wpast : ℕ → ℕ → Type 0) where
   -- the past of who wrote e is reached from what e depends on

@@ -9,9 +9,8 @@ use Rattle.causal.specs.Sets.{IdSet}
 use Rattle.causal.proofs.Tests.{both-one}
 use Rattle.frame.specs.declared.entry.Entry.{Entry}
 use Rattle.frame.specs.declared.session.Session.{Session}
-use Rattle.frame.specs.Sessions.{contentOf, headOk, sessionOk}
+use Rattle.frame.specs.Sessions.{SaneContent, contentOf, headOk, sessionOk}
 use Rattle.frame.proofs.OwnTurns as T
-use Rattle.frame.proofs.Sessions.{SaneContent}
 use Rattle.office.specs.Decide.{alone, bare}
 
 pub bare-is : (n : ℕ) (clock read : List ℕ) (own : List Entry) → contentOf (alone n clock read own) ≡ bare n clock read

@@ -10,11 +10,11 @@ use Rattle.causal.specs.Lists.{zeros}
 use Rattle.causal.specs.Sets.{IdSet, Within, has, inserted, isIn, unite}
 use Rattle.causal.proofs.Sets.{has-zeros, ids-inserted, ids-unite, ids-zeros, in-inserted, in-is, in-or-out, in-unite, inserted-old, out-is, subset-within}
 use Rattle.frame.specs.Entries.{entryOk, idOf}
-use Rattle.frame.specs.Sessions.{leaveOut, ownOk}
+use Rattle.frame.specs.Sessions.{SaneEntry, leaveOut, ownOk}
 use Rattle.frame.specs.declared.entry.Entry.{Entry}
 use Rattle.frame.proofs.Entries.{EntryFacts, entry-facts}
 use Rattle.frame.proofs.Ids.{id-range, inserted-new}
-use Rattle.frame.proofs.Sessions.{OwnFacts, SaneEntry, idsWith, own-facts}
+use Rattle.frame.proofs.Sessions.{OwnFacts, idsWith, own-facts}
 use Rattle.store.specs.Offices.{Office, hold}
 use Rattle.store.proofs.Keep.{Sound, Takes, hold-sound}
 use Rattle.office.specs.Calls.{holdAll, missing}

@@ -11,8 +11,8 @@ use Rattle.causal.proofs.Sets.{in-is, out-is}
 use Rattle.causal.proofs.Lists.{tab-more}
 use Rattle.frame.specs.declared.entry.Entry.{Entry}
 use Rattle.frame.specs.Entries.{idOf}
-use Rattle.frame.specs.Sessions.{leaveOut, ownOk}
-use Rattle.frame.proofs.Sessions.{OwnFacts, SaneEntry, own-facts}
+use Rattle.frame.specs.Sessions.{SaneEntry, leaveOut, ownOk}
+use Rattle.frame.proofs.Sessions.{OwnFacts, own-facts}
 use Rattle.store.specs.Offices.{Office, need, storeWords, hold}
 use Rattle.store.specs.Slots.{holdWords}
 use Rattle.store.proofs.Keep.{Sound}

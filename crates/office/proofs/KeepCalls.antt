@@ -17,13 +17,12 @@ use Rattle.causal.proofs.Tests.{implies-elim}
 use Rattle.frame.specs.Calls.{laid}
 use Rattle.frame.specs.Entries.{entryOk, idOf, sameContent}
 use Rattle.frame.specs.Frames.{frameOk, frameWords}
-use Rattle.frame.specs.Sessions.{Content, freshContent, sessionOk}
+use Rattle.frame.specs.Sessions.{Content, SaneContent, SaneEntry, freshContent, sessionOk}
 use Rattle.frame.specs.Tokens.{rowsOf}
 use Rattle.frame.specs.declared.entry.Entry.{Entry}
 use Rattle.frame.specs.declared.entry.Frame.{Frame}
 use Rattle.frame.proofs.Entries.{EntryFacts, entry-facts, frame-facts}
 use Rattle.frame.proofs.Ids.{id-office, id-range, inserted-new}
-use Rattle.frame.proofs.Sessions.{SaneContent, SaneEntry}
 use Rattle.store.specs.Offices.{Office, hold, reveal}
 use Rattle.store.proofs.Keep.{Sound, Takes, hold-sound, reveal-sound}
 use Rattle.office.specs.Calls.{Result, answerWords, entryCode, given, handedAll, holdNew, jointCode, jointOn, onward, ownCode, plotsOk, readAll, readCode, readOn, receiveCode, receiveOn, receiveSends, receivedBy}

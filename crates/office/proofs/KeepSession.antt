@@ -10,11 +10,11 @@ use Rattle.causal.specs.Lists.{zeros}
 use Rattle.causal.specs.Sets.{IdSet, inserted}
 use Rattle.causal.proofs.Sets.{ids-inserted, ids-zeros, in-inserted, inserted-old}
 use Rattle.frame.specs.Entries.{entryOk, idOf}
-use Rattle.frame.specs.Sessions.{Content, sessionOk}
+use Rattle.frame.specs.Sessions.{Content, SaneEntry, sessionOk}
 use Rattle.frame.specs.declared.entry.Entry.{Entry}
 use Rattle.frame.proofs.Entries.{entry-facts}
 use Rattle.frame.proofs.Ids.{id-range, ids-of, ids-range, join-ok}
-use Rattle.frame.proofs.Sessions.{SaneEntry, facts-session, own-more, session-facts}
+use Rattle.frame.proofs.Sessions.{facts-session, own-more, session-facts}
 use Rattle.store.specs.Offices.{Found, None, Some}
 use Rattle.office.specs.Calls.{noted}
 

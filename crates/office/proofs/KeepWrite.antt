@@ -14,13 +14,13 @@ use Rattle.causal.specs.Sets.{IdSet, Within, has, subsetOf}
 use Rattle.causal.proofs.Sets.{in-or-out, subset-within}
 use Rattle.frame.specs.Calls.{laid}
 use Rattle.frame.specs.Entries.{entryOk, idOf}
-use Rattle.frame.specs.Sessions.{Content, idsOf, sessionOk}
+use Rattle.frame.specs.Sessions.{Content, SaneContent, idsOf, sessionOk}
 use Rattle.frame.specs.Tokens.{rowsOf}
 use Rattle.frame.specs.declared.entry.Entry.{Entry}
 use Rattle.frame.specs.declared.entry.Frame.{Frame}
 use Rattle.frame.proofs.Entries.{entry-facts}
 use Rattle.frame.proofs.Ids.{id-office, id-range}
-use Rattle.frame.proofs.Sessions.{SaneContent, SessionFacts, ids-from, ids-new, own-ok, session-facts}
+use Rattle.frame.proofs.Sessions.{SessionFacts, ids-from, ids-new, own-ok, session-facts}
 use Rattle.store.specs.Offices.{Office, made}
 use Rattle.store.proofs.Keep.{Sound, Takes, hold-sound}
 use Rattle.office.specs.Calls.{Result, given, holdAll, missing, newEntry, ownCode, sentOf, writeCode, writeOn, writeSends, wroteSession}

@@ -1,6 +1,6 @@
 -- "each store left by a call is sound": on words, for every sound store of 32-bit words and every session that a program has.
 -- Assumes nothing.
-use Prim.Native.Nat.{ℕ, _<_, _^_, _≤_, suc, zero}
+use Prim.Native.Nat.{ℕ, _≤_, suc, zero}
 use mathlib.Core.Bool.{Bool, cond, false, true}
 use mathlib.Core.List.{List, [], _∷_}
 use mathlib.Core.Path.{_∙_, _≡_, ap, refl}
@@ -12,21 +12,17 @@ use Rattle.causal.specs.Sets.{inserted, isIn}
 use Rattle.causal.proofs.Tests.{both-true}
 use Rattle.frame.specs.Entries.{idOf}
 use Rattle.frame.specs.Frames.{accepts, frameOf}
-use Rattle.frame.specs.Sessions.{Content, freshContent}
+use Rattle.frame.specs.Sessions.{Content, SaneContent, freshContent}
 use Rattle.frame.specs.declared.entry.Entry.{Entry}
 use Rattle.frame.specs.declared.entry.Frame.{Frame}
 use Rattle.frame.proofs.Back.{accepted-ok}
 use Rattle.frame.proofs.Sane.{frame-sane}
-use Rattle.frame.proofs.Sessions.{SaneContent}
-use Rattle.store.specs.Offices.{Office, hold, need, officeOf, reveal, settingsOk, soundStore}
+use Rattle.store.specs.Offices.{Office, Words32, hold, need, officeOf, reveal, settingsOk, soundStore}
 use Rattle.store.proofs.Keep.{Sound, sound-store, store-facts}
 use Rattle.office.specs.Calls.{Result, holdAll, holdNew, jointCode, jointOn, parsed, readCode, readJoint, readOn, readPlot, receive, receiveCode, receiveOn, receivedBy, refusal, sentOf, stored, worded, write, writeCode, writeOn}
 use Rattle.office.proofs.Grows.{given-by}
 use Rattle.office.proofs.KeepCalls.{joint-keeps, read-keeps, receive-keeps}
 use Rattle.office.proofs.KeepWrite.{write-keeps}
-
-abbrev pub Words32 : List ℕ → Type 0
-Words32 ws = (i : ℕ) → getD ws i 0 < 2 ^ 32
 
 hold-all-n : (es : List Entry) (O : Office) → holdAll O es .offices ≡ O .offices
 unfolding holdAll hold

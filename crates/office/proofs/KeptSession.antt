@@ -16,12 +16,12 @@ use Rattle.causal.specs.Tests.{both}
 use Rattle.causal.proofs.Sets.{ids-inserted, ids-unite, in-or-out, subset-by, subset-within, unite-left, unite-right}
 use Rattle.frame.specs.Calls.{laid}
 use Rattle.frame.specs.Entries.{entryOk, idOf}
-use Rattle.frame.specs.Sessions.{Content, idsOf, sessionOk}
+use Rattle.frame.specs.Sessions.{Content, SaneContent, idsOf, sessionOk}
 use Rattle.frame.specs.Tokens.{rowsOf}
 use Rattle.frame.specs.declared.entry.Entry.{Entry}
 use Rattle.frame.proofs.Entries.{entry-facts}
 use Rattle.frame.proofs.Ids.{id-range, join-ok}
-use Rattle.frame.proofs.Sessions.{SaneContent, SessionFacts, facts-session, ids-from, ids-new, ids-set, own-end, own-ok, session-facts}
+use Rattle.frame.proofs.Sessions.{SessionFacts, facts-session, ids-from, ids-new, ids-set, own-end, own-ok, session-facts}
 use Rattle.store.specs.Offices.{Found, None, Office, Some, current, made, reveal}
 use Rattle.store.proofs.Best.{current-from}
 use Rattle.store.proofs.Keep.{Sound, reveal-sound}

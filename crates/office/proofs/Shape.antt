@@ -17,12 +17,11 @@ use Rattle.causal.proofs.Array.{id-set}
 use Rattle.causal.proofs.Tests.{split}
 use Rattle.frame.specs.declared.entry.Entry.{Entry}
 use Rattle.frame.specs.declared.session.Session.{Session}
-use Rattle.frame.specs.Sessions.{nobody, contentOf}
+use Rattle.frame.specs.Sessions.{SaneContent, SaneEntry, contentOf, nobody}
 use Rattle.frame.proofs.entry.Entry as E
 use Rattle.frame.proofs.entry.Entry.Laws as E′
 use Rattle.frame.proofs.session.Session as S
 use Rattle.frame.proofs.session.Session.Laws as S′
-use Rattle.frame.proofs.Sessions.{SaneEntry, SaneContent}
 use Rattle.office.specs.Steps.{ownAt, ownTo}
 
 -- a field's array stands under `map`

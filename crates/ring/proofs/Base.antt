@@ -17,14 +17,13 @@ use Rattle.causal.proofs.Tests.{implies-intro}
 use Rattle.frame.specs.Calls.{laid}
 use Rattle.frame.specs.Entries.{idOf, sameContent}
 use Rattle.frame.specs.Frames.{frameWords}
-use Rattle.frame.specs.Sessions.{Content, freshContent}
+use Rattle.frame.specs.Sessions.{Content, SaneContent, SaneEntry, freshContent}
 use Rattle.frame.specs.Tokens.{rowsOf}
 use Rattle.frame.specs.declared.entry.Entry.{Entry}
 use Rattle.frame.specs.declared.entry.Frame.{Frame}
 use Rattle.frame.proofs.Entries.{EntryFacts, entry-facts}
 use Rattle.frame.proofs.Ids.{id-office, id-range}
 use Rattle.frame.proofs.SameContent.{same-refl}
-use Rattle.frame.proofs.Sessions.{SaneContent, SaneEntry}
 use Rattle.store.specs.Offices.{Office, reveal}
 use Rattle.office.specs.Calls.{Result, entryCode, given, onward, ownCode, receiveCode, receiveOn, receiveSends, receivedBy, refusal}
 use Rattle.mesh.specs.World.{Reach}

@@ -16,17 +16,16 @@ use Rattle.causal.proofs.Sets.{ids-zeros}
 use Rattle.causal.proofs.Tests.{same-test}
 use Rattle.frame.specs.Calls.{laid}
 use Rattle.frame.specs.Entries.{entryOk, idOf}
-use Rattle.frame.specs.Sessions.{Content, ownOk, sessionOk}
+use Rattle.frame.specs.Sessions.{Content, SaneContent, ownOk, sessionOk}
 use Rattle.frame.specs.declared.entry.Entry.{Entry}
 use Rattle.frame.proofs.Entries.{EntryFacts, entry-facts, ring-facts}
-use Rattle.frame.proofs.Sessions.{SaneContent, facts-own, facts-session, own-facts, own-ok, session-facts}
+use Rattle.frame.proofs.Sessions.{facts-own, facts-session, own-facts, own-ok, session-facts}
 use Rattle.joining.specs.Orders.{Reordered}
 use Rattle.joining.proofs.Orders.{Apart, permuted-from, permuted-length, permuted-to}
 use Rattle.joining.proofs.Sound.{own-apart}
-use Rattle.store.specs.Offices.{Found, None, Office, Some, current, officeOf, reveal, soundStore, storeWords}
+use Rattle.store.specs.Offices.{Found, None, Office, Some, Words32, current, officeOf, reveal, soundStore, storeWords}
 use Rattle.store.proofs.Keep.{store-facts}
 use Rattle.office.specs.Calls.{answerWords, given, handed, handedAll, jointCode, jointOn, noted, notedAll, plotsOk, readAll, readCode, readJoint, readOn, readPlot, worded}
-use Rattle.office.proofs.Kept.{Words32}
 use Rattle.office.proofs.KeptSession.{joint-session, noted-sane, read-session}
 use Rattle.ring.specs.Carrying.{SameReply, TwoOrders}
 use Rattle.ring.proofs.BestOwn.{best-same}
@@ -47,8 +46,14 @@ own-settings n p m q read seen (e ∷ es) h ok =
       rest = own-settings n p m q read (inserted seen (idOf e)) es (F .rest) (λ x i. ok x (List·Memᴰ·tail i));
     })
 
-module _ (n p : ℕ) (s t : Content) (T : TwoOrders n p s t) where
-  pub n8 : n ≤ 8
+module _ (s t : Content) (T : TwoOrders s t) where
+  abbrev n : ℕ
+  n = T .n
+
+  abbrev p : ℕ
+  p = T .p
+
+  pub n8 : T .n ≤ 8
   n8 = ring-facts n p (T .ring) .high
 
   -- what holds of either's own writes
@@ -146,7 +151,7 @@ ok-plots n p q s r h e k =
       own = own-settings n q n p (r .read) zeros (r .own) (F .own) (λ x i. own-ok n p s (session-facts n p s k) x (rw e at i));
     })
 
-module _ (n p : ℕ) (s t : Content) (T : TwoOrders n p s t) (ws : List ℕ) (w32 : Words32 ws) where
+module _ (s t : Content) (T : TwoOrders s t) (ws : List ℕ) (w32 : Words32 ws) where
   abbrev O : Office
   O = officeOf ws
 
@@ -154,16 +159,18 @@ module _ (n p : ℕ) (s t : Content) (T : TwoOrders n p s t) (ws : List ℕ) (w3
   left-again : (plots : List ℕ) → sessionOk (O .offices) (O .plots) s ≡ true
       → sessionOk (O .offices) (O .plots) (notedAll (reveal O (s .read)) plots s) ≡ true
       → sessionOk (O .offices) (O .plots) (notedAll (reveal O (t .read)) plots t) ≡ true
-      → TwoOrders n p (notedAll (reveal O (s .read)) plots s) (notedAll (reveal O (t .read)) plots t)
+      → TwoOrders (notedAll (reveal O (s .read)) plots s) (notedAll (reveal O (t .read)) plots t)
   left-again plots h hs ht =
-      let e : n ≡ O .offices = sym (session-facts n p s (T .first) .offices) ∙ session-facts (O .offices) (O .plots) s h .offices in
+      let e : T .n ≡ O .offices = sym (session-facts (T .n) (T .p) s (T .first) .offices) ∙ session-facts (O .offices) (O .plots) s h .offices in
       record {
+        n = T .n;
+        p = T .p;
         ring = T .ring;
         first =
-            ok-plots n p (O .plots) s _ (ap (λ (m : ℕ). sessionOk m (O .plots) (notedAll (reveal O (s .read)) plots s)) e ∙ hs)
+            ok-plots (T .n) (T .p) (O .plots) s _ (ap (λ (m : ℕ). sessionOk m (O .plots) (notedAll (reveal O (s .read)) plots s)) e ∙ hs)
             (all-own (reveal O (s .read)) plots s) (T .first);
         second =
-            ok-plots n p (O .plots) t _ (ap (λ (m : ℕ). sessionOk m (O .plots) (notedAll (reveal O (t .read)) plots t)) e ∙ ht)
+            ok-plots (T .n) (T .p) (O .plots) t _ (ap (λ (m : ℕ). sessionOk m (O .plots) (notedAll (reveal O (t .read)) plots t)) e ∙ ht)
             (all-own (reveal O (t .read)) plots t) (T .second);
         sane-first = all-sane (reveal O (s .read)) plots s (T .sane-first);
         sane-second = all-sane (reveal O (t .read)) plots t (T .sane-second);
@@ -176,21 +183,22 @@ module _ (n p : ℕ) (s t : Content) (T : TwoOrders n p s t) (ws : List ℕ) (w3
 
   -- the two answers, by their refusal numbers
   reply : (plots row : List ℕ) (x y : List ℕ) → x ≡ y → (b : Bool) (c d : ℕ) → c ≡ d
-      → (b ≡ true → c ≡ 0 → TwoOrders n p (notedAll (reveal O (s .read)) plots s) (notedAll (reveal O (t .read)) plots t))
-      → SameReply n p (worded b ws s row (given c O s row (readAll O s plots x))) (worded b ws t row (given d O t row (readAll O t plots y)))
+      → (b ≡ true → c ≡ 0 → TwoOrders (notedAll (reveal O (s .read)) plots s) (notedAll (reveal O (t .read)) plots t))
+      → SameReply (worded b ws s row (given c O s row (readAll O s plots x))) (worded b ws t row (given d O t row (readAll O t plots y)))
   reply plots row x y rows true zero zero e h =
       record {
         code = refl;
+        count = refl;
         found =
-            all-same n p s t T (reveal O (s .read)) plots ∙ ap (λ (r : List ℕ). map (handed (reveal O r) t) plots) (T .order .read);
+            all-same s t T (reveal O (s .read)) plots ∙ ap (λ (r : List ℕ). map (handed (reveal O r) t) plots) (T .order .read);
         store = ap (λ (r : List ℕ). storeWords ws (reveal O r)) (T .order .read);
         row = rows;
         again = h refl refl;
       }
-  reply plots row x y rows true (suc c) (suc d) e h = record { code = e; found = refl; store = refl; row = refl; again = T }
+  reply plots row x y rows true (suc c) (suc d) e h = record { code = e; count = refl; found = refl; store = refl; row = refl; again = T }
   reply plots row x y rows true zero (suc d) e h = absurd (omega (arith, e))
   reply plots row x y rows true (suc c) zero e h = absurd (omega (arith, e))
-  reply plots row x y rows false c d e h = record { code = refl; found = refl; store = refl; row = refl; again = T }
+  reply plots row x y rows false c d e h = record { code = refl; count = refl; found = refl; store = refl; row = refl; again = T }
 
   -- ---- of one plot
 
@@ -198,7 +206,7 @@ module _ (n p : ℕ) (s t : Content) (T : TwoOrders n p s t) (ws : List ℕ) (w3
   unfolding readCode
   read-code plot =
       λ i.
-      check (ok-same n p s t T (O .offices) (O .plots) i) 3
+      check (ok-same s t T (O .offices) (O .plots) i) 3
       (check (ltb plot (O .plots)) 4 (check (subsetOf (T .order .read i) (O .held)) 12 0))
 
   read-sound : (plot : ℕ) (r : Content) → readCode O r plot ≡ 0 → sessionOk (O .offices) (O .plots) r ≡ true
@@ -212,7 +220,7 @@ module _ (n p : ℕ) (s t : Content) (T : TwoOrders n p s t) (ws : List ℕ) (w3
       ap (λ (x : ℕ). sessionOk (O .offices) (O .plots) (given x O r [] (readAll O r (plot ∷ []) []) .session)) (sym c)
       ∙ read-session O (store-facts ws w32 h) r N (read-sound plot r c) plot
 
-  pub read-same : (plot : ℕ) → SameReply n p (readPlot ws s plot) (readPlot ws t plot)
+  pub read-same : (plot : ℕ) → SameReply (readPlot ws s plot) (readPlot ws t plot)
   unfolding readPlot readOn
   read-same plot =
       reply (plot ∷ []) [] [] [] refl (soundStore ws) (readCode O s plot) (readCode O t plot) (read-code plot)
@@ -226,7 +234,7 @@ module _ (n p : ℕ) (s t : Content) (T : TwoOrders n p s t) (ws : List ℕ) (w3
   unfolding jointCode
   joint-code plots room =
       λ i.
-      check (ok-same n p s t T (O .offices) (O .plots) i) 3
+      check (ok-same s t T (O .offices) (O .plots) i) 3
       (check (both (leb (length plots) 16) (plotsOk (O .plots) plots)) 4
       (check (leb (3 * length plots) room) 8 (check (subsetOf (T .order .read i) (O .held)) 12 0)))
 
@@ -242,12 +250,12 @@ module _ (n p : ℕ) (s t : Content) (T : TwoOrders n p s t) (ws : List ℕ) (w3
       (λ (x : ℕ). sessionOk (O .offices) (O .plots) (given x O r row (readAll O r plots (laid (answerWords (handedAll O r plots)) row)) .session)) (sym c)
       ∙ joint-session O (store-facts ws w32 h) r N (joint-sound plots (length row) r c) plots row
 
-  pub joint-same : (plots row : List ℕ) → SameReply n p (readJoint ws s plots row) (readJoint ws t plots row)
+  pub joint-same : (plots row : List ℕ) → SameReply (readJoint ws s plots row) (readJoint ws t plots row)
   unfolding readJoint jointOn
   joint-same plots row =
       reply plots row (laid (answerWords (handedAll O s plots)) row) (laid (answerWords (handedAll O t plots)) row)
       (ap (λ (l : List Found). laid (answerWords l) row)
-      (all-same n p s t T (reveal O (s .read)) plots ∙ ap (λ (r : List ℕ). map (handed (reveal O r) t) plots) (T .order .read)))
+      (all-same s t T (reveal O (s .read)) plots ∙ ap (λ (r : List ℕ). map (handed (reveal O r) t) plots) (T .order .read)))
       (soundStore ws) (jointCode O s plots (length row)) (jointCode O t plots (length row)) (joint-code plots (length row))
       (λ h c.
       left-again plots (joint-sound plots (length row) s c) (joint-left plots row s (T .sane-first) h c)

@@ -19,7 +19,7 @@ use Rattle.ring.proofs.Theorem.{opens}
 
 -- ---- each call has an answer
 
-at-one : {A : Type 0} (l : List A) (i : ℕ) → (at l i ≡ []) ⊎ ((x : A) × (at l i ≡ x ∷ []))
+pub at-one : {A : Type 0} (l : List A) (i : ℕ) → (at l i ≡ []) ⊎ ((x : A) × (at l i ≡ x ∷ []))
 unfolding at
 at-one [] i = inl refl
 at-one (x ∷ l) zero = inr (x, refl)

@@ -14,6 +14,7 @@ use Rattle.ring.proofs.Claim.{claim}
 use Rattle.ring.proofs.EitherWay.{carrying-order, either-way}
 use Rattle.ring.proofs.GoesOn.{goes-on}
 use Rattle.ring.proofs.JointTogether.{joint-together}
+use Rattle.ring.proofs.KeepsOn.{keeps-on}
 use Rattle.ring.proofs.LaterCounts.{later-counts}
 use Rattle.ring.proofs.Settings.{settings-stay}
 use Rattle.ring.proofs.Theorem.{demand3, opens}
@@ -40,4 +41,5 @@ third-demand =
       carrying-order = carrying-order;
       either-way = either-way;
       goes-on = goes-on;
+      keeps-on = keeps-on;
     }

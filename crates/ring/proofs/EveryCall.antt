@@ -3,7 +3,7 @@
 -- of a run do what they say, also where the script does not go: joint readings, tokens, copies, joins, refusals, other words. Assumes nothing.
 use Prim.Native.Nat.{ℕ, _<_, _≤_}
 use mathlib.Core.List.{List, [], _++_, _∷_, map}
-use mathlib.Core.Path.{_∙_, _≡_, refl}
+use mathlib.Core.Path.{_∙_, _≡_, ap, refl}
 use native.Mathlib.Omega.{arith}
 use lib.Count.{trailingZeros}
 use lib.ListN.{drop, length, replicate, take}
@@ -80,6 +80,11 @@ others =
     ∷ joining 0 1 3 65  -- 1
     ∷ joint 2 7 (3 ∷ 5 ∷ 6 ∷ []) row  -- 1.2, 0.1 and 1.1
     ∷ joint 2 8 (3 ∷ 5 ∷ 6 ∷ []) row  -- the same
+    ∷ joining 9 9 3 64  -- session 10, the same as 9
+    ∷ joining 6 6 4 64  -- session 11, of the other ring
+    ∷ writing 1 10 7 9 row  -- 1.3, after all that either of the two knew: that office holds what is carried
+    ∷ token-writing 10 row
+    ∷ token-reading 2 3 64  -- session 12
     ∷ []
 
 -- no such office; no such session; no such token; no frame waits; words that would not be refused with 9 (proofs/NoCall.antt: they change nothing)
@@ -90,15 +95,15 @@ absent =
     ∷ joint 3 0 [] row
     ∷ receiving 3 row
     ∷ receiving-words 3 [] row
-    ∷ writing 0 10 5 1 row
-    ∷ reading 0 10 5
-    ∷ joint 0 10 [] row
-    ∷ token-writing 10 row
-    ∷ copy-session 10
-    ∷ joining 10 0 3 64
-    ∷ joining 0 10 3 64
-    ∷ token-reading 2 3 64
-    ∷ copy-token 2
+    ∷ writing 0 13 5 1 row
+    ∷ reading 0 13 5
+    ∷ joint 0 13 [] row
+    ∷ token-writing 13 row
+    ∷ copy-session 13
+    ∷ joining 13 0 3 64
+    ∷ joining 0 13 3 64
+    ∷ token-reading 3 3 64
+    ∷ copy-token 3
     ∷ receiving 0 row
     ∷ receiving-words 2 rowA row
     ∷ []
@@ -115,6 +120,10 @@ token = 0x83000002 ∷ 0x50000001 ∷ 0x50000001 ∷ 0x50000000 ∷ 0x60000001 �
 abbrev pub rowC : List ℕ
 rowC = 0x11021302 ∷ 0x30000003 ∷ 0x40000008 ∷ 0x50000001 ∷ 0x50000002 ∷ 0x50000000 ∷ 0x60000001 ∷ 0x60000101 ∷ 0xF1021412 ∷ []
 
+-- .. and of 1.3: it depends on 0.1, 1.1 and 1.2
+abbrev pub rowD : List ℕ
+rowD = 0x11031303 ∷ 0x30000007 ∷ 0x40000009 ∷ 0x50000001 ∷ 0x50000003 ∷ 0x50000000 ∷ 0x60000001 ∷ 0x60000101 ∷ 0x60000102 ∷ 0xF103151B ∷ []
+
 -- the past of session 1: it read 1.1 (id 32), whose writer had written 0.1 (id 0); 0.1; and jointly 0.1, 1.1 and 0.1 again
 abbrev pub past-1 : List ℕ
 past-1 = 0 ∷ 32 ∷ 0 ∷ 0 ∷ 0 ∷ 32 ∷ 0 ∷ []
@@ -126,6 +135,10 @@ past-0 = 32 ∷ 0 ∷ []
 abbrev pub past-5 : List ℕ
 past-5 = 33 ∷ (past-1 ++ (33 ∷ past-1))
 
+-- that of session 9, joined from 7 and 8 before they read
+abbrev pub past-9 : List ℕ
+past-9 = (past-5 ++ past-0) ++ (past-0 ++ past-5)
+
 -- token 0 and its copy
 abbrev pub twice : List (TrackedToken (List ℕ))
 twice = record { token = token; past = past-1 } ∷ record { token = token; past = past-1 } ∷ []
@@ -134,7 +147,7 @@ pub record Led (events : List Event) (sessions : List Tracked) (log : List Made)
   -- the script; then `others`; `absent` leaves no reply
   pub codes : map (λ (v : Event). v .code) events
       ≡ 0 ∷ 0 ∷ 0 ∷ 0 ∷ 0 ∷ 0 ∷ 0 ∷ 0 ∷ 0 ∷ 0 ∷ 0 ∷ 0 ∷ 0
-      ∷ 0 ∷ 8 ∷ 0 ∷ 8 ∷ 0 ∷ 9 ∷ 9 ∷ 0 ∷ 8 ∷ 0 ∷ 1 ∷ 4 ∷ 4 ∷ 1 ∷ 0 ∷ 3 ∷ 0 ∷ 0 ∷ 0 ∷ 3 ∷ 3 ∷ 1 ∷ 0 ∷ 0 ∷ []
+      ∷ 0 ∷ 8 ∷ 0 ∷ 8 ∷ 0 ∷ 9 ∷ 9 ∷ 0 ∷ 8 ∷ 0 ∷ 1 ∷ 4 ∷ 4 ∷ 1 ∷ 0 ∷ 3 ∷ 0 ∷ 0 ∷ 0 ∷ 3 ∷ 3 ∷ 1 ∷ 0 ∷ 0 ∷ 0 ∷ 0 ∷ 0 ∷ 0 ∷ 0 ∷ []
   -- the script's last reading, and the joint one: what was handed back, the past, the answer row
   pub last-read : map (λ (v : Event). v .reads) (at events 12) ≡ ((5, Some entryA) ∷ []) ∷ []
   pub last-past : map (λ (v : Event). v .past) (at events 12) ≡ (0 ∷ 32 ∷ 0 ∷ []) ∷ []
@@ -150,29 +163,36 @@ pub record Led (events : List Event) (sessions : List Tracked) (log : List Made)
   pub token-row : map (λ (v : Event). take 7 (v .row)) (at events 15) ≡ token ∷ []
   -- sessions read from tokens, and copies, keep the past of their origin; a joined one has both pasts (7 and 8 then read 1.2, 0.1 and 1.1)
   pub pasts : map (λ (r : Tracked). r .past) (take 7 sessions) ≡ past-0 ∷ past-1 ∷ [] ∷ [] ∷ past-1 ∷ past-5 ∷ [] ∷ []
-  pub joined-pasts : map (λ (r : Tracked). r .past) (drop 7 sessions)
+  pub entries-made : map (λ (m : Made). idOf (m .entry)) log ≡ 0 ∷ 32 ∷ 33 ∷ 34 ∷ []
+
+-- the joined sessions
+pub record LedJoined (events : List Event) (sessions : List Tracked) (log : List Made) : Type 0 where
+  pub joined-pasts : map (λ (r : Tracked). r .past) (take 3 (drop 7 sessions))
       ≡ (32 ∷ 0 ∷ 0 ∷ 33 ∷ (past-1 ++ (past-5 ++ past-0)))
       ∷ (32 ∷ 0 ∷ 0 ∷ 33 ∷ (past-1 ++ (past-0 ++ past-5)))
-      ∷ ((past-5 ++ past-0) ++ (past-0 ++ past-5))
+      ∷ past-9
       ∷ []
   -- .. and carries the first's own entries, then those of the second not among them, and has read what either has read
-  pub joined-own : map (λ (r : Tracked). map idOf (r .session .own)) (drop 7 sessions) ≡ (33 ∷ 0 ∷ 32 ∷ []) ∷ (0 ∷ 32 ∷ 33 ∷ []) ∷ (33 ∷ 0 ∷ 32 ∷ []) ∷ []
-  pub joined-read : map (λ (r : Tracked). take 2 (r .session .read)) (drop 7 sessions) ≡ (1 ∷ 1 ∷ []) ∷ (1 ∷ 1 ∷ []) ∷ (1 ∷ 1 ∷ []) ∷ []
+  pub joined-own : map (λ (r : Tracked). map idOf (r .session .own)) (take 3 (drop 7 sessions)) ≡ (33 ∷ 0 ∷ 32 ∷ []) ∷ (0 ∷ 32 ∷ 33 ∷ []) ∷ (33 ∷ 0 ∷ 32 ∷ []) ∷ []
+  pub joined-read : map (λ (r : Tracked). take 2 (r .session .read)) (take 3 (drop 7 sessions)) ≡ (1 ∷ 1 ∷ []) ∷ (1 ∷ 1 ∷ []) ∷ (1 ∷ 1 ∷ []) ∷ []
   pub joined-replies : map (λ (v : Event). take 9 (v .row)) (at events 35 ++ at events 36)
       ≡ (1 ∷ 8 ∷ 258 ∷ 1 ∷ 709 ∷ 1 ∷ 1 ∷ 1 ∷ 257 ∷ []) ∷ (1 ∷ 8 ∷ 258 ∷ 1 ∷ 709 ∷ 1 ∷ 1 ∷ 1 ∷ 257 ∷ []) ∷ []
-  pub entries-made : map (λ (m : Made). idOf (m .entry)) log ≡ 0 ∷ 32 ∷ 33 ∷ []
+  -- what a joined session writes has both pasts, and its token reads back to it
+  pub joined-write : map (λ (m : Made). m .past) (at log 3) ≡ (past-9 ++ past-9) ∷ []
+  pub joined-token : map (λ (r : Tracked). map idOf (r .session .own)) (at sessions 12) ≡ (33 ∷ 0 ∷ 32 ∷ 34 ∷ []) ∷ []
 
 -- .. and frames and tokens
 pub record EveryCall (rows : ℕ → List ℕ) : Type 0 where
   pub led : Led (wordsRun 3 64 rows everyCall .events) (wordsRun 3 64 rows everyCall .sessions) (wordsRun 3 64 rows everyCall .log)
+  pub led-joined : LedJoined (wordsRun 3 64 rows everyCall .events) (wordsRun 3 64 rows everyCall .sessions) (wordsRun 3 64 rows everyCall .log)
   -- the first write sends A to office 1; the second sends "A again, then B" to office 2
   pub sent-1 : wordsRun 3 64 rows (take 5 script) .lines 1 ≡ rowA ∷ []
   pub sent-2 : wordsRun 3 64 rows (take 6 script) .lines 2 ≡ rowA ∷ rowB ∷ []
   -- of those that wait at the end, that of 1.2 was refused with 8
   pub waiting-0 : wordsRun 3 64 rows everyCall .lines 0 ≡ []
   pub waiting-1 : wordsRun 3 64 rows everyCall .lines 1 ≡ rowA ∷ []
-  pub waiting-2 : wordsRun 3 64 rows everyCall .lines 2 ≡ rowC ∷ []
-  pub tokens : wordsRun 3 64 rows everyCall .tokens ≡ twice
+  pub waiting-2 : wordsRun 3 64 rows everyCall .lines 2 ≡ rowC ∷ rowD ∷ []
+  pub tokens : take 2 (wordsRun 3 64 rows everyCall .tokens) ≡ twice
 
 -- ---- on contents, by computing
 
@@ -182,8 +202,8 @@ pub record Computed : Type 0 where
   pub sent-2 : map frameWords (contentsRun 3 64 (take 6 script) .lines 2) ≡ rowA ∷ rowB ∷ []
   pub waiting-0 : map frameWords (contentsRun 3 64 everyCall .lines 0) ≡ []
   pub waiting-1 : map frameWords (contentsRun 3 64 everyCall .lines 1) ≡ rowA ∷ []
-  pub waiting-2 : map frameWords (contentsRun 3 64 everyCall .lines 2) ≡ rowC ∷ []
-  pub tokens : map tokenOn (contentsRun 3 64 everyCall .tokens) ≡ twice
+  pub waiting-2 : map frameWords (contentsRun 3 64 everyCall .lines 2) ≡ rowC ∷ rowD ∷ []
+  pub tokens : take 2 (map tokenOn (contentsRun 3 64 everyCall .tokens)) ≡ twice
 
 pub computed : Computed
 unfolding trailingZeros both either implies allBelow check orElse part tab sumBelow eqWords bit has isIn unite minus inserted wordIn subsetOf lowestIn lowestOf join higher ranksAbove outranks clockWords clockFrom idWordIf idWordsTo idWords idsFrom total summed clockPlaceOk clockOk idsPlaceOk idsOk boundsOk entryOk sameContent ringOk bodyWords frameWords frameOk frameOf accepts laid laidIf idsOf ownOk sessionOk writeTokenCode writeTokenRow tokenWords rowsOf steps revealed settingsOk made maxTo clockOf reveal hold better consider bestTo current bestOwn entryCode ownCode noted notedAll plotsOk jointCode jointOn threeWords answerWords readCode handed newEntry leaveOut sentOf writeCode holdAll wroteSession receiveCode holdNew receivedBy receiveSends readOn writeOn receiveOn freshCode each alike allAlike joined joinCode at upd nextOf writerPast gained together lastOf step run onContents contentsRun
@@ -202,10 +222,6 @@ computed =
             token-count = refl;
             token-row = refl;
             pasts = refl;
-            joined-pasts = refl;
-            joined-own = refl;
-            joined-read = refl;
-            joined-replies = refl;
             entries-made = refl;
           };
       sent-1 = refl;
@@ -216,6 +232,11 @@ computed =
       tokens = refl;
     }
 
+computed-joined : LedJoined (contentsRun 3 64 everyCall .events) (contentsRun 3 64 everyCall .sessions) (contentsRun 3 64 everyCall .log)
+unfolding trailingZeros both either implies allBelow check orElse part tab sumBelow eqWords bit has isIn unite minus inserted wordIn subsetOf lowestIn lowestOf join higher ranksAbove outranks clockWords clockFrom idWordIf idWordsTo idWords idsFrom total summed clockPlaceOk clockOk idsPlaceOk idsOk boundsOk entryOk sameContent ringOk bodyWords frameWords frameOk frameOf accepts laid laidIf idsOf ownOk sessionOk writeTokenCode writeTokenRow tokenWords rowsOf steps revealed settingsOk made maxTo clockOf reveal hold better consider bestTo current bestOwn entryCode ownCode noted notedAll plotsOk jointCode jointOn threeWords answerWords readCode handed newEntry leaveOut sentOf writeCode holdAll wroteSession receiveCode holdNew receivedBy receiveSends readOn writeOn receiveOn freshCode each alike allAlike joined joinCode at upd nextOf writerPast gained together lastOf step run onContents contentsRun
+computed-joined =
+    record { joined-pasts = refl; joined-own = refl; joined-read = refl; joined-replies = refl; joined-write = refl; joined-token = refl }
+
 -- ---- on words, by the theorem
 
 pub every-call : (rows : ℕ → List ℕ) → ((o : ℕ) → o < 3 → need 3 ≤ length (rows o)) → EveryCall rows
@@ -223,12 +244,13 @@ every-call rows long =
     record {
       led =
           rw (same everyCall .events, same everyCall .sessions, same everyCall .log) (computed .led);
+      led-joined = rw (same everyCall .events, same everyCall .sessions, same everyCall .log) computed-joined;
       sent-1 = same (take 5 script) .lines 1 ∙ computed .sent-1;
       sent-2 = same (take 6 script) .lines 2 ∙ computed .sent-2;
       waiting-0 = same everyCall .lines 0 ∙ computed .waiting-0;
       waiting-1 = same everyCall .lines 1 ∙ computed .waiting-1;
       waiting-2 = same everyCall .lines 2 ∙ computed .waiting-2;
-      tokens = same everyCall .tokens ∙ computed .tokens;
+      tokens = ap (take 2) (same everyCall .tokens) ∙ computed .tokens;
     }
   where
     same : (cs : List Call) → Same 3 rows (wordsRun 3 64 rows cs) (contentsRun 3 64 cs)

@@ -1,40 +1,19 @@
 -- A session that reads and writes goes on from what it was. Assumes nothing.
 use Prim.Native.Nat.{ℕ, suc, zero}
 use mathlib.Core.Bool.{Bool, false, true}
-use mathlib.Core.List.{List, [], _++_, _∷_, append-assoc, append-nil}
-use mathlib.Core.Path.{_∙_, ap, refl, sym}
-use native.Mathlib.Omega.{arith}
+use mathlib.Core.List.{List, [], _∷_, append-nil}
+use mathlib.Core.Path.{refl, sym}
 use lib.ListN.{length}
 use Rattle.causal.proofs.Clocks.{join-covers}
 use Rattle.frame.specs.Entries.{idOf}
 use Rattle.frame.specs.Sessions.{Content}
-use Rattle.frame.specs.declared.entry.Entry.{Entry}
 use Rattle.frame.specs.declared.entry.Frame.{Frame}
 use Rattle.frame.proofs.Ids.{inserted-keeps}
 use Rattle.joining.specs.Orders.{GoneOn}
+use Rattle.joining.proofs.Orders.{gone-self, gone-then}
 use Rattle.store.specs.Offices.{Found, None, Office, Some, current, officeOf, reveal, soundStore}
 use Rattle.office.specs.Calls.{Result, given, jointCode, jointOn, newEntry, noted, notedAll, readCode, readJoint, readOn, readPlot, worded, write, writeCode, writeOn, wroteSession}
 use Rattle.ring.specs.Carrying.{GoesOn}
-
-gone-self : (s : Content) → GoneOn s s
-gone-self s =
-    record {
-      offices = refl;
-      clock = λ j l. omega arith;
-      read = λ k h. h;
-      more = [];
-      own = sym (append-nil (s .own));
-    }
-
-gone-then : (a b c : Content) → GoneOn a b → GoneOn b c → GoneOn a c
-gone-then a b c G H =
-    record {
-      offices = G .offices ∙ H .offices;
-      clock = λ j l. omega (arith, G .clock j l, H .clock j l);
-      read = λ k h. H .read k (G .read k h);
-      more = G .more ++ H .more;
-      own = H .own ∙ ap (λ (l : List Entry). l ++ H .more) (G .own) ∙ append-assoc (a .own) (G .more) (H .more);
-    }
 
 noted-gone : (f : Found) (s : Content) → GoneOn s (noted f s)
 unfolding noted

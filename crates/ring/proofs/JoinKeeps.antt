@@ -1,7 +1,7 @@
 -- A join of two sessions keeps the invariant, and is never refused with 11. Assumes nothing.
 use Prim.Native.Nat.{ℕ, _<_, _≤_, max}
 use mathlib.Core.Bool.{Bool, true}
-use mathlib.Core.List.{List, List·Memᴰ, List·Memᴰ·append-cases, Memᴰ·append-left, Memᴰ·append-right, Memᴰ·map, Memᴰ·of-map, _++_, map, map-append}
+use mathlib.Core.List.{List, List·Memᴰ, List·Memᴰ·append-cases, Memᴰ·map, _++_, map, map-append}
 use mathlib.Core.Logic.{_⊎_, inl, inr, ⊎-elim}
 use mathlib.Core.Path.{_∙_, _≡_, ap, refl, sym}
 use native.Mathlib.Omega.{arith}
@@ -9,13 +9,13 @@ use lib.ListN.{getD}
 use Rattle.causal.specs.Clocks.{join}
 use Rattle.causal.specs.Sets.{IdSet, has, isIn, unite}
 use Rattle.causal.proofs.Clocks.{join-at}
-use Rattle.causal.proofs.Sets.{ids-unite, in-is, in-unite, out-is, unite-left, unite-right}
+use Rattle.causal.proofs.Sets.{ids-unite, in-is, in-unite, unite-left, unite-right}
 use Rattle.frame.specs.Entries.{idOf, sameContent}
 use Rattle.frame.specs.Sessions.{idsOf}
 use Rattle.frame.specs.declared.entry.Entry.{Entry}
 use Rattle.frame.proofs.LeaveOut.{left-from}
 use Rattle.frame.proofs.SameContent.{same-refl}
-use Rattle.frame.proofs.Sessions.{ids-from, ids-new}
+use Rattle.frame.proofs.Sessions.{ids-from}
 use Rattle.joining.specs.Joins.{allAlike, joined, notAmong}
 use Rattle.joining.proofs.Each.{all-alike-by}
 use Rattle.store.specs.Offices.{Office}
@@ -60,18 +60,8 @@ module _ (n p : ℕ) (two : 2 ≤ n) (eight : n ≤ 8) (E : ℕ → Entry) (P : 
         left-out =
             left-without among (λ (y : ℕ). List·Memᴰ y (map idOf (a .session .own))) (b .session .own)
             (λ e m t. ids-from (a .session .own) small (idOf e) (in-is (idsOf (a .session .own)) (idOf e) t));
-        not-among =
-            λ y m i.
-            let u = Memᴰ·of-map idOf Rest m in
-            let z : has (idsOf (a .session .own)) (idOf (u .0)) ≡ 0 =
-            out-is (idsOf (a .session .own)) (idOf (u .0)) (left-from among (b .session .own) (u .0) (u .1) .1)
-            in
-            let o : has (idsOf (a .session .own)) (idOf (u .0)) ≡ 1 = rw (u .2) (ids-new (a .session .own) small y i) in
-            omega arith;
         own-are = map-append idOf (a .session .own) Rest;
         past-from = λ q m. List·Memᴰ·append-cases (a .past) m;
-        past-first = λ q m. Memᴰ·append-left (b .past) m;
-        past-second = λ q m. Memᴰ·append-right (a .past) m;
       }
 
   pub join-fit : TrackedFit n two E P (world g) (joined (a .session) (b .session)) (a .past ++ b .past)

@@ -29,8 +29,10 @@ pub mod Sized
 pub mod BestOwn
 pub mod Carrying
 pub mod CarryWrites
+pub mod CarryJoins
 pub mod GoesOn
 pub mod EitherWay
 pub mod Claim
 pub mod Chain
+pub mod KeepsOn
 pub mod Demand

@@ -12,14 +12,13 @@ use Rattle.causal.specs.Codes.{check}
 use Rattle.causal.proofs.Tests.{eq-or-ne}
 use Rattle.frame.specs.Entries.{entryOk, idOf}
 use Rattle.frame.specs.Frames.{accepts, frameOf, frameOk, frameWords, ringOk}
-use Rattle.frame.specs.Sessions.{Content, freshContent, sessionOk}
+use Rattle.frame.specs.Sessions.{Content, SaneContent, SaneEntry, freshContent, sessionOk}
 use Rattle.frame.specs.TokenCalls.{readTokenCode, writeTokenCode, writeTokenRow}
 use Rattle.frame.specs.Tokens.{contentFrom, tokenWords}
 use Rattle.frame.specs.declared.entry.Entry.{Entry}
 use Rattle.frame.specs.declared.entry.Frame.{Frame}
 use Rattle.frame.proofs.Back.{frame-accepted, frame-back}
 use Rattle.frame.proofs.Entries.{facts-frame}
-use Rattle.frame.proofs.Sessions.{SaneContent, SaneEntry}
 use Rattle.frame.proofs.Tokens.{token-accepted, token-back}
 use Rattle.joining.specs.Joins.{joinCode, joined}
 use Rattle.store.specs.Offices.{Office, need, officeOf, soundStore, storeWords}

@@ -11,7 +11,7 @@
 --                               Beside it `settings`, of the call that paper 01 does not have: specs/Settings.antt; `joint-together`, what the
 --                               replies of a joint reading show together: specs/Joint.antt; `later-counts`, an entry and its writer's past:
 --                               specs/Later.antt; `join-laws`, what a join of two sessions keeps: joining/specs/Laws.antt; `carrying-order`,
---                               `either-way`, `goes-on`, what later calls make of it: specs/Carrying.antt
+--                               `either-way`, `goes-on`, `keeps-on`, what later calls make of it: specs/Carrying.antt
 -- Assumes nothing.
 use base.Logic.{SProp}
 use contract.Monad.{Fun}
@@ -21,7 +21,7 @@ use prog.Memory.{Memory}
 use prog.Routine.{Routine}
 use prog.Wp.{Heap}
 use Rattle.frame.proofs.Contract.{FrameContracts}
-use Rattle.joining.specs.Laws.{Laws}
+use Rattle.joining.specs.Laws.{LawsOfJoin}
 use Rattle.joining.proofs.Contract.{JoiningContracts}
 use Rattle.office.proofs.Contract.{OfficeContracts}
 use Rattle.reading.proofs.Contract.{ReadingContracts}
@@ -29,7 +29,7 @@ use Rattle.writing.proofs.Contract.{WritingContracts}
 use Rattle.hearing.proofs.Contract.{HearingContracts}
 use Rattle.lent.proofs.Contract.{LentContracts}
 use Rattle.host.proofs.Contract.{HostContracts}
-use Rattle.ring.specs.Carrying.{CarryingOrder, EitherWay, GoesOn}
+use Rattle.ring.specs.Carrying.{CarryingOrder, EitherWay, GoesOn, KeepsOn}
 use Rattle.ring.specs.Claim.{Answered, Claim}
 use Rattle.ring.specs.Holds.{Demand3, Opens}
 use Rattle.ring.specs.Joint.{JointTogether}
@@ -56,7 +56,8 @@ pub record ThirdDemand : Type 2 where
   pub settings : SettingsStay
   pub joint-together : JointTogether
   pub later-counts : LaterCounts
-  pub join-laws : Laws
+  pub join-laws : LawsOfJoin
   pub carrying-order : CarryingOrder
   pub either-way : EitherWay
   pub goes-on : GoesOn
+  pub keeps-on : KeepsOn

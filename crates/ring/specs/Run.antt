@@ -303,7 +303,8 @@ module _ {A B C : Type 0} (F : Calls A B C) (n : ℕ) where
   copyToken g [] = g
   copyToken g (r ∷ rs) = withToken g r
 
-  -- "The joined errand is returned and the two given stay as they are. Its past is both pasts"
+  -- "The joined errand is returned and the two given stay as they are. Its past is both pasts". No store and no words are in it, so the run on words
+  -- and that on contents take the same; what really crosses is tied to it in specs/Claim.antt
   abbrev pub joinBy : State A B C → Tracked → Tracked → ℕ → State A B C
   joinBy g a b c = begins g (joined (a .session) (b .session)) (a .past ++ b .past) c
 

@@ -20,7 +20,7 @@ use Rattle.frame.specs.Frames.{ringOk}
 use Rattle.frame.specs.declared.entry.Entry.{Entry}
 use Rattle.frame.proofs.Entries.{EntryFacts, entry-facts, ring-facts}
 use Rattle.frame.proofs.Ids.{id-office, id-range, id-serial, inserted-new}
-use Rattle.store.specs.Offices.{Office, entryAt, gapless, heldOk, hold, need, officeOf, reveal, settingsOk, slotAt, soundOffice, soundStore, storeWords}
+use Rattle.store.specs.Offices.{Office, Words32, entryAt, gapless, heldOk, hold, need, officeOf, reveal, settingsOk, slotAt, soundOffice, soundStore, storeWords}
 use Rattle.store.specs.Reveal.{Reached, dep, revealed, seed}
 use Rattle.store.proofs.Reached.{Exactly, Ready, revealed-is-reached}
 use Rattle.store.proofs.StoreBack.{Canon, store-back, store-long}
@@ -53,7 +53,7 @@ part-ids ws fit a l = record { eight = part-length ws a 8 l; fits = fits }
         (λ (h : 8 ≤ i). rw (lib.ListN.List·getD-eq-default (part ws a 8) 0 {n = i} (omega (arith, part-length ws a 8 l))) (lib.Dec.lit< tt))
         (lt-or-le i 8)
 
-pub store-facts : (ws : List ℕ) → ((i : ℕ) → getD ws i 0 < 2 ^ 32) → soundStore ws ≡ true → Sound (officeOf ws)
+pub store-facts : (ws : List ℕ) → Words32 ws → soundStore ws ≡ true → Sound (officeOf ws)
 unfolding soundStore settingsOk soundOffice heldOk gapless officeOf entryAt
 store-facts ws fit h =
     let a = both-true (both (ringOk (getD ws 0 0) (getD ws 2 0)) (ltb (getD ws 1 0) (getD ws 0 0))) _ h in

@@ -1,6 +1,6 @@
 -- One office: its content, its store as words, when a store is sound, its clock, to reveal, what is current on a plot.
 -- Paper 01, "Entries and rank", "Sound stores and errands". Assumes nothing.
-use Prim.Native.Nat.{ℕ, zero, suc, _+_, _*_, _/_, _%_, max}
+use Prim.Native.Nat.{ℕ, zero, suc, _+_, _*_, _/_, _%_, _^_, _<_, max}
 use mathlib.Core.Bool.{Bool, true, false, cond}
 use mathlib.Core.List.{List, [], _∷_, _++_}
 use lib.Dec.{leb, ltb, eqb}
@@ -33,6 +33,10 @@ need n = 19 + 576 * n
 
 abbrev pub slotAt : ℕ → ℕ
 slotAt k = 19 + 18 * k
+
+-- what holds of any store that a program has: words
+abbrev pub Words32 : List ℕ → Type 0
+Words32 ws = (i : ℕ) → getD ws i 0 < 2 ^ 32
 
 -- the entry in the slot of id k
 unfoldable pub entryAt : List ℕ → ℕ → Entry

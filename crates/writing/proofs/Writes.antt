@@ -22,12 +22,12 @@ use Rattle.frame.specs.Refusals.{Reply, numberOf, replyOf}
 use Rattle.frame.specs.declared.refusal.Refusal.{Refusal}
 use Rattle.frame.specs.declared.refusal.Written.{Written}
 use Rattle.frame.specs.declared.refusal.Written.the-variants.{NotWritten, Words}
-use Rattle.frame.specs.Sessions.{contentOf, sessionOk, idsOf}
+use Rattle.frame.specs.Sessions.{SaneContent, contentOf, idsOf, sessionOk}
 use Rattle.frame.specs.Tokens.{rowsOf}
 use Rattle.frame.specs.Calls.{laid}
 use Rattle.frame.proofs.Entries.{RingFacts, entry-facts, facts-frame, frame-wider}
 use Rattle.frame.proofs.Ids.{id-range}
-use Rattle.frame.proofs.Sessions.{SaneContent, ids-new, ids-set, session-facts, own-ok}
+use Rattle.frame.proofs.Sessions.{ids-new, ids-set, session-facts, own-ok}
 use Rattle.store.specs.Offices.{Office, need, slotAt, officeOf, storeWords, soundStore, made}
 use Rattle.store.specs.Slots.{holdWords}
 use Rattle.store.proofs.Bridge.{store-same}

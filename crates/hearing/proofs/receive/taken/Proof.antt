@@ -5,8 +5,8 @@ use lib.ListN.{length, getD}
 use Rattle.frame.specs.Calls.{laid as laid-in}
 use Rattle.frame.specs.Frames.{frameOf, frameWords}
 use Rattle.frame.specs.Refusals.{replyOf}
+use Rattle.frame.specs.Sessions.{SaneEntry}
 use Rattle.frame.specs.declared.entry.Frame.{Frame}
-use Rattle.frame.proofs.Sessions.{SaneEntry}
 use Rattle.store.specs.Offices.{officeOf}
 use Rattle.store.proofs.Rules.{laid}
 use Rattle.office.specs.Calls.{onward}
