@@ -50,7 +50,7 @@ pub mod office {
 
 pub mod tokens {
     use crate::fast::entry::reply;
-    use crate::fast::{office, session, token};
+    use crate::fast::{join, office, session, token};
     use crate::model::session::Session;
 
     pub fn read_token(words: &[u32], offices: u32, plots: u32) -> (u32, Session) {
@@ -67,5 +67,11 @@ pub mod tokens {
 
     pub fn fresh_session(offices: u32) -> (u32, Session) {
         reply(session::fresh_session(offices))
+    }
+
+    pub fn join_sessions(offices: u32, plots: u32, first: &Session, second: &Session) -> (u32, Session) {
+        let mut joined = Session::default();
+        let (refusal, ()) = reply(join::join_sessions(offices, plots, first, second, &mut joined));
+        (refusal, joined)
     }
 }

@@ -12,6 +12,12 @@ mod frame_breaks;
 mod frame_cases;
 #[path = "../tests/host/frame_spoils.rs"]
 mod frame_spoils;
+#[path = "../tests/host/join_calls.rs"]
+mod join_calls;
+#[path = "../tests/host/join_cases.rs"]
+mod join_cases;
+#[path = "../tests/host/joined.rs"]
+mod joined;
 #[path = "../tests/host/joint.rs"]
 mod joint;
 #[path = "../tests/host/later.rs"]
@@ -30,12 +36,18 @@ mod ring;
 mod script_cases;
 #[path = "../tests/host/session_cases.rs"]
 mod session_cases;
+#[path = "../tests/host/session_spoils.rs"]
+mod session_spoils;
 #[path = "../tests/host/single.rs"]
 mod single;
 #[path = "../tests/host/store_cases.rs"]
 mod store_cases;
+#[path = "../tests/host/swapped.rs"]
+mod swapped;
 #[path = "../tests/host/token_cases.rs"]
 mod token_cases;
+#[path = "../tests/host/tracked.rs"]
+mod tracked;
 #[path = "../tests/host/twin.rs"]
 mod twin;
 
@@ -79,6 +91,8 @@ const ACCEPTED: &[&str] = &[
     "read_joint: one plot alone",
     "read_joint: goes together",
     "read_joint: keeps the session's past",
+    "read_joint: keeps both pasts",
+    "write: later by a joined session",
     "write: accepted",
     "write: carried",
     "receive: brought out",
@@ -201,7 +215,9 @@ fn words(random: Random, report: Report) -> (Random, Report) {
 
 fn main() -> ExitCode {
     let (random, report) = offices(Random::new(SEED), Report::default());
-    let (mut random, report) = words(random, report);
+    let (mut random, mut report) = words(random, report);
+    (0..1_000).for_each(|_| join_calls::calls(&mut random, &mut report));
+    join_calls::met(&mut report, 300);
     let mut report = scripts(&mut random, report);
     queues(&mut random, &mut report);
     ACCEPTED.iter().for_each(|name| report.met(name));

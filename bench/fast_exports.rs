@@ -6,7 +6,7 @@ use crate::archive::lent::PlotFound;
 use crate::archive::office::{JointRead, Need, PlotRead, Settings, Wrote};
 use crate::archive::tokens::TokenRead;
 use crate::fast::entry::reply;
-use crate::fast::{frame, office, token};
+use crate::fast::{frame, join, office, token};
 use crate::model::codec::Frame;
 use crate::model::entry::Entry;
 use crate::model::session::Session;
@@ -128,6 +128,19 @@ pub unsafe extern "C" fn receive(
     let (store, frame) = (from_raw_parts_mut(store, store_len), from_raw_parts(frame, frame_len));
     let (refusal, words) = reply(office::receive(store, frame, from_raw_parts_mut(out, out_len)));
     Written { refusal, words }
+}
+
+#[inline(never)]
+pub unsafe extern "C" fn join_sessions(
+    offices: u32,
+    plots: u32,
+    first: Session,
+    second: Session,
+) -> TokenRead {
+    // All of it is numbers. A default session would be made elsewhere and copied.
+    let mut joined: TokenRead = std::mem::zeroed();
+    joined.refusal = reply(join::join_sessions(offices, plots, &first, &second, &mut joined.session)).0;
+    joined
 }
 
 #[inline(never)]

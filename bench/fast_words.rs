@@ -3,7 +3,7 @@
 use crate::fast::{frame, office, session as fast_session, token};
 use crate::frame_breaks;
 use crate::frame_cases::{change_one_word, mend_check, sound_frame, words_of};
-use crate::frame_spoils::SPOILS;
+use crate::frame_spoils::{OF_ENTRY, OF_RING};
 use crate::model::codec::{self, Frame};
 use crate::model::session::{fresh_session, Session};
 use crate::model::{office as model_office, token as model_token};
@@ -125,7 +125,7 @@ impl Words {
         for room in [words.len(), words.len() - 1, short, words.len() + 9, 300] {
             self.write_frame("write_frame", &content, room);
         }
-        for spoil in SPOILS {
+        for spoil in OF_RING.iter().chain(OF_ENTRY) {
             let mut spoilt = content;
             (spoil.apply)(&mut self.random, &mut spoilt);
             let room = self.random.pick(&[0, 300]);

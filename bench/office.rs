@@ -12,10 +12,10 @@ mod sides;
 mod timing;
 
 use office_calls::{
-    Timed, JOINT, JOINT_BY_VALUE, JOINT_OWN, LAST_HOP, MIDDLE, NEED, NO_STORE, PLOT, PLOTS, PLOT_BY_VALUE,
-    READ_TOKEN, SETTINGS, WRITE, WRITE_BY_VALUE, WRITE_TOKEN,
+    Timed, JOIN, JOINT, JOINT_BY_VALUE, JOINT_OWN, LAST_HOP, MIDDLE, NEED, NO_STORE, PLOT, PLOTS,
+    PLOT_BY_VALUE, READ_TOKEN, SETTINGS, WRITE, WRITE_BY_VALUE, WRITE_TOKEN,
 };
-use office_cases::{empty, full, own_at_empty, own_at_full, Case};
+use office_cases::{empty, full, joins, own_at_empty, own_at_full, Case};
 use std::time::Duration;
 
 const CALLS: [Timed; 14] = [
@@ -56,6 +56,9 @@ the largest; from a middle office it goes on. No store: lent a store of no words
 leaves the cost of crossing.
 Of own entries: the session carries one on each of the four plots, new here and above what is visible there;
 at the empty office it carries only these, at the full one 15, and those four are not held.
+A join has no store; in that column stands what the two sessions carry: nothing, 8 entries each and none in common, or
+16 that are the same, a session with itself. Both have read all that is in their ring. They cross by value; the model
+gets them lent.
 The model is plain Rust, written to be read and not for speed. The fast version is Rust written for speed, with
 the same checks.
 ";
@@ -79,6 +82,11 @@ fn main() {
             let [empty, full] = cases(timed, offices);
             print_row(timed, "empty", &empty);
             print_row(timed, "full", &full);
+        }
+    }
+    for offices in [3, 8] {
+        for (carried, case) in &joins(offices) {
+            print_row(&JOIN, carried, case);
         }
     }
 }

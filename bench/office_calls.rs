@@ -2,7 +2,7 @@
 // Several programs share this file, and not each uses all of it.
 #![allow(dead_code)]
 
-use crate::model::{office as model, token as model_tokens};
+use crate::model::{join as model_joins, office as model, token as model_tokens};
 use crate::office_cases::{Case, Lent, OWN};
 use crate::sides::{Side, ARCHIVE, FAST};
 use std::hint::black_box;
@@ -194,6 +194,22 @@ fn model_receive(_: &Side, case: &Case, lent: &mut Lent) {
     assert!(received.is_ok());
 }
 
+/// The two stay, so that each call has the same work.
+fn join(side: &Side, case: &Case, lent: &mut Lent) {
+    let (first, second) = black_box((&case.lent.session, &case.other));
+    let joined = unsafe { (side.join_sessions)(case.offices, 64, *first, *second) };
+    assert_eq!(joined.refusal, 0);
+    lent.session = joined.session;
+}
+
+fn model_join(_: &Side, case: &Case, lent: &mut Lent) {
+    let (first, second) = black_box((&case.lent.session, &case.other));
+    match model_joins::join_sessions(case.offices, 64, first, second) {
+        Ok(session) => lent.session = session,
+        Err(refusal) => panic!("refused {refusal}"),
+    }
+}
+
 fn read_token(side: &Side, case: &Case, lent: &mut Lent) {
     let token = black_box(&case.token);
     let read = unsafe { (side.read_token)(token.as_ptr(), token.len(), case.offices, 64) };
@@ -246,5 +262,6 @@ pub const WRITE: Timed = writing("write", write);
 pub const WRITE_BY_VALUE: Timed = writing("  by value", write_by_value);
 pub const LAST_HOP: Timed = receiving("receive, last hop", |_| Some((1, 32)), |_| 0);
 pub const MIDDLE: Timed = receiving("receive, middle", |n| Some((n - 1, 32)), |n| n - 2);
+pub const JOIN: Timed = reading("join_sessions", join, model_join);
 pub const READ_TOKEN: Timed = reading("read_token", read_token, model_read_token);
 pub const WRITE_TOKEN: Timed = reading("write_token", write_token, model_write_token);

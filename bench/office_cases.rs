@@ -26,6 +26,8 @@ pub struct Lent {
 pub struct Case {
     pub offices: u32,
     pub lent: Lent,
+    /// What the session is joined with.
+    pub other: Session,
     pub frame: Vec<u32>,
     pub token: Vec<u32>,
 }
@@ -84,18 +86,23 @@ fn in_turns(set: &IdSet) -> Vec<(u32, u32)> {
     order
 }
 
-/// Has read the whole set and carries the last entries of it, so many or as far as there are any.
-fn full_session(offices: u32, set: &IdSet, carried: usize) -> Session {
+/// Has read the whole set and carries these entries of it.
+fn carrying(offices: u32, set: &IdSet, own: &[(u32, u32)]) -> Session {
     let mut session = fresh_session(offices).unwrap();
-    let order = in_turns(set);
     session.read = *set;
     session.clock[..offices as usize].fill(SERIALS);
-    for &id in &order[order.len().saturating_sub(carried)..] {
+    for &id in own {
         session.own[session.count] = entry(offices, id, set);
         session.count += 1;
     }
     assert!(session.is_sound(offices, PLOTS));
     session
+}
+
+/// Has read the whole set and carries the last entries of it, so many or as far as there are any.
+fn full_session(offices: u32, set: &IdSet, carried: usize) -> Session {
+    let order = in_turns(set);
+    carrying(offices, set, &order[order.len().saturating_sub(carried)..])
 }
 
 fn frame_words(frame: &Frame) -> Vec<u32> {
@@ -116,7 +123,7 @@ pub fn empty(offices: u32, from: u32, hops: u32) -> Case {
     let first = entry(offices, (from, 1), &IdSet::default());
     let lent = Lent { store: opened(offices), session, row: vec![0; 5_000] };
     let frame = frame_words(&Frame { offices, hops, entry: first });
-    Case { offices, lent, frame, token: token_of(&session) }
+    Case { offices, lent, other: session, frame, token: token_of(&session) }
 }
 
 /// All that a ring can hold, but for the spare id, which the call brings; the frame is the spare's.
@@ -132,7 +139,7 @@ fn holding(offices: u32, set: &IdSet, spare: Option<(u32, u32)>, hops: u32) -> C
         ..entry(offices, spare.unwrap_or((0, 1)), set)
     };
     let frame = frame_words(&Frame { offices, hops, entry: last });
-    Case { offices, lent, frame, token: token_of(&session) }
+    Case { offices, lent, other: session, frame, token: token_of(&session) }
 }
 
 /// The first ids that the offices make in turns. Where a call brings one more, it is the next of `from`;
@@ -173,7 +180,7 @@ fn with_own(offices: u32, set: &IdSet, new: &[(u32, u32)], plots: &[u32]) -> Cas
     }
     let lent = Lent { store: filled(offices, set), session, row: vec![0; 5_000] };
     assert!(hands_back_own(&lent, plots));
-    Case { offices, lent, frame: vec![], token: token_of(&session) }
+    Case { offices, lent, other: session, frame: vec![], token: token_of(&session) }
 }
 
 /// An office that holds nothing, and the first entries of the others.
@@ -190,4 +197,17 @@ pub fn own_at_full(offices: u32, plots: &[u32]) -> Case {
         set[office as usize] &= !(1 << (serial - 1));
     }
     with_own(offices, &set, new, plots)
+}
+
+/// Pairs to join, by what the two carry: nothing, 8 entries each and none in common, or 16 that are the same.
+pub fn joins(offices: u32) -> [(&'static str, Case); 3] {
+    let set = all_but(offices, None);
+    let order = in_turns(&set);
+    let own = &order[order.len() - 16..];
+    let pairs = [("none", [&own[..0]; 2]), ("8+8", [&own[..8], &own[8..]]), ("same", [own; 2])];
+    pairs.map(|(carried, pair)| {
+        let [session, other] = pair.map(|own| carrying(offices, &set, own));
+        let lent = Lent { store: vec![], session, row: vec![] };
+        (carried, Case { offices, lent, other, frame: vec![], token: vec![] })
+    })
 }

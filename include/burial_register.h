@@ -43,11 +43,12 @@
  * the first greater number decides; where the clocks are equal, the higher office. In a ring whose
  * hosts keep the rules of section 3 an entry ranks above all that its session had read or written,
  * and above all that its office showed when it was written. So a correction counts, at whatever
- * office, if it is written in the session that wrote the entry or was handed it, or in a copy of
- * that session: where the correction is shown, and wherever a session reads that has written or
- * read it, no reading hands back what it corrects. But a later value can lose to an older one that
- * was hidden where the later one was written, and that its session did not know; a fresh session
- * knows nothing. Who corrects a plot reads it first, where it is shown.
+ * office, if it is written in the session that wrote the entry or was handed it, in a copy of that
+ * session, or in one that was joined of it and another: where the correction is shown, and
+ * wherever a session reads that has written or read it, no reading hands back what it corrects.
+ * But a later value can lose to an older one that was hidden where the later one was written, and
+ * that its session did not know; a fresh session knows nothing, and a joined one what either of
+ * the two knew. Who corrects a plot reads it first, where it is shown.
  *
  *
  * 2 A WHOLE PROGRAM
@@ -169,9 +170,9 @@ extern "C" {
 
 /* 65536 * major + 256 * minor + patch. Another major version has other calls, or words of stores,
  * frames or tokens that this one does not read: keep the number beside what is kept. Versions of
- * one major number read each other's words; another minor number answers some calls otherwise
- * (1.1: no refusal 13). */
-#define BURIAL_VERSION      0x010100u
+ * one major number read each other's words; another minor number answers some calls otherwise, or
+ * has more calls (1.1: no refusal 13; 1.2: burial_join_sessions is new). */
+#define BURIAL_VERSION      0x010200u
 
 /* The version of the archive that is linked: a host that starts compares it with BURIAL_VERSION,
  * and ends where they differ. */
@@ -183,8 +184,9 @@ uint32_t burial_version(void);
 /* The words are no sound store: load it again as it was kept last, and do not open the office
  * anew. Or the row is too short. */
 #define BURIAL_BAD_STORE     2u
-/* The session is not sound for the store (another ring size, or made by hand), or no frame or
- * token has this content. Take sessions from burial_fresh_session and burial_read_token. */
+/* A session is not sound for the store, or for the ring size and plots of a join (another ring
+ * size, or made by hand), or no frame or token has this content. Take sessions from
+ * burial_fresh_session, burial_read_token and burial_join_sessions. */
 #define BURIAL_BAD_CONTENT   3u
 /* A plot out of range: tell the user. Or more than 16 plots. */
 #define BURIAL_BAD_PLOT      4u
@@ -195,7 +197,8 @@ uint32_t burial_version(void);
 #define BURIAL_OFFICE_FULL   6u
 /* The session carries 16 entries. It goes on to read; to write, begin a fresh one. That knows
  * nothing of the old one: it sees those entries only where they are shown, and what it writes on
- * their plots may rank below them unless it has read them. */
+ * their plots may rank below them unless it has read them. Of a join: together the two carry over
+ * 16. Each goes on by itself. */
 #define BURIAL_SESSION_FULL  7u
 /* A row is too short: call again with a longer one (the constants above). */
 #define BURIAL_NO_ROOM       8u
@@ -207,7 +210,8 @@ uint32_t burial_version(void);
  * one number, or words are made up or another ring's. Stop the line, and look. The office still
  * reads and writes; but what is lost stays lost, and the ring needs a new beginning. */
 #define BURIAL_UNMADE       10u
-/* An entry is held with other content. As above. */
+/* An entry is held with other content, or the two sessions of a join carry it with two contents.
+ * As above. */
 #define BURIAL_DIFFERENT    11u
 /* A read id or a dependency is not held. Of a frame: one before it was not heard yet; hear that
  * one first, and then this one again. Of a session: as above. */
@@ -223,16 +227,16 @@ static inline const char *burial_refusal_text(uint32_t refusal)
     case BURIAL_OK:           return "not refused";
     case BURIAL_BAD_SETTINGS: return "ring size, own office or plots out of range";
     case BURIAL_BAD_STORE:    return "the store is not sound, or too short";
-    case BURIAL_BAD_CONTENT:  return "the session is not sound for this office, "
+    case BURIAL_BAD_CONTENT:  return "a session is not sound for this ring, "
                                      "or no frame or token has this content";
     case BURIAL_BAD_PLOT:     return "a plot is out of range, or there are more than 16";
     case BURIAL_BAD_VALUE:    return "the value is too great";
     case BURIAL_OFFICE_FULL:  return "the office has made its 32 entries";
-    case BURIAL_SESSION_FULL: return "the session carries 16 entries";
+    case BURIAL_SESSION_FULL: return "over 16 entries would be carried";
     case BURIAL_NO_ROOM:      return "a row is too short";
     case BURIAL_NOT_A_FRAME:  return "the words are no frame or token of this ring";
     case BURIAL_UNMADE:       return "an entry names this office and was not made here";
-    case BURIAL_DIFFERENT:    return "an entry is held with other content";
+    case BURIAL_DIFFERENT:    return "an entry is held or carried with other content";
     case BURIAL_MISSING:      return "an entry that was read or is depended on is not held";
     default:                  return "no refusal of this library";
     }
@@ -310,9 +314,11 @@ struct burial_settings burial_store_settings(const uint32_t *store, size_t store
 /* ---- 6 Sessions */
 
 /* A session: what one person has read and written, carried from office to office. own[0] to
- * own[count - 1] are its entries in writing order; the others mean nothing, and stay as they are
- * but for the one that a write fills. Take it from burial_fresh_session or burial_read_token, so
- * that no word of it is uninitialised. It may be copied: each copy goes on with its own history.
+ * own[count - 1] are its entries, in writing order or as they were joined; the others mean
+ * nothing, and stay as they are but for the one that a write fills. Take it from
+ * burial_fresh_session, burial_read_token or burial_join_sessions, so that no word of it is
+ * uninitialised. It may be copied: each copy goes on with its own history, and two may be joined
+ * again.
  * It has padding before count: compare sessions field by field, never by memcmp. */
 struct burial_session {
     uint32_t offices;  /* ring size */
@@ -322,7 +328,8 @@ struct burial_session {
     struct burial_entry own[16];
 };
 
-/* A session that was made or read. On refusal it is all zeros, which every office refuses. */
+/* A session that was made, joined or read. On refusal it is all zeros, which every office
+ * refuses. */
 struct burial_token_read {
     uint32_t refusal;
     struct burial_session session;
@@ -331,6 +338,24 @@ struct burial_token_read {
 /* A session with nothing read and nothing written.
  * Refusals: BURIAL_BAD_SETTINGS (offices not 2 to 8). */
 struct burial_token_read burial_fresh_session(uint32_t offices);
+
+/* Makes one session of two: where two people went on with copies of one session, each one's token
+ * is read in the evening, the two are joined, and a token of that is written. Any two sessions of
+ * a ring may be joined.
+ * What is joined has read all that either has read, its clock has the greater of the two numbers
+ * at each place, and it carries the entries of the first and then those of the second that are not
+ * among them, each in their order; own[count] to own[15] are zeros. So it knows what either knew:
+ * in a ring that keeps the rules of section 3 no later reading hands back less than either of the
+ * two had read or written, and what it writes ranks above all of that. With the two swapped only
+ * the order of its entries may be another.
+ * The two that are given stay as they are, and may go on too. What stands behind the entries that
+ * they carry does not count.
+ * Refusals: BURIAL_BAD_SETTINGS (offices not 2 to 8, plots not 1 to 64), BURIAL_BAD_CONTENT (one
+ * of the two is not sound for these), BURIAL_DIFFERENT (both carry an entry, with two contents),
+ * BURIAL_SESSION_FULL (over 16 would be carried). */
+struct burial_token_read burial_join_sessions(uint32_t offices, uint32_t plots,
+                                              struct burial_session first,
+                                              struct burial_session second);
 
 /* ---- 7 Writing */
 

@@ -9,7 +9,7 @@ from ctypes import POINTER, PyDLL, Structure, c_size_t, c_uint8, c_uint32
 
 from refused import Refused
 
-VERSION = 0x010100
+VERSION = 0x010200
 STORE_WORDS, WRITE_WORDS, FRAME_WORDS, ANSWER_WORDS, TOKEN_WORDS = 4627, 4272, 267, 48, 4538
 MAX_VALUE = 0xFFFFFFF
 # Made by examples/python/run; BURIAL_SO may name another place.
@@ -71,6 +71,7 @@ CALLS = {  # what each hands back, and what it takes
     "burial_store_settings": (Settings, [*ROW]),
     "burial_open_office": (c_uint32, [Number, Number, Number, *ROW]),
     "burial_fresh_session": (WithSession, [Number]),
+    "burial_join_sessions": (WithSession, [Number, Number, Session, Session]),
     "burial_lent_read_plot": (PlotFound, [*ROW, LENT, Number]),
     "burial_lent_read_joint": (c_uint32, [*ROW, LENT, *ROW, *ROW]),
     "burial_lent_write": (Words, [*ROW, LENT, Number, Number, *ROW]),

@@ -1,13 +1,13 @@
 """The foreman's story. In a ring of three offices he writes at one, goes to the next with a token
 in his pocket while the line is slow, and writes again. A visitor who reads the second entry is
 shown the first one too, wherever she goes. The calls are in the order of scripts/foreman.txt;
-his look at both entries, newcomers who look in, refusals and a night are added.
+his look at both entries, newcomers who look in, refusals, a night and a family are added.
 """
 from burial import MAX_VALUE
 from house import House
 from office import Office, Ring
 from refused import Refused
-from sessions import fresh_session, session_of, token_of
+from sessions import fresh_session, join_sessions, session_of, token_of
 
 RING = Ring(offices=3, plots=64)
 BOTH = ["709 by 0.1", "1 by 1.1"]
@@ -130,6 +130,26 @@ def the_slow_line(house):
     expect_newcomer(house, 2, BOTH)
 
 
+def goes_on(house, own, name, token, plot, value):
+    """Someone goes on at an office with what a token says, and comes back with another one."""
+    session = session_of(RING, token)
+    sent = house.write(own, session, plot, value)
+    print(f"office {own}: {name} writes {value} to plot {plot}: {sent[-1]}")
+    return token_of(session)
+
+
+def two_people(house):
+    """A family's token is copied, and two people go on with it. In the evening theirs are joined:
+    the family knows what either of them knows."""
+    morning = goes_on(house, 0, "a family", token_of(fresh_session(RING)), 7, 300)
+    tokens = [goes_on(house, 1, "the sister", morning, 8, 4),
+              goes_on(house, 2, "the brother", morning, 7, 310)]
+    print("in the evening their tokens are joined")
+    family = join_sessions(RING, *(session_of(RING, token) for token in tokens))
+    expect_read(house, 0, ("the family", family), 7, "310 by 2.1")
+    expect_read(house, 0, ("the family", family), 8, "4 by 1.2")
+
+
 def main():
     house = House(RING)
     token = foreman_leaves(house)
@@ -141,6 +161,7 @@ def main():
     refusals(house, token)
     overnight(house)
     the_slow_line(house)
+    two_people(house)
 
 
 if __name__ == "__main__":

@@ -7,6 +7,11 @@ def fresh_session(ring):
     return calls.burial_fresh_session(ring.offices).session
 
 
+def join_sessions(ring, first, second):
+    """One session that knows what either of the two knows. They stay as they are."""
+    return calls.burial_join_sessions(ring.offices, ring.plots, first, second).session
+
+
 def session_of(ring, token):
     """The session that a token was made from."""
     words = row(token)

@@ -45,6 +45,28 @@ static const uint32_t token[] = {
 };
 enum { TOKEN = sizeof token / 4 };
 
+/* A session with one entry of its own, and what is joined of the two. */
+static const struct burial_session other = {
+    .offices = OFFICES,
+    .clock = { 9, 1, 10, 2 },
+    .read = { 0x8, 0x40, 0x10, 0x20 },
+    .count = 1,
+    .own = {
+        { .office = 0, .serial = 9, .plot = 23, .value = 29, .clock = { 9, 1, 3, 2 }, .deps = { 0x8, 0x40 } },
+    },
+};
+static const struct burial_session both = {
+    .offices = OFFICES,
+    .clock = { 9, 7, 10, 8 },
+    .read = { 0xC, 0x40, 0x10, 0x20 },
+    .count = 3,
+    .own = {
+        { .office = 1, .serial = 2, .plot = 11, .value = 13, .clock = { 4, 2, 5, 8 }, .deps = { 0x4, 0, 0x10 } },
+        { .office = 3, .serial = 6, .plot = 17, .value = 19, .clock = { 4, 7, 5, 6 }, .deps = { 0x4, 0x2, 0x10 } },
+        { .office = 0, .serial = 9, .plot = 23, .value = 29, .clock = { 9, 1, 3, 2 }, .deps = { 0x8, 0x40 } },
+    },
+};
+
 static const struct burial_entry no_entry;
 static const struct burial_session no_session;
 
@@ -120,6 +142,17 @@ static void test_session(void)
     read = burial_fresh_session(9);
     expect(read.refusal == BURIAL_BAD_SETTINGS && same_session(&read.session, &no_session));
     end("the fields of a session");
+}
+
+static void test_join(void)
+{
+    struct burial_token_read answer = burial_join_sessions(OFFICES, 24, carried, other);
+    expect(answer.refusal == BURIAL_OK && same_session(&answer.session, &both));
+    answer = burial_join_sessions(OFFICES, 23, carried, other);
+    expect(answer.refusal == BURIAL_BAD_CONTENT && same_session(&answer.session, &no_session));
+    answer = burial_join_sessions(24, OFFICES, carried, other);
+    expect(answer.refusal == BURIAL_BAD_SETTINGS && same_session(&answer.session, &no_session));
+    end("the fields of two sessions that are joined");
 }
 
 /* Opens the office in `store`, which then hears `early` and `later`. */
@@ -234,6 +267,7 @@ int main(void)
     setvbuf(stdout, NULL, _IOLBF, 0);
     test_frame();
     test_session();
+    test_join();
     test_settings();
     test_by_value();
     test_lent();

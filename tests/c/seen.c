@@ -167,6 +167,34 @@ static void test_correction(void)
     end("wherever a correction is shown, it is what is read, and not what it corrects");
 }
 
+/* He reads plot 5 at office 2, she writes plot 6 at office 1; joined, they correct both there. */
+static void test_joined(void)
+{
+    open_ring();
+    struct burial_session writer = fresh(), he = fresh(), she = he;
+    struct sent sent = writes(&writer, 0, 5, 709);
+    sent = hears(1, &sent);
+    hears(2, &sent);
+    expect(reads(&he, 2, 5) == 709);
+    struct sent first = writes(&she, 1, 6, 1);
+    struct burial_token_read answer = burial_join_sessions(RING, PLOTS, he, she);
+    struct burial_session both = answer.session;
+    expect(answer.refusal == BURIAL_OK && shown(1, 5) == NONE);
+    for (uint32_t own = 0; own < RING; own++)
+        expect(reads_both(&both, own, 709, 1));
+    end("a joined session knows what either of the two knew");
+    struct sent second = writes(&both, 1, 5, 710), third = writes(&both, 1, 6, 2);
+    struct sent *const frames[] = { &first, &second, &third };
+    for (int i = 0; i < 3; i++) {
+        *frames[i] = hears(2, frames[i]);
+        hears(0, frames[i]);
+    }
+    expect(shown(0, 5) == 710 && shown(0, 6) == 2);
+    for (uint32_t own = 0; own < RING; own++)
+        expect(reads_both(&both, own, 710, 2));
+    end("a correction by a joined session wins over what either of the two had read or written");
+}
+
 /* Who writes at office 2 has not read what is shown there. */
 static void test_unread(void)
 {
@@ -288,6 +316,7 @@ int main(void)
     test_second_journey();
     test_rank();
     test_correction();
+    test_joined();
     test_unread();
     test_own_jointly();
     test_together();

@@ -40,6 +40,7 @@ static size_t need_of(void (*call)(void))
 
 static void settings(void) { expect(burial_store_settings(store, STORE).refusal == BURIAL_OK); }
 static void fresh(void) { expect(burial_fresh_session(RING).refusal == BURIAL_OK); }
+static void join(void) { expect(burial_join_sessions(RING, PLOTS, session, session).refusal == BURIAL_OK); }
 static void write_lent(void) { expect(burial_lent_write(store, STORE, &session, 1, 1, row, ROW).refusal == BURIAL_OK); }
 static void write_value(void) { expect(burial_write(store, STORE, session, 1, 1, row, ROW).refusal == BURIAL_OK); }
 static void read_lent(void) { expect(burial_lent_read_plot(store, STORE, &session, 1).refusal == BURIAL_OK); }
@@ -95,7 +96,7 @@ static void lay(void)
 int main(void)
 {
     void (*const calls[])(void) = {
-        settings, fresh, hear, frame_in, frame_bytes, frame_out, token_out, token_in, joint_lent, joint_value,
+        settings, fresh, join, hear, frame_in, frame_bytes, frame_out, token_out, token_in, joint_lent, joint_value,
         read_lent, read_value, write_value, write_lent,
     };
     size_t most = 0;

@@ -46,10 +46,11 @@ pub const CALLS: &[&str] = &[
     "lent_read_joint",
     "lent_write",
     "store_settings",
+    "join_sessions",
 ];
 
 /// The replies that each call may give; a run that misses one has not tested it.
-const REPLIES: [&[u32]; 16] = [
+const REPLIES: [&[u32]; 17] = [
     &[0, 1, 9],
     &[0, 1, 9],
     &[0, 3, 8],
@@ -66,6 +67,7 @@ const REPLIES: [&[u32]; 16] = [
     &[0, 2, 3, 4, 8, 12],
     &[0, 2, 3, 4, 5, 6, 7, 8, 10, 11, 12],
     &[0, 2],
+    &[0, 1, 3, 7, 11],
 ];
 
 struct Test {
@@ -227,6 +229,16 @@ impl Test {
         Done { refusal, kept: row_kept(refusal, words, &row, lent) }
     }
 
+    /// The two are given by value: what they were taken from must stay.
+    fn join_sessions(&mut self) -> Done {
+        let (offices, plots) = (self.adversary.offices(), self.adversary.plots());
+        let (first, second) = (self.adversary.session(), self.adversary.session());
+        let given = (self.session.value(&first, self.side), self.input.value(&second, self.side));
+        let (refusal, joined) = tokens::join_sessions(offices, plots, given.0, given.1);
+        let said = if refusal == 0 { joined.is_sound(offices, plots) } else { joined == Session::default() };
+        Done { refusal, kept: said && *given.0 == first && *given.1 == second }
+    }
+
     fn call(&mut self, call: usize) -> Done {
         self.about_to(call);
         match call {
@@ -245,7 +257,8 @@ impl Test {
             12 => self.read_plot(lent::read_plot),
             13 => self.read_joint(lent::read_joint),
             14 => self.write(lent::write),
-            _ => self.store_settings(),
+            15 => self.store_settings(),
+            _ => self.join_sessions(),
         }
     }
 
@@ -253,7 +266,7 @@ impl Test {
     fn step(&mut self) {
         let call = self.adversary.random.pick(&[
             0, 1, 2, 3, 4, 5, 6, 6, 7, 7, 8, 8, 9, 9, 9, 10, 10, 11, 12, 12, 12, 13, 13, 13, 14, 14, 14, 14,
-            15,
+            15, 16, 16,
         ]);
         let done = self.call(call);
         let known = REPLIES[call].contains(&done.refusal);

@@ -75,6 +75,19 @@ pub fn mend_check(words: &mut [u32]) {
     words[last] = CHECK << 28 | (sum % (1 << 28)) as u32;
 }
 
+/// The frames of a row, in its order.
+pub fn frames(offices: u32, mut words: &[u32]) -> Vec<Vec<u32>> {
+    let mut frames = Vec::new();
+    while let Some(head) = words.first() {
+        let len = 4 + offices as usize + (head & 0xFF) as usize;
+        // A row that ends too soon is told by the comparison; the run must come to its end to say so.
+        let (frame, rest) = words.split_at(len.min(words.len()));
+        frames.push(frame.to_vec());
+        words = rest;
+    }
+    frames
+}
+
 /// What the head of a frame loses when the frame goes on.
 pub const ONE_HOP: u32 = 1 << 12;
 

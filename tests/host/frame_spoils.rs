@@ -1,4 +1,6 @@
 //! The content of a frame with one rule broken.
+// Several programs share this file, and not each uses all of it.
+#![allow(dead_code)]
 
 use crate::model::codec::Frame;
 use crate::model::entry::{self, Entry, SERIALS, VALUES};
@@ -10,7 +12,7 @@ pub struct Spoil {
     pub apply: fn(&mut Random, &mut Frame),
 }
 
-fn at_least(random: &mut Random, low: u32) -> u32 {
+pub fn at_least(random: &mut Random, low: u32) -> u32 {
     match random.below(3) {
         0 => low,
         1 => random.between(low, low + 8),
@@ -75,9 +77,14 @@ fn spoil_all(random: &mut Random, frame: &mut Frame) {
     frame.entry.clock[7] = 33;
 }
 
-pub const SPOILS: &[Spoil] = &[
+/// Rules of what stands beside the entry.
+pub const OF_RING: &[Spoil] = &[
     Spoil { name: "ring size", apply: spoil_offices },
     Spoil { name: "hops", apply: |r, f| f.hops = at_least(r, f.offices - 1) },
+];
+
+/// Rules of the entry.
+pub const OF_ENTRY: &[Spoil] = &[
     Spoil { name: "office", apply: |r, f| f.entry.office = at_least(r, f.offices) },
     Spoil { name: "serial", apply: spoil_serial },
     Spoil { name: "plot", apply: |r, f| f.entry.plot = at_least(r, 64) },

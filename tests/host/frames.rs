@@ -12,7 +12,7 @@ mod report;
 use archive::frames as archive_frames;
 use frame_breaks::BREAKS;
 use frame_cases::{change_one_word, sound_frame, words_of};
-use frame_spoils::SPOILS;
+use frame_spoils::{OF_ENTRY, OF_RING};
 use model::checks;
 use model::codec::{self, Frame};
 use random::Random;
@@ -143,7 +143,7 @@ impl Test {
     }
 
     fn writes_of_spoilt(&mut self, frame: &Frame) {
-        for spoil in SPOILS {
+        for spoil in OF_RING.iter().chain(OF_ENTRY) {
             let mut spoilt = *frame;
             (spoil.apply)(&mut self.random, &mut spoilt);
             // 3 comes before 8, so the room may be short too.

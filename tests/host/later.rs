@@ -28,6 +28,8 @@ pub const CORRECTED: &str = "corrected at another office";
 /// The writer had a past when it was copied.
 pub const BY_COPY: &str = "later by a copy";
 pub const BY_TOKEN: &str = "later by a copy through a token";
+/// The writer was joined of two of which each knew something that the other did not.
+pub const BY_JOIN: &str = "later by a joined session";
 
 /// The held or the visible entries of a store; none of one that is not sound, as the comparison will tell.
 fn entries(store: &[u32], set: fn(&Store) -> IdSet) -> Vec<Entry> {
@@ -73,14 +75,14 @@ pub fn over_visible(report: &mut Report, new: &Entry, store: &[u32]) {
 }
 
 /// A new entry and its writer's past; where that is not empty, also which kinds of writes it is one of.
-pub fn made(report: &mut Report, log: &Log, new: &Entry, offices: u32, copied: Option<&str>) {
+pub fn made(report: &mut Report, log: &Log, new: &Entry, offices: u32, origin: Option<&str>) {
     let past = log.writers_past(new.id());
     if past == EMPTY {
         return;
     }
     let holds = is_later_than_past(report, "write", new, log.entries(past));
     let corrects = log.entries(past).any(|entry| entry.plot == new.plot && entry.office != new.office);
-    let kinds = [Some(RINGS[offices as usize - 2]), corrects.then_some(CORRECTED), copied];
+    let kinds = [Some(RINGS[offices as usize - 2]), corrects.then_some(CORRECTED), origin];
     for kind in kinds.into_iter().flatten() {
         report.check(&format!("write: {kind}"), holds, || format!("{new:?}"));
     }
@@ -111,7 +113,7 @@ fn in_stores(report: &mut Report, log: &Log, stores: &[Vec<u32>]) {
 fn to_fresh_readers(twin: &mut Twin, log: &Log, store: &[u32], offices: u32) {
     for visible in entries(store, |store| store.visible()) {
         let mut reader = fresh_session(offices).unwrap();
-        let read = twin.read_plot(&mut store.to_vec(), &mut reader, visible.plot).flatten();
+        let read = twin.read_plot(&mut store.to_vec(), &mut reader, visible.plot).ok().flatten();
         let say = || format!("{read:?}\n  where {visible:?} is visible");
         let above = read.is_some_and(|read| read == visible || read.outranks(&visible));
         twin.report.check("read_plot: visible or above", above, say);

@@ -3,6 +3,7 @@
 
 mod archive;
 mod frame_cases;
+mod joined;
 mod joint;
 mod later;
 #[path = "../model/mod.rs"]
@@ -14,6 +15,8 @@ mod ring;
 mod session_cases;
 mod single;
 mod store_cases;
+mod swapped;
+mod tracked;
 mod twin;
 
 use random::Random;
@@ -62,7 +65,7 @@ const OUTCOMES: &[(&str, &[&str])] = &[
     ("read_joint, lent", joint::ACCEPTED),
     ("read_joint", JOINT),
     ("read_joint, lent", JOINT),
-    ("read_joint", &["goes together", "keeps the session's past"]),
+    ("read_joint", &["goes together", "keeps the session's past", "keeps both pasts"]),
     ("write", WRITE),
     ("write, lent", WRITE),
     ("receive", RECEIVE),
@@ -70,11 +73,14 @@ const OUTCOMES: &[(&str, &[&str])] = &[
     ("write", &later::VISIBLE),
     ("write", &later::RINGS),
     ("write", &["a new id", "same in session, frame and store"]),
-    ("write", &[later::CORRECTED, later::BY_COPY, later::BY_TOKEN]),
+    ("write", &[later::CORRECTED, later::BY_COPY, later::BY_TOKEN, later::BY_JOIN]),
     ("stores", &later::PAST),
-    ("read_plot", &["keeps the session's past", "visible or above", "never what was corrected"]),
+    ("read_plot", &["keeps the session's past", "keeps both pasts"]),
+    ("read_plot", &["visible or above", "never what was corrected"]),
     ("pasts", &["lack only what an own entry outranks", "no chain comes back"]),
     ("token", &["the session itself"]),
+    ("join", &joined::ACCEPTED),
+    ("join", &["accepted", "refused 7"]),
 ];
 
 fn main() -> ExitCode {

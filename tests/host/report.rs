@@ -51,8 +51,14 @@ impl Report {
 
     /// Fails a behaviour that no input has shown.
     pub fn met(&mut self, name: &str) {
-        if self.behaviour(name).inputs == 0 {
-            self.check(name, false, || "no input came to this".to_string());
+        self.met_often(name, 1);
+    }
+
+    /// Fails a behaviour that fewer inputs have shown.
+    pub fn met_often(&mut self, name: &str, least: u64) {
+        let inputs = self.behaviour(name).inputs;
+        if inputs < least {
+            self.check(name, false, || format!("only {inputs} inputs came to this, and not {least}"));
         }
     }
 

@@ -1,42 +1,23 @@
-//! Rings of offices: sessions move and are copied, frames flow from office to office, and every call is
-//! compared. All that goes on is what the archive left and sent.
+//! Rings of offices: sessions move, are copied and joined, frames flow from office to office, and every call
+//! is compared. All that goes on is what the archive left and sent.
 
 use crate::archive::office::store_need;
-use crate::archive::tokens::{fresh_session, open_office, read_token, write_token};
+use crate::archive::tokens::open_office;
+use crate::frame_cases::frames;
+use crate::joined::{self, Given};
 use crate::later;
-use crate::model::entry::IdSet;
-use crate::model::past::{Log, EMPTY};
-use crate::model::session::Session;
-use crate::model::token::token_words;
+use crate::model::entry::MOST_PLOTS;
+use crate::model::past::Log;
 use crate::pasts;
-use crate::single::some_plots;
-use crate::twin::Twin;
+use crate::report::Report;
+use crate::single::{some_listed, some_plots};
+use crate::swapped::Swapped;
+use crate::tracked::Tracked;
+use crate::twin::{unless, Twin};
 use std::collections::VecDeque;
 
 const STEPS: usize = 300;
 const SESSIONS: usize = 3;
-
-/// A session with its past beside it.
-#[derive(Clone, Copy)]
-struct Tracked {
-    session: Session,
-    past: IdSet,
-    /// How it was copied, if it had a past then.
-    copied: Option<&'static str>,
-}
-
-impl Tracked {
-    fn fresh(twin: &mut Twin, offices: u32) -> Tracked {
-        let (refusal, session) = fresh_session(offices);
-        twin.report.same("fresh_session: of a ring", &refusal, &0);
-        Tracked { session, past: EMPTY, copied: None }
-    }
-
-    /// A copy keeps the past.
-    fn copy(&self, session: Session, how: &'static str) -> Tracked {
-        Tracked { session, past: self.past, copied: (self.past != EMPTY).then_some(how) }
-    }
-}
 
 struct Ring {
     offices: u32,
@@ -55,26 +36,13 @@ fn opened(twin: &mut Twin, offices: u32, own: u32, plots: u32) -> Vec<u32> {
     store
 }
 
-/// The session as it comes back from a token: itself.
-fn through_token(twin: &mut Twin, session: &Session, plots: u32) -> Session {
-    let mut token = twin.random.row(token_words(session));
-    let written = write_token(session, &mut token);
-    let read = read_token(&token, session.offices, plots);
-    twin.report.same("token: the session itself", &(written, read), &((0, token.len()), (0, *session)));
-    read.1
-}
-
-/// The frames of a row, in its order.
-fn frames(offices: u32, mut words: &[u32]) -> Vec<Vec<u32>> {
-    let mut frames = Vec::new();
-    while let Some(head) = words.first() {
-        let len = 4 + offices as usize + (head & 0xFF) as usize;
-        // A row that ends too soon is told by the comparison; the run must come to its end to say so.
-        let (frame, rest) = words.split_at(len.min(words.len()));
-        frames.push(frame.to_vec());
-        words = rest;
-    }
-    frames
+/// What a call of the run replied. Entries are never missing, unmade or different there, so only what it was
+/// given besides them may be refused.
+fn accepted<T>(report: &mut Report, call: &str, reply: Result<T, u32>, refusals: &[u32]) -> Option<T> {
+    let refusal = reply.as_ref().err().copied();
+    let holds = refusal.is_none_or(|refusal| refusals.contains(&refusal));
+    report.check(&format!("{call}: in a run no entry is refused"), holds, || format!("{refusal:?}"));
+    reply.ok()
 }
 
 impl Ring {
@@ -94,7 +62,8 @@ impl Ring {
 
     fn hear(&mut self, twin: &mut Twin, office: usize) {
         let Some(frame) = self.waiting[office].front().cloned() else { return };
-        if let Some(words) = twin.receive(&mut self.stores[office], &frame) {
+        let reply = twin.receive(&mut self.stores[office], &frame);
+        if let Some(words) = accepted(&mut twin.report, "receive", reply, &[8]) {
             self.waiting[office].pop_front();
             self.send(office, frames(self.offices, &words));
         }
@@ -106,7 +75,7 @@ impl Ring {
         if queue.len() > 1 {
             let frame = queue[twin.random.index(queue.len())].clone();
             // On a copy, so that the run goes on as it was.
-            twin.receive(&mut self.stores[office].clone(), &frame);
+            let _ = twin.receive(&mut self.stores[office].clone(), &frame);
         }
     }
 
@@ -115,20 +84,44 @@ impl Ring {
         let at = twin.random.index(SESSIONS);
         let other = self.sessions[(at + 1) % SESSIONS];
         self.sessions[at] = match twin.random.below(4) {
-            0 => other.copy(through_token(twin, &other.session, self.plots), later::BY_TOKEN),
-            1 => other.copy(other.session, later::BY_COPY),
+            0 => other.through_token(twin, self.plots),
+            1 => other.copy(),
             _ => Tracked::fresh(twin, self.offices),
         };
     }
 
+    /// Two sessions, or one with itself, perhaps through tokens: what is joined of them goes on in the place
+    /// of any.
+    fn join(&mut self, twin: &mut Twin, office: usize) {
+        let [first, second] = [(); 2].map(|()| {
+            let tracked = self.sessions[twin.random.index(SESSIONS)];
+            if twin.random.one_in(2) {
+                tracked.through_token(twin, self.plots)
+            } else {
+                tracked
+            }
+        });
+        // Any plots that cover those of the ring will do.
+        let (offices, plots) = (self.offices, twin.random.pick(&[self.plots, MOST_PLOTS]));
+        let given = Given { offices, plots, first: first.session, second: second.session };
+        let [(refusal, session), (_, swapped)] = joined::join(&mut twin.report, &given);
+        let reply = unless(refusal, session);
+        let Some(session) = accepted(&mut twin.report, "join", reply, &[7]) else { return };
+        let plot = some_listed(&mut twin.random, self.plots, &session);
+        let swapped = Swapped { sessions: [session, swapped], store: &self.stores[office] };
+        swapped.alike(&mut twin.report, plot);
+        self.sessions[twin.random.index(SESSIONS)] = Tracked::joined(session, &first, &second);
+    }
+
     /// What a reading handed back, as the answer of a joint one: it keeps the session's past, and joins it.
     fn handed_back(&mut self, twin: &mut Twin, call: &str, at: usize, plots: &[u32], answer: &[u32]) {
-        let Tracked { session, past, .. } = &mut self.sessions[at];
+        let Tracked { session, past, origin } = &mut self.sessions[at];
+        let whose = if *origin == Some(later::BY_JOIN) { "both pasts" } else { "the session's past" };
         let kept = pasts::keeps_past(&self.log, *past, plots, answer);
         self.log.read(past, pasts::handed_back(answer));
         let lacks = pasts::lacks_only_outranked(&self.log, *past, session);
         let claims = [
-            (format!("{call}: keeps the session's past"), kept),
+            (format!("{call}: keeps {whose}"), kept),
             ("pasts: lack only what an own entry outranks".to_string(), lacks),
         ];
         for (claim, holds) in claims {
@@ -141,7 +134,7 @@ impl Ring {
 
     fn read_plot(&mut self, twin: &mut Twin, office: usize, at: usize, plot: u32) {
         let read = twin.read_plot(&mut self.stores[office], &mut self.sessions[at].session, plot);
-        if let Some(found) = read {
+        if let Some(found) = accepted(&mut twin.report, "read_plot", read, &[]) {
             let answer = found.map_or([0; 3], |entry| [1, entry.value, entry.payload()]);
             self.handed_back(twin, "read_plot", at, &[plot], &answer);
         }
@@ -150,7 +143,8 @@ impl Ring {
     fn read_joint(&mut self, twin: &mut Twin, office: usize, at: usize) {
         let session = &mut self.sessions[at].session;
         let plots = some_plots(&mut twin.random, self.plots, session);
-        let Some(answer) = twin.read_joint(&mut self.stores[office], session, &plots) else { return };
+        let read = twin.read_joint(&mut self.stores[office], session, &plots);
+        let Some(answer) = accepted(&mut twin.report, "read_joint", read, &[4, 8]) else { return };
         if let Some(holds) = pasts::goes_together(&self.log, &plots, &answer) {
             let say = || format!("plots {plots:?}, answer {answer:?}");
             twin.report.check("read_joint: goes together", holds, say);
@@ -165,13 +159,14 @@ impl Ring {
         twin.report.same("write: a new id", &self.log.entry(new.id()), &None);
         later::over_visible(&mut twin.report, &new, store);
         self.log.wrote(&mut writer.past, &new);
-        later::made(&mut twin.report, &self.log, &new, self.offices, writer.copied);
+        later::made(&mut twin.report, &self.log, &new, self.offices, writer.origin);
     }
 
     fn write(&mut self, twin: &mut Twin, office: usize, at: usize, plot: u32) {
         let value = twin.random.below(1 << 28);
         let session = &mut self.sessions[at].session;
-        let words = twin.write(&mut self.stores[office], session, plot, value);
+        let wrote = twin.write(&mut self.stores[office], session, plot, value);
+        let Some(words) = accepted(&mut twin.report, "write", wrote, &[6, 7, 8]) else { return };
         let frames = frames(self.offices, &words);
         if let Some(last) = frames.last() {
             self.made(twin, office, at, last);
@@ -183,12 +178,13 @@ impl Ring {
         let office = twin.random.index(self.offices as usize);
         let at = twin.random.index(SESSIONS);
         let plot = twin.random.below(self.plots);
-        match twin.random.below(16) {
+        match twin.random.below(17) {
             0 => self.another_session(twin),
             1 => self.hear_early(twin, office),
             2..=4 => self.read_plot(twin, office, at, plot),
             5 | 6 => self.read_joint(twin, office, at),
             7..=9 => self.write(twin, office, at, plot),
+            10 => self.join(twin, office),
             _ => self.hear(twin, office),
         }
     }

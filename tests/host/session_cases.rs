@@ -69,6 +69,13 @@ pub fn random_session(random: &mut Random) -> Session {
     }
 }
 
+/// The session with nothing in the places beyond its count.
+pub fn zeros_beyond(session: &Session) -> Session {
+    let mut session = *session;
+    session.own[session.count..].fill(Entry::default());
+    session
+}
+
 fn some_own(random: &mut Random, content: &Content, session: &mut Session, kinds: Kinds) {
     let earlier = session.own_ids();
     let allowed = union(&session.read, &earlier);

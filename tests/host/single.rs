@@ -37,7 +37,7 @@ fn some_value(random: &mut Random) -> u32 {
 }
 
 /// A plot in range, often one with an own entry of the session.
-fn some_listed(random: &mut Random, plots: u32, session: &Session) -> u32 {
+pub fn some_listed(random: &mut Random, plots: u32, session: &Session) -> u32 {
     let own = session.own[random.index(session.count.clamp(1, 16))].plot;
     if own < plots && random.one_in(3) {
         own
@@ -91,24 +91,24 @@ fn some_frame(random: &mut Random, content: &Content) -> Vec<u32> {
     words
 }
 
-/// One call of the four; whatever it leaves is asked for its settings.
+/// One call of the four, refused or not; whatever it leaves is asked for its settings.
 fn one_call(twin: &mut Twin, content: &Content, store: &mut [u32], session: &mut Session) {
     let plot = some_plot(&mut twin.random, content.plots);
     match twin.random.below(4) {
         0 => {
-            twin.read_plot(store, session, plot);
+            let _ = twin.read_plot(store, session, plot);
         }
         1 => {
             let plots = some_plots(&mut twin.random, content.plots, session);
-            twin.read_joint(store, session, &plots);
+            let _ = twin.read_joint(store, session, &plots);
         }
         2 => {
             let value = some_value(&mut twin.random);
-            twin.write(store, session, plot, value);
+            let _ = twin.write(store, session, plot, value);
         }
         _ => {
             let frame = some_frame(&mut twin.random, content);
-            twin.receive(store, &frame);
+            let _ = twin.receive(store, &frame);
         }
     }
     twin.store_settings(store);

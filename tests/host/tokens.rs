@@ -12,13 +12,12 @@ mod token_cases;
 
 use archive::tokens as archive_tokens;
 use frame_cases::change_one_word;
-use model::entry::Entry;
 use model::office::open_office;
 use model::session::{fresh_session, Session};
 use model::token::{read_token, token_words, write_token};
 use random::Random;
 use report::Report;
-use session_cases::{damage_session, random_session, sound_session};
+use session_cases::{damage_session, random_session, sound_session, zeros_beyond};
 use std::process::ExitCode;
 use store_cases::Content;
 use token_cases::{Parts, BREAKS, CHANGES};
@@ -28,12 +27,6 @@ const SEED: u64 = 0x70C3_2026_0101_5EED;
 struct Test {
     random: Random,
     report: Report,
-}
-
-fn zeros_beyond(session: &Session) -> Session {
-    let mut session = *session;
-    session.own[session.count..].fill(Entry::default());
-    session
 }
 
 impl Test {

@@ -78,6 +78,14 @@ fn reply(result: Result<usize, u32>) -> (u32, usize) {
     result.map_or_else(|refusal| (refusal, 0), |words| (0, words))
 }
 
+/// The reply, unless it is refused.
+pub fn unless<T>(refusal: u32, reply: T) -> Result<T, u32> {
+    match refusal {
+        0 => Ok(reply),
+        _ => Err(refusal),
+    }
+}
+
 fn outcome(refusal: u32, accepted: impl FnOnce() -> &'static str) -> String {
     match refusal {
         0 => accepted().to_string(),
@@ -153,13 +161,13 @@ impl Twin {
         self.report.same(&name, &archive, &(model, true));
     }
 
-    /// The entry that is handed back, if any; none where the reading is refused.
+    /// The entry that is handed back, if any.
     pub fn read_plot(
         &mut self,
         store: &mut [u32],
         session: &mut Session,
         plot: u32,
-    ) -> Option<Option<Entry>> {
+    ) -> Result<Option<Entry>, u32> {
         let lent: Lent = (store, session, &[]);
         let archive = each_form(PLOT_READS, lent, |call, store, session, _| call(store, session, plot));
         let model = on_copies(lent, |store, session, _| match model::read_plot(store, session, plot) {
@@ -173,7 +181,7 @@ impl Twin {
         });
         self.compare_forms(&outcome, &archive, &model);
         let ((refusal, (found, entry)), _) = self.go_on(archive, store, session);
-        (refusal == 0).then_some((found == 1).then_some(entry))
+        unless(refusal, (found == 1).then_some(entry))
     }
 
     /// A joint reading of one plot is the reading of that plot.
@@ -196,13 +204,13 @@ impl Twin {
         }
     }
 
-    /// The answer; none where the reading is refused.
+    /// The answer.
     pub fn read_joint(
         &mut self,
         store: &mut [u32],
         session: &mut Session,
         plots: &[u32],
-    ) -> Option<Vec<u32>> {
+    ) -> Result<Vec<u32>, u32> {
         self.read_each_alone(store, session, plots);
         let row = self.row_for(3 * plots.len());
         let lent: Lent = (store, session, &row);
@@ -223,11 +231,17 @@ impl Twin {
         }
         let (refusal, mut row) = self.go_on(archive, store, session);
         row.truncate(3 * plots.len());
-        (refusal == 0).then_some(row)
+        unless(refusal, row)
     }
 
-    /// The row's words that were written, if any.
-    pub fn write(&mut self, store: &mut [u32], session: &mut Session, plot: u32, value: u32) -> Vec<u32> {
+    /// The row's words that were written.
+    pub fn write(
+        &mut self,
+        store: &mut [u32],
+        session: &mut Session,
+        plot: u32,
+        value: u32,
+    ) -> Result<Vec<u32>, u32> {
         // A trial on copies tells how much room the call needs.
         let trial = model::write(&mut store.to_vec(), &mut session.clone(), plot, value, &mut [0; 4600]);
         let any = self.random.index(300);
@@ -240,13 +254,13 @@ impl Twin {
         let one = 4 + session.offices as usize + model.row.first().map_or(0, |head| (head & 0xFF) as usize);
         let outcome = outcome(model.reply.0, || if model.reply.1 > one { "carried" } else { "accepted" });
         self.compare_forms(&outcome, &archive, &model);
-        let ((_, words), mut row) = self.go_on(archive, store, session);
+        let ((refusal, words), mut row) = self.go_on(archive, store, session);
         row.truncate(words);
-        row
+        unless(refusal, row)
     }
 
-    /// The words that go on, if any; none where the frame is refused.
-    pub fn receive(&mut self, store: &mut [u32], frame: &[u32]) -> Option<Vec<u32>> {
+    /// The words that go on, if any.
+    pub fn receive(&mut self, store: &mut [u32], frame: &[u32]) -> Result<Vec<u32>, u32> {
         let row = self.row_for(frame.len());
         let lent: Lent = (store, &Session::default(), &row);
         let mut archive = on_copies(lent, |store, _, row| archive::receive(store, frame, row));
@@ -261,6 +275,6 @@ impl Twin {
         store.copy_from_slice(&archive.store);
         let (refusal, words) = archive.reply;
         archive.row.truncate(words);
-        (refusal == 0).then_some(archive.row)
+        unless(refusal, archive.row)
     }
 }

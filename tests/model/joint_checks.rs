@@ -33,7 +33,7 @@ fn hiding_a() -> Vec<u32> {
 }
 
 /// An entry of value 7, which has the serial that its clock says.
-fn entry(office: u32, clock: [u32; 3], plot: u32) -> Entry {
+pub fn entry(office: u32, clock: [u32; 3], plot: u32) -> Entry {
     let serial = clock[office as usize];
     let clock = [clock[0], clock[1], clock[2], 0, 0, 0, 0, 0];
     Entry { office, serial, plot, value: 7, clock, deps: [0; 8] }
@@ -52,7 +52,7 @@ fn tied_with_a() -> Entry {
     entry(0, [1, 0, 0], 5)
 }
 
-fn carrying(own: &[Entry]) -> Session {
+pub fn carrying(own: &[Entry]) -> Session {
     let mut session = fresh(3);
     session.own[..own.len()].copy_from_slice(own);
     session.count = own.len();

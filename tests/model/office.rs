@@ -4,20 +4,12 @@ use super::codec::{read_frame, write_frame, Frame};
 use super::entry::{
     id_payload, insert, is_subset, join, settings_in_range, union, Entry, IdSet, SERIALS, VALUES,
 };
-use super::refusal;
+use super::refusal::{self, refuse_if};
 use super::session::{Session, CARRIED};
 use super::store::{need, Store};
 
 /// How many plots one joint reading lists at most.
 pub const JOINT: usize = 16;
-
-fn refuse_if(condition: bool, refusal: u32) -> Result<(), u32> {
-    if condition {
-        Err(refusal)
-    } else {
-        Ok(())
-    }
-}
 
 fn check_settings(offices: u32, own: u32, plots: u32) -> Result<(), u32> {
     refuse_if(!settings_in_range(offices, plots) || own >= offices, refusal::SETTINGS)

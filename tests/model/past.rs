@@ -1,6 +1,7 @@
-//! Pasts, by document 01's sentences on them alone: what was handed back and what was written. Read ids and
-//! dependencies do not come in; a read id need not be in the past. A past stands beside its session and is
-//! copied with it: "Copies, slips and errands read from them keep the past of their origin."
+//! Pasts, by the sentences of documents 01 and 02 (iv) on them alone: what was handed back and what was
+//! written. Read ids and dependencies do not come in; a read id need not be in the past. A past stands beside
+//! its session and is copied with it: "Copies, slips and errands read from them keep the past of their
+//! origin."
 
 use super::entry::{ids, insert, union, Entry, IdSet};
 use std::collections::BTreeMap;
@@ -50,6 +51,11 @@ impl Log {
     pub fn ids(&self) -> impl Iterator<Item = (u32, u32)> + '_ {
         self.made.keys().copied()
     }
+}
+
+/// Document 02 (iv), of a joined session: "Its past is both pasts".
+pub fn both(first: &IdSet, second: &IdSet) -> IdSet {
+    union(first, second)
 }
 
 /// Document 02 (iii): "each number of its clock is at least the corresponding one there".

@@ -3,9 +3,10 @@
 use super::checks::Check;
 use super::codec::Frame;
 use super::entry::{insert, Clock, Entry, IdSet};
+use super::join::join_sessions;
 use super::office::{read_plot, receive, write};
 use super::office_checks::{fresh, opened, words_of};
-use super::past::{clock_covers, Log, EMPTY};
+use super::past::{both, clock_covers, Log, EMPTY};
 use super::session::Session;
 
 /// A session with its past.
@@ -26,6 +27,11 @@ fn ring() -> Ring {
 
 fn newcomer() -> Tracked {
     Tracked { session: fresh(3), past: EMPTY }
+}
+
+fn joined(first: &Tracked, second: &Tracked) -> Tracked {
+    let session = join_sessions(3, 64, &first.session, &second.session).unwrap();
+    Tracked { session, past: both(&first.past, &second.past) }
 }
 
 /// The set of these entries.
@@ -150,6 +156,20 @@ fn read_entry_corrected_elsewhere() -> bool {
     ring.corrects(correction, read) && clocks
 }
 
+/// Two people go on with one session, and each knows one entry more of another office.
+fn join_has_both_pasts() -> bool {
+    let (mut ring, mut origin) = (ring(), newcomer());
+    let first = ring.write(&mut origin, 0, 5);
+    let (mut one, mut other) = (origin, origin);
+    let (of_one, of_other) = (ring.write(&mut one, 1, 5), ring.write(&mut other, 2, 6));
+    let mut two = joined(&one, &other);
+    let before = two.past == set([first, of_one, of_other]);
+    let read = [5, 6].map(|plot| ring.read(&mut two, 0, plot)) == [Some(of_one), Some(of_other)];
+    let new = ring.write(&mut two, 0, 5);
+    let later = [first, of_one, of_other].iter().all(|old| new.outranks(old) && clock_covers(&new, old));
+    before && read && later && ring.writers_past(new) == set([first, of_one, of_other])
+}
+
 /// A clock that outranks may still have a lower number.
 fn rank_does_not_cover() -> bool {
     let entry = |numbers| Entry { clock: clock_of(numbers), ..Entry::default() };
@@ -167,6 +187,7 @@ pub fn past_checks() -> Vec<Check> {
         ("model: a copy's past goes on by itself", copies_go_on_by_themselves()),
         ("model: an own entry corrected elsewhere is in the past", own_entry_corrected_elsewhere()),
         ("model: a read entry corrected elsewhere is in the past", read_entry_corrected_elsewhere()),
+        ("model: a joined session has both pasts, and goes on from both", join_has_both_pasts()),
         ("model: a rank above is not a clock that covers", rank_does_not_cover()),
     ]
 }

@@ -46,6 +46,12 @@ pub fn fresh_session(ring: Ring) -> Result<Session, Refusal> {
     Ok(reply.session)
 }
 
+pub fn join_sessions(ring: Ring, first: &Session, second: &Session) -> Result<Session, Refusal> {
+    let reply = header::burial_join_sessions(ring.offices, ring.plots, *first, *second);
+    Refusal::check(reply.refusal)?;
+    Ok(reply.session)
+}
+
 pub fn read_plot(
     store: &mut [u32],
     session: &mut Session,

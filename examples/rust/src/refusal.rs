@@ -9,7 +9,7 @@ pub enum Refusal {
     BadSettings,
     /// 2: the store is not sound, or too short.
     BadStore,
-    /// 3: the session is not sound for this office.
+    /// 3: a session is not sound for this office, or for this ring.
     BadContent,
     /// 4: a plot is out of range, or there are more than 16.
     BadPlot,
@@ -17,7 +17,8 @@ pub enum Refusal {
     BadValue,
     /// 6: the office has made its 32 entries.
     OfficeFull,
-    /// 7: the session carries 16 entries; a new one carries none.
+    /// 7: the session carries 16 entries, or two that are joined would carry more; a new one carries
+    /// none.
     SessionFull,
     /// 8: a row is too short. The rows of this wrapper never are.
     NoRoom,
@@ -25,7 +26,7 @@ pub enum Refusal {
     NotAFrame,
     /// 10: an entry names this office and was not made here.
     Unmade,
-    /// 11: an entry is held with other content.
+    /// 11: an entry is held with other content, or two that are joined carry it with two contents.
     Different,
     /// 12: an entry that was read or is depended on is not held.
     Missing,
@@ -56,15 +57,15 @@ const TEXTS: [&str; 13] = [
     "not refused",
     "ring size, own office or plots out of range",
     "the store is not sound, or too short",
-    "the session is not sound for this office, or no frame or token has this content",
+    "a session is not sound for this ring, or no frame or token has this content",
     "a plot is out of range, or there are more than 16",
     "the value is too great",
     "the office has made its 32 entries",
-    "the session carries 16 entries",
+    "over 16 entries would be carried",
     "a row is too short",
     "the words are no frame or token of this ring",
     "an entry names this office and was not made here",
-    "an entry is held with other content",
+    "an entry is held or carried with other content",
     "an entry that was read or is depended on is not held",
 ];
 

@@ -1,4 +1,4 @@
-//! The archive's calls on tokens, opening and fresh sessions, made safe.
+//! The archive's calls on tokens and whole sessions, and opening, made safe.
 
 use super::frames::Written;
 use crate::model::session::Session;
@@ -16,6 +16,7 @@ extern "C" {
     pub fn burial_write_token(session: Session, out: *mut u32, len: usize) -> Written;
     pub fn burial_open_office(offices: u32, own: u32, plots: u32, store: *mut u32, len: usize) -> u32;
     pub fn burial_fresh_session(offices: u32) -> TokenRead;
+    pub fn burial_join_sessions(offices: u32, plots: u32, first: Session, second: Session) -> TokenRead;
 }
 
 /// The refusal and the session, which is all zeros on refusal.
@@ -38,4 +39,10 @@ pub fn open_office(offices: u32, own: u32, plots: u32, store: &mut [u32]) -> u32
 pub fn fresh_session(offices: u32) -> (u32, Session) {
     let fresh = unsafe { burial_fresh_session(offices) };
     (fresh.refusal, fresh.session)
+}
+
+/// The refusal and the session, which is all zeros on refusal.
+pub fn join_sessions(offices: u32, plots: u32, first: &Session, second: &Session) -> (u32, Session) {
+    let joined = unsafe { burial_join_sessions(offices, plots, *first, *second) };
+    (joined.refusal, joined.session)
 }

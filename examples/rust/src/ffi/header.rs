@@ -82,6 +82,12 @@ unsafe extern "C" {
     pub safe fn burial_version() -> u32;
     pub safe fn burial_store_need(offices: u32, own: u32, plots: u32) -> Words;
     pub safe fn burial_fresh_session(offices: u32) -> TokenRead;
+    pub safe fn burial_join_sessions(
+        offices: u32,
+        plots: u32,
+        first: Session,
+        second: Session,
+    ) -> TokenRead;
     pub fn burial_store_settings(store: *const u32, store_len: usize) -> Settings;
     pub fn burial_open_office(
         offices: u32,

@@ -1,7 +1,7 @@
 //! The foreman's story. In a ring of three offices he writes at one, goes to the next with a token
 //! in his pocket while the line is slow, and writes again. A visitor who reads the second entry is
 //! shown the first one too, wherever she goes. The calls are in the order of scripts/foreman.txt;
-//! his look at both entries, newcomers who look in, refusals and a night are added.
+//! his look at both entries, newcomers who look in, refusals, a night and a family are added.
 
 mod house;
 
@@ -129,6 +129,29 @@ fn the_slow_line(house: &mut House) -> Told<()> {
     Ok(())
 }
 
+/// Someone goes on at an office with what a token says, and comes back with another one.
+fn goes_on(house: &mut House, own: u32, who: (&str, &Token), entry: (u32, u32)) -> Told<Token> {
+    let ((name, token), (plot, value)) = (who, entry);
+    let mut session = Session::from_token(RING, token)?;
+    let new = house.write(own, &mut session, plot, value)?.pop().ok_or("nothing is sent")?;
+    println!("office {own}: {name} writes {value} to plot {plot}: {new}");
+    Ok(session.token()?)
+}
+
+/// A family's token is copied, and two people go on with it. In the evening theirs are joined: the
+/// family knows what either of them knows.
+fn two_people(house: &mut House) -> Told<()> {
+    let morning = goes_on(house, 0, ("a family", &Session::fresh(RING)?.token()?), (7, 300))?;
+    let sister = goes_on(house, 1, ("the sister", &morning), (8, 4))?;
+    let brother = goes_on(house, 2, ("the brother", &morning), (7, 310))?;
+    println!("in the evening their tokens are joined");
+    let [sister, brother] = [sister, brother].map(|token| Session::from_token(RING, &token));
+    let mut family = Session::join(RING, &sister?, &brother?)?;
+    assert_eq!(read(house, 0, ("the family", &mut family), 7)?, "310 by 2.1");
+    assert_eq!(read(house, 0, ("the family", &mut family), 8)?, "4 by 1.2");
+    Ok(())
+}
+
 fn story() -> Told<()> {
     check_version()?;
     let mut house = House::open(RING)?;
@@ -140,7 +163,8 @@ fn story() -> Told<()> {
     visitor_goes_round(&mut house, visitor)?;
     refusals(&mut house, &token)?;
     overnight(&mut house)?;
-    the_slow_line(&mut house)
+    the_slow_line(&mut house)?;
+    two_people(&mut house)
 }
 
 fn main() -> ExitCode {
