@@ -33,7 +33,8 @@ use Rattle.joining.specs.Joins.{allAlike, joinCode, joined, notAmong}
 use Rattle.joining.specs.Laws.{JoinedLaws, LawsOfJoin, Sane}
 use Rattle.joining.specs.Orders.{GoneOn, Reordered}
 use Rattle.joining.proofs.Each.{all-alike-at, all-alike-by, all-alike-swap}
-use Rattle.joining.proofs.Orders.{Apart, gone-self, apart-cons, apart-map, apart-permuted, permuted-length}
+use Rattle.joining.proofs.Front.{all-out}
+use Rattle.joining.proofs.Orders.{Apart, apart-cons, apart-one, gone-self, apart-map, apart-permuted, permuted-length}
 use Rattle.joining.proofs.Sound.{joined-ok, joined-own, own-apart, small}
 
 -- what a join that is not refused says of the two
@@ -75,18 +76,6 @@ one-entry : (n p : ℕ) (e f : Entry) → EntryFacts n p e → EntryFacts n p f 
 one-entry n p e f E F q h =
     same-content-is e f h (sym (id-office n p e E) ∙ ap (λ (k : ℕ). k / 32) q ∙ id-office n p f F)
     (sym (id-serial n p e E) ∙ ap (λ (k : ℕ). k % 32 + 1) q ∙ id-serial n p f F)
-
--- of a list whose ids are apart, entries of one id are one
-pub apart-one : (l : List Entry) → Apart (map idOf l) → (e f : Entry) → List·Memᴰ e l → List·Memᴰ f l → idOf e ≡ idOf f → e ≡ f
-apart-one [] a e f i j q = absurd (List·Memᴰ·not-nil i)
-apart-one (x ∷ l) (apart-cons out a) e f i j q =
-    go (List·Memᴰ·cases-cons i) (List·Memᴰ·cases-cons j) (λ m k. apart-one l a e f m k q)
-  where
-    go : (e ≡ x) ⊎ List·Memᴰ e l → (f ≡ x) ⊎ List·Memᴰ f l → (List·Memᴰ e l → List·Memᴰ f l → e ≡ f) → e ≡ f
-    go (inl y) (inl z) ih = y ∙ sym z
-    go (inl y) (inr m) ih = absurd (out (rw (sym (ap idOf y) ∙ q) (Memᴰ·map idOf m)))
-    go (inr m) (inl z) ih = absurd (out (rw (sym (ap idOf z) ∙ sym q) (Memᴰ·map idOf m)))
-    go (inr m) (inr k) ih = ih m k
 
 abbrev among : List Entry → Entry → Bool
 among es e = isIn (idsOf es) (idOf e)
@@ -205,11 +194,6 @@ left-append t (x ∷ l) m = go (t x) (left-append t l m)
     go true h = h
     go false h = ap (λ (z : List Entry). x ∷ z) h
 
-all-out : (t : Entry → Bool) (l : List Entry) → ((e : Entry) → List·Memᴰ e l → t e ≡ true) → leaveOut t l ≡ []
-unfolding leaveOut
-all-out t [] h = refl
-all-out t (x ∷ l) h = rw (h x (List·Memᴰ·head refl)) (all-out t l (λ e m. h e (List·Memᴰ·tail m)))
-
 none-out : (t : Entry → Bool) (l : List Entry) → ((e : Entry) → List·Memᴰ e l → t e ≡ false) → leaveOut t l ≡ l
 unfolding leaveOut
 none-out t [] h = refl
@@ -284,7 +268,7 @@ module _ (n p : ℕ) (n8 : n ≤ 8) (a b : Content) (A : SaneContent a) (B : San
   pub gone-alike : allAlike (b .own) (a .own) ≡ true
   gone-alike =
       all-alike-by (b .own) (a .own)
-      (λ e f i j q. ap (sameContent e) (sym (apart-one (b .own) ids-apart e f i (in-longer f j) q)) ∙ same-refl e)
+      (λ e f i j q. ap (sameContent e) (sym (apart-one idOf (b .own) ids-apart e f i (in-longer f j) q)) ∙ same-refl e)
 
 -- ---- together
 

@@ -3,6 +3,7 @@ pub mod Turns
 pub mod Codes
 pub mod Orders
 pub mod Sound
+pub mod Front
 pub mod Laws
 pub mod Bounds
 pub mod Contract

@@ -86,6 +86,15 @@ pub apart-map : {A B : Type 0} (f : A → B) (l : List A) → Apart (map f l) �
 apart-map f [] a = apart-nil
 apart-map f (x ∷ l) (apart-cons out a) = apart-cons (λ m. out (Memᴰ·map f m)) (apart-map f l a)
 
+-- .. and of a list that has none under it, what is the same there is one
+pub apart-one : {A B : Type 0} (f : A → B) (l : List A) → Apart (map f l) → (x y : A) → List·Memᴰ x l → List·Memᴰ y l → f x ≡ f y → x ≡ y
+apart-one f [] a x y i j q = absurd (List·Memᴰ·not-nil i)
+apart-one f (z ∷ l) (apart-cons out a) x y i j q =
+    ⊎-elim
+    (λ (p : x ≡ z). ⊎-elim (λ (r : y ≡ z). p ∙ sym r) (λ m. absurd (out (rw (ap f (sym p) ∙ q) (Memᴰ·map f m)))) (List·Memᴰ·cases-cons j))
+    (λ m. ⊎-elim (λ (r : y ≡ z). absurd (out (rw (ap f (sym r) ∙ sym q) (Memᴰ·map f m)))) (λ k. apart-one f l a x y m k q) (List·Memᴰ·cases-cons j))
+    (List·Memᴰ·cases-cons i)
+
 -- ---- sessions that have gone on
 
 pub gone-self : (s : Content) → GoneOn s s

@@ -36,10 +36,6 @@ module _ (t : Entry → Bool) where
     abbrev pub Left : ℕ → List Entry
     Left i = leaveOut t (tab i f)
 
-    pub left-none : Left 0 ≡ []
-    unfolding tab leaveOut
-    left-none = refl
-
     -- entry i is taken out: nothing changes; it is left: it stands behind the others
     left-out : (i : ℕ) → t (f i) ≡ true → Left (i + 1) ≡ Left i
     left-out i h = ap (leaveOut t) (tab-more i f) ∙ left-snoc (tab i f) (f i) ∙ rw h (append-nil (Left i))

@@ -1,10 +1,13 @@
 // Has one name two contents?
+ghost use mathlib.Core.Bool.{true};
 ghost use mathlib.Core.List.{List·Memᴰ};
 ghost use mathlib.Core.Path.{_≡_};
 ghost use Prim.Native.Nat.{_<_, _≤_};
+ghost use lib.Dec.{eqb};
 ghost use lib.ListN.{getD};
 ghost use Rattle.causal.specs.Lists.{eqWords, tab};
 ghost use Rattle.causal.specs.Sets.{isIn};
+ghost use Rattle.causal.specs.Tests.{allBelow, both};
 ghost use Rattle.frame.specs.Entries.{idOf, sameContent};
 ghost use Rattle.frame.specs.Sessions.{idsOf, nobody};
 ghost use Rattle.frame.specs.declared.entry.Entry.{Entry};
@@ -53,6 +56,35 @@ fn alike(e: Entry, f: Entry) -> bool
     same_content(e, f)
 }
 
+// Have two entries one name and one content?
+fn same_entry(e: Entry, f: Entry) -> bool
+    ensures { λ r. ⌜ r ≡ both (eqb (idOf e) (idOf f)) (sameContent e f) ⌝ }
+{
+    if frame::entry::id_of(e) != frame::entry::id_of(f) {
+        return false;
+    }
+    same_content(e, f)
+}
+
+// For how many places do the two begin with the same entries? Copies of one session do, and nothing more is asked of those.
+pub fn same_front(first: [Entry; 16], n: usize, second: [Entry; 16], m: usize) -> usize
+    requires { ⌜ (n ≤ 16) × (m ≤ 16) ⌝ }
+    ensures { λ r. ⌜ (r ≤ n) × (r ≤ m) × (allBelow r (λ j. both (eqb (idOf (getD second j nobody)) (idOf (getD first j nobody))) (sameContent (getD second j nobody) (getD first j nobody))) ≡ true) ⌝ }
+{
+    let mut least = n;
+    if m < n {
+        least = m;
+    }
+    for i in 0..least {
+        let e = second[i];
+        let f = first[i];
+        if !same_entry(e, f) {
+            return i;
+        }
+    }
+    least
+}
+
 // Is the id of e in the set?
 pub fn among(e: Entry, ids: [u32; 8]) -> bool
     ensures { λ r. ⌜ r ≡ isIn ids (idOf e) ⌝ }
@@ -86,12 +118,19 @@ fn alike_known(e: Entry, ids: [u32; 8], own: [Entry; 16], count: usize) -> bool
     alike_each(e, own, count)
 }
 
-// Has no name of the second's own writes and of the first's, of which these are the ids, two contents?
-pub fn all_alike(second: [Entry; 16], m: usize, ids: [u32; 8], first: [Entry; 16], n: usize) -> bool
-    requires { ⌜ (m ≤ 16) × (n ≤ 16) × ((f : Entry) → List·Memᴰ f (tab n (λ i. getD first i nobody)) → idOf f < 256) × (ids ≡ idsOf (tab n (λ i. getD first i nobody))) ⌝ }
+// Has each name that both carry one content? `ids` are those of the first; the front of the second is known to be alike.
+pub fn all_alike(
+    second: [Entry; 16],
+    front: usize,
+    m: usize,
+    ids: [u32; 8],
+    first: [Entry; 16],
+    n: usize,
+) -> bool
+    requires { ⌜ (front ≤ m) × (m ≤ 16) × (n ≤ 16) × ((f : Entry) → List·Memᴰ f (tab n (λ i. getD first i nobody)) → idOf f < 256) × (ids ≡ idsOf (tab n (λ i. getD first i nobody))) × (allAlike (tab front (λ i. getD second i nobody)) (tab n (λ i. getD first i nobody)) ≡ true) ⌝ }
     ensures { λ r. ⌜ r ≡ allAlike (tab m (λ i. getD second i nobody)) (tab n (λ i. getD first i nobody)) ⌝ }
 {
-    for i in 0..m {
+    for i in front..m {
         let e = second[i];
         if !alike_known(e, ids, first, n) {
             return false;

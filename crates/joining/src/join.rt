@@ -1,12 +1,15 @@
 // The join of two sessions (02: of two errands).
 ghost use mathlib.Core.Bool.{true};
-ghost use mathlib.Core.List.{_++_};
+ghost use mathlib.Core.List.{[], _++_};
 ghost use mathlib.Core.Path.{_≡_};
 ghost use Prim.Native.Nat.{_+_, _≤_};
+ghost use lib.Dec.{eqb};
 ghost use lib.ListN.{getD, length};
+ghost use Rattle.causal.specs.Clocks.{join};
 ghost use Rattle.causal.specs.Lists.{tab};
-ghost use Rattle.causal.specs.Sets.{isIn};
-ghost use Rattle.frame.specs.Entries.{idOf};
+ghost use Rattle.causal.specs.Sets.{isIn, unite};
+ghost use Rattle.causal.specs.Tests.{allBelow, both};
+ghost use Rattle.frame.specs.Entries.{idOf, sameContent};
 ghost use Rattle.frame.specs.Frames.{ringOk};
 ghost use Rattle.frame.specs.Refusals.{codeOf, numberOf};
 ghost use Rattle.frame.specs.Sessions.{contentOf, filled, freshContent, leaveOut, nobody, sessionOf, sessionOk};
@@ -31,13 +34,13 @@ fn refused(refusal: Refusal) -> SessionsJoined
     }
 }
 
-// How many of the first `count` of own have ids that are not in the set?
-fn count_new(ids: [u32; 8], own: [Entry; 16], count: usize) -> usize
-    requires { ⌜ count ≤ 16 ⌝ }
+// How many of the first `count` of own have ids that are not in the set? Those in front have none.
+fn count_new(ids: [u32; 8], own: [Entry; 16], front: usize, count: usize) -> usize
+    requires { ⌜ (front ≤ count) × (count ≤ 16) × (leaveOut (λ e. isIn ids (idOf e)) (tab front (λ i. getD own i nobody)) ≡ []) ⌝ }
     ensures { λ r. ⌜ (r ≡ length (leaveOut (λ e. isIn ids (idOf e)) (tab count (λ i. getD own i nobody)))) × (r ≤ 16) ⌝ }
 {
     let mut k = 0;
-    for i in 0..count {
+    for i in front..count {
         let e = own[i];
         if !crate::alike::among(e, ids) {
             k = k + 1;
@@ -60,20 +63,36 @@ fn with_blanks(own: [Entry; 16], count: usize) -> [Entry; 16]
     row
 }
 
-// The first's own writes, then those of the second whose ids are not in the set, and blanks behind them.
+// The own writes of a session, and blanks behind them. They are taken out only where there are any: they are 1,280 bytes.
+fn own_row(s: Session) -> [Entry; 16]
+    requires { ⌜ s .count ≤ 16 ⌝ }
+    ensures { λ r. ⌜ r ≡ filled (contentOf s .own) ⌝ }
+{
+    let count = s.count;
+    if count == 0 {
+        let blank = frame::entry::blank_entry();
+        let blanks = [blank; 16];
+        return blanks;
+    }
+    let own = s.own;
+    with_blanks(own, count)
+}
+
+// The first's own writes, then those of the second whose ids are not in the set (none in front), and blanks behind them.
 fn carried(
     first: [Entry; 16],
     n: usize,
     ids: [u32; 8],
     second: [Entry; 16],
+    front: usize,
     m: usize,
 ) -> [Entry; 16]
-    requires { ⌜ (n ≤ 16) × (m ≤ 16) × (n + length (leaveOut (λ e. isIn ids (idOf e)) (tab m (λ i. getD second i nobody))) ≤ 16) ⌝ }
+    requires { ⌜ (n ≤ 16) × (front ≤ m) × (m ≤ 16) × (leaveOut (λ e. isIn ids (idOf e)) (tab front (λ i. getD second i nobody)) ≡ []) × (n + length (leaveOut (λ e. isIn ids (idOf e)) (tab m (λ i. getD second i nobody))) ≤ 16) ⌝ }
     ensures { λ r. ⌜ r ≡ filled (tab n (λ i. getD first i nobody) ++ leaveOut (λ e. isIn ids (idOf e)) (tab m (λ i. getD second i nobody))) ⌝ }
 {
     let mut row = with_blanks(first, n);
     let mut k = n;
-    for i in 0..m {
+    for i in front..m {
         let e = second[i];
         if !crate::alike::among(e, ids) {
             row[k] = e;
@@ -83,28 +102,34 @@ fn carried(
     row
 }
 
-// The join of two sound sessions.
-fn join_sound(offices: u32, plots: u32, first: Session, second: Session) -> SessionsJoined
-    requires { ⌜ (ringOk offices plots ≡ true) × (sessionOk offices plots (contentOf first) ≡ true) × (sessionOk offices plots (contentOf second) ≡ true) ⌝ }
-    ensures { λ r. ⌜ JoinPromise offices plots first second (codeOf (r .status)) (r .session) ⌝ }
+// With how many of the same own writes do two sessions begin? They are taken out only where both have any.
+fn front_of(first: Session, second: Session) -> usize
+    requires { ⌜ (first .count ≤ 16) × (second .count ≤ 16) ⌝ }
+    ensures { λ r. ⌜ (r ≤ first .count) × (r ≤ second .count) × (allBelow r (λ j. both (eqb (idOf (getD (second .own) j nobody)) (idOf (getD (first .own) j nobody))) (sameContent (getD (second .own) j nobody) (getD (first .own) j nobody))) ≡ true) ⌝ }
 {
-    let ids = frame::session::own_ids(first);
-    let ours = first.own;
-    let theirs = second.own;
-    if !crate::alike::all_alike(theirs, second.count, ids, ours, first.count) {
-        return refused(Refusal::Different);
+    let n = first.count;
+    let m = second.count;
+    if n == 0 {
+        return 0;
     }
-    let count = first.count + count_new(ids, theirs, second.count);
-    if count > 16 {
-        return refused(Refusal::SessionFull);
+    if m == 0 {
+        return 0;
     }
-    let own = carried(ours, first.count, ids, theirs, second.count);
-    let mine = first.clock;
-    let yours = second.clock;
-    let clock = causal::clock::join(mine, yours);
-    let known = first.read;
-    let more = second.read;
-    let read = causal::set::union(known, more);
+    let first_own = first.own;
+    let second_own = second.own;
+    crate::alike::same_front(first_own, n, second_own, m)
+}
+
+// The session that is handed back, with these own writes.
+fn accepted(first: Session, second: Session, count: usize, own: [Entry; 16]) -> SessionsJoined
+    ensures { λ r. ⌜ (codeOf (r .status) ≡ 0) × (r .session .offices ≡ first .offices) × (r .session .clock ≡ join (first .clock) (second .clock)) × (r .session .read ≡ unite (first .read) (second .read)) × (r .session .count ≡ count) × (r .session .own ≡ own) ⌝ }
+{
+    let first_clock = first.clock;
+    let second_clock = second.clock;
+    let clock = causal::clock::join(first_clock, second_clock);
+    let first_read = first.read;
+    let second_read = second.read;
+    let read = causal::set::union(first_read, second_read);
     let session = Session {
         offices: first.offices,
         clock,
@@ -116,6 +141,33 @@ fn join_sound(offices: u32, plots: u32, first: Session, second: Session) -> Sess
         status: Status::Accepted,
         session,
     }
+}
+
+// The join of two sound sessions.
+fn join_sound(offices: u32, plots: u32, first: Session, second: Session) -> SessionsJoined
+    requires { ⌜ (ringOk offices plots ≡ true) × (sessionOk offices plots (contentOf first) ≡ true) × (sessionOk offices plots (contentOf second) ≡ true) ⌝ }
+    ensures { λ r. ⌜ JoinPromise offices plots first second (codeOf (r .status)) (r .session) ⌝ }
+{
+    let n = first.count;
+    let m = second.count;
+    let front = front_of(first, second);
+    // All of the second is the first's: nothing is compared, and nothing is new.
+    if front == m {
+        let row = own_row(first);
+        return accepted(first, second, n, row);
+    }
+    let ids = frame::session::own_ids(first);
+    let first_own = first.own;
+    let second_own = second.own;
+    if !crate::alike::all_alike(second_own, front, m, ids, first_own, n) {
+        return refused(Refusal::Different);
+    }
+    let count = n + count_new(ids, second_own, front, m);
+    if count > 16 {
+        return refused(Refusal::SessionFull);
+    }
+    let own = carried(first_own, n, ids, second_own, front, m);
+    accepted(first, second, count, own)
 }
 
 // 02: one errand, two people.

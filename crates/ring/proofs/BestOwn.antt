@@ -11,8 +11,7 @@ use Rattle.causal.proofs.Tests.{false-true}
 use Rattle.frame.specs.Entries.{idOf, outranks}
 use Rattle.frame.specs.declared.entry.Entry.{Entry}
 use Rattle.frame.proofs.Entries.{EntryFacts, outranks-irrefl, outranks-trans}
-use Rattle.joining.proofs.Laws.{apart-one}
-use Rattle.joining.proofs.Orders.{Apart}
+use Rattle.joining.proofs.Orders.{Apart, apart-one}
 use Rattle.store.specs.Offices.{Found, None, Some, bestOwn, better, consider}
 use Rattle.store.proofs.Best.{Over, own-from, own-keeps, own-over}
 
@@ -61,7 +60,7 @@ module _ (n p : ℕ) (es fs : List Entry) (to : (e : Entry) → List·Memᴰ e e
       let s : e .serial ≡ f .serial =
       sym (E .0 .own-clock) ∙ (λ k. getD (t .0 k) (t .1 k) 0) ∙ F .0 .own-clock
       in
-      apart-one es apart e f i j (λ k. idOf (record { office = t .1 k; serial = s k; plot = e .plot; value = e .value; clock = e .clock; deps = e .deps }))
+      apart-one idOf es apart e f i j (λ k. idOf (record { office = t .1 k; serial = s k; plot = e .plot; value = e .value; clock = e .clock; deps = e .deps }))
 
   -- nothing that the other order considers outranks what is found
   under : (plot : ℕ) (b : Found) (h : Entry) → bestOwn plot b fs ≡ Some h → Over (bestOwn plot b es) h

@@ -4,7 +4,7 @@ use mathlib.Core.Path.{_∙_, _≡_, sym}
 use native.Mathlib.Omega.{arith}
 use Rattle.causal.specs.Lists.{tab}
 use Rattle.causal.specs.Tests.{allBelow}
-use Rattle.causal.proofs.Tests.{all-none, turn-done, turn-fails, turn-more}
+use Rattle.causal.proofs.Tests.{turn-done, turn-fails, turn-more}
 use Rattle.frame.proofs.OwnTurns.{ownsOf}
 use Rattle.joining.specs.Joins.{alike, allAlike, each}
 use Rattle.joining.proofs.Each.{each-below}
@@ -13,13 +13,14 @@ use Rattle.joining.proofs.alike.all_alike.Statement.{statement}
 use Rattle.joining.proofs.alike.all_alike.Tie as tie
 
 abbrev Inv-loop : tie.InvT-loop
-Inv-loop m ids first n second i₀ i = (i ≤ m) × (allBelow i (λ j. each (alike (ownsOf second j)) (tab n (ownsOf first))) ≡ true)
+Inv-loop front m ids first n second i₀ i = (i ≤ m) × (allBelow i (λ j. each (alike (ownsOf second j)) (tab n (ownsOf first))) ≡ true)
 
 abbrev μ-loop : tie.MeasureT-loop
-μ-loop m ids first n second i₀ i = m - i
+μ-loop front m ids first n second i₀ i = m - i
 
 loop-holds : tie.Need-loop-holds Inv-loop μ-loop
-loop-holds c = (omega arith, all-none _)
+unfolding allAlike
+loop-holds c = let z = c .args in let fs = tab (z .n) (ownsOf (z .first)) in (omega arith, sym (each-below (λ e. each (alike e) fs) (ownsOf (z .t1)) (z .front)) ∙ c .pre .5)
 
 mul-e : tie.Need-mul-e Inv-loop μ-loop
 mul-e c = search needs

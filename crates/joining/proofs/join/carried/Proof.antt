@@ -18,16 +18,16 @@ use Rattle.joining.proofs.join.carried.Statement.{statement}
 use Rattle.joining.proofs.join.carried.Tie as tie
 
 abbrev Inv-loop : tie.InvT-loop
-Inv-loop n ids m second row₀ k₀ i₀ row k i = (i ≤ m) × (k ≡ n + length (T.Left (λ e. isIn ids (idOf e)) (ownsOf second) i)) × (row ≡ filled (tab n (ownsOf row₀) ++ T.Left (λ e. isIn ids (idOf e)) (ownsOf second) i))
+Inv-loop n ids front m second row₀ k₀ i₀ row k i = (i ≤ m) × (k ≡ n + length (T.Left (λ e. isIn ids (idOf e)) (ownsOf second) i)) × (row ≡ filled (tab n (ownsOf row₀) ++ T.Left (λ e. isIn ids (idOf e)) (ownsOf second) i))
 
 abbrev μ-loop : tie.MeasureT-loop
-μ-loop n ids m second row₀ k₀ i₀ row k i = m - i
+μ-loop n ids front m second row₀ k₀ i₀ row k i = m - i
 
 with-blanks-requires : tie.Need-with-blanks-requires Inv-loop μ-loop
 with-blanks-requires c κs = search needs
 
 loop-holds : tie.Need-loop-holds Inv-loop μ-loop
-loop-holds c = let z = c .before .args in let t : Entry → Bool = λ e. isIn (z .ids) (idOf e) in let f = ownsOf (z .t4) in let none = T.left-none t f in let is = c .with-blanks .ensures in (omega arith, omega (arith, ap length none), is ∙ ap filled (sym (T.row-back (ownsOf (z .first)) (z .n) _ is) ∙ sym (append-nil _) ∙ ap (λ (l : List Entry). tab (z .n) (ownsOf (c .with-blanks .result)) ++ l) (sym none)))
+loop-holds c = let z = c .before .args in let t : Entry → Bool = λ e. isIn (z .ids) (idOf e) in let f = ownsOf (z .t4) in let none = c .before .pre .3 in let is = c .with-blanks .ensures in (omega arith, omega (arith, ap length none), is ∙ ap filled (sym (T.row-back (ownsOf (z .first)) (z .n) _ is) ∙ sym (append-nil _) ∙ ap (λ (l : List Entry). tab (z .n) (ownsOf (c .with-blanks .result)) ++ l) (sym none)))
 
 mul-e : tie.Need-mul-e Inv-loop μ-loop
 mul-e c = search needs
@@ -39,13 +39,13 @@ among-requires : tie.Need-among-requires Inv-loop μ-loop
 among-requires c κs = search needs
 
 mul-row : tie.Need-mul-row Inv-loop μ-loop
-mul-row c = let z = c .before .before .before .before .before .before .args in let l = c .before .before .before .before .loop in let row = c .before .before .before .before .before .with-blanks .result in let t : Entry → Bool = λ e. isIn (z .ids) (idOf e) in let f = ownsOf (z .t4) in let es = tab (z .n) (ownsOf row) in let place : l .k ≡ length es + length (T.Left t f (l .i)) = omega (arith, l .inv .1, tab-length (z .n) (ownsOf row)) in let r = c .before .among .ensures in omega (arith, T.row-room t f (l .i) _ r es (l .k) (l .row) place (l .inv .2) (z .m) (c .if1 .taken) (omega arith) (omega (arith, tab-length (z .n) (ownsOf row), c .before .before .before .before .before .before .pre .2)))
+mul-row c = let z = c .before .before .before .before .before .before .args in let l = c .before .before .before .before .loop in let row = c .before .before .before .before .before .with-blanks .result in let t : Entry → Bool = λ e. isIn (z .ids) (idOf e) in let f = ownsOf (z .t4) in let es = tab (z .n) (ownsOf row) in let place : l .k ≡ length es + length (T.Left t f (l .i)) = omega (arith, l .inv .1, tab-length (z .n) (ownsOf row)) in let r = c .before .among .ensures in omega (arith, T.row-room t f (l .i) _ r es (l .k) (l .row) place (l .inv .2) (z .m) (c .if1 .taken) (omega arith) (omega (arith, tab-length (z .n) (ownsOf row), c .before .before .before .before .before .before .pre .4)))
 
 array-set-from-row : tie.Need-array-set-from-row Inv-loop μ-loop
-array-set-from-row c = let z = c .before .before .before .before .before .before .args in let l = c .before .before .before .before .loop in let row = c .before .before .before .before .before .with-blanks .result in let t : Entry → Bool = λ e. isIn (z .ids) (idOf e) in let f = ownsOf (z .t4) in let es = tab (z .n) (ownsOf row) in let place : l .k ≡ length es + length (T.Left t f (l .i)) = omega (arith, l .inv .1, tab-length (z .n) (ownsOf row)) in let r = c .before .among .ensures in T.row-room t f (l .i) _ r es (l .k) (l .row) place (l .inv .2) (z .m) (c .if1 .taken) (omega arith) (omega (arith, tab-length (z .n) (ownsOf row), c .before .before .before .before .before .before .pre .2))
+array-set-from-row c = let z = c .before .before .before .before .before .before .args in let l = c .before .before .before .before .loop in let row = c .before .before .before .before .before .with-blanks .result in let t : Entry → Bool = λ e. isIn (z .ids) (idOf e) in let f = ownsOf (z .t4) in let es = tab (z .n) (ownsOf row) in let place : l .k ≡ length es + length (T.Left t f (l .i)) = omega (arith, l .inv .1, tab-length (z .n) (ownsOf row)) in let r = c .before .among .ensures in T.row-room t f (l .i) _ r es (l .k) (l .row) place (l .inv .2) (z .m) (c .if1 .taken) (omega arith) (omega (arith, tab-length (z .n) (ownsOf row), c .before .before .before .before .before .before .pre .4))
 
 add-k : tie.Need-add-k Inv-loop μ-loop
-add-k c = let z = c .before .before .before .before .before .before .args in let l = c .before .before .before .before .loop in let row = c .before .before .before .before .before .with-blanks .result in let t : Entry → Bool = λ e. isIn (z .ids) (idOf e) in let f = ownsOf (z .t4) in let es = tab (z .n) (ownsOf row) in let place : l .k ≡ length es + length (T.Left t f (l .i)) = omega (arith, l .inv .1, tab-length (z .n) (ownsOf row)) in let r = c .before .among .ensures in omega (arith, T.row-room t f (l .i) _ r es (l .k) (l .row) place (l .inv .2) (z .m) (c .if1 .taken) (omega arith) (omega (arith, tab-length (z .n) (ownsOf row), c .before .before .before .before .before .before .pre .2)))
+add-k c = let z = c .before .before .before .before .before .before .args in let l = c .before .before .before .before .loop in let row = c .before .before .before .before .before .with-blanks .result in let t : Entry → Bool = λ e. isIn (z .ids) (idOf e) in let f = ownsOf (z .t4) in let es = tab (z .n) (ownsOf row) in let place : l .k ≡ length es + length (T.Left t f (l .i)) = omega (arith, l .inv .1, tab-length (z .n) (ownsOf row)) in let r = c .before .among .ensures in omega (arith, T.row-room t f (l .i) _ r es (l .k) (l .row) place (l .inv .2) (z .m) (c .if1 .taken) (omega arith) (omega (arith, tab-length (z .n) (ownsOf row), c .before .before .before .before .before .before .pre .4)))
 
 add-i : tie.Need-add-i Inv-loop μ-loop
 add-i c = search needs
@@ -54,7 +54,7 @@ loop-less : tie.Need-loop-less Inv-loop μ-loop
 loop-less c = search needs
 
 loop-again : tie.Need-loop-again Inv-loop μ-loop
-loop-again c = let z = c .before .before .before .before .before .before .args in let l = c .before .before .before .before .loop in let row = c .before .before .before .before .before .with-blanks .result in let t : Entry → Bool = λ e. isIn (z .ids) (idOf e) in let f = ownsOf (z .t4) in let es = tab (z .n) (ownsOf row) in let place : l .k ≡ length es + length (T.Left t f (l .i)) = omega (arith, l .inv .1, tab-length (z .n) (ownsOf row)) in let r = c .before .among .ensures in (search needs, ⊎-elim (λ w. w .2 ∙ T.place-more t f (l .i) _ r es (l .k) (l .row) place (l .inv .2) (w .0 .taken) ∙ ap (λ (j : ℕ). j + length (T.Left t f (l .i + 1))) (tab-length (z .n) (ownsOf row))) (λ w. w .2 ∙ T.place-same t f (l .i) _ r es (l .k) (l .row) place (l .inv .2) (w .0 .left) ∙ ap (λ (j : ℕ). j + length (T.Left t f (l .i + 1))) (tab-length (z .n) (ownsOf row))) (c .if1 .came), ⊎-elim (λ w. w .1 ∙ T.row-more t f (l .i) _ r es (l .k) (l .row) place (l .inv .2) (w .0 .taken) (T.row-room t f (l .i) _ r es (l .k) (l .row) place (l .inv .2) (z .m) (w .0 .taken) (omega arith) (omega (arith, tab-length (z .n) (ownsOf row), c .before .before .before .before .before .before .pre .2)))) (λ w. w .1 ∙ T.row-same t f (l .i) _ r es (l .k) (l .row) place (l .inv .2) (w .0 .left)) (c .if1 .came))
+loop-again c = let z = c .before .before .before .before .before .before .args in let l = c .before .before .before .before .loop in let row = c .before .before .before .before .before .with-blanks .result in let t : Entry → Bool = λ e. isIn (z .ids) (idOf e) in let f = ownsOf (z .t4) in let es = tab (z .n) (ownsOf row) in let place : l .k ≡ length es + length (T.Left t f (l .i)) = omega (arith, l .inv .1, tab-length (z .n) (ownsOf row)) in let r = c .before .among .ensures in (search needs, ⊎-elim (λ w. w .2 ∙ T.place-more t f (l .i) _ r es (l .k) (l .row) place (l .inv .2) (w .0 .taken) ∙ ap (λ (j : ℕ). j + length (T.Left t f (l .i + 1))) (tab-length (z .n) (ownsOf row))) (λ w. w .2 ∙ T.place-same t f (l .i) _ r es (l .k) (l .row) place (l .inv .2) (w .0 .left) ∙ ap (λ (j : ℕ). j + length (T.Left t f (l .i + 1))) (tab-length (z .n) (ownsOf row))) (c .if1 .came), ⊎-elim (λ w. w .1 ∙ T.row-more t f (l .i) _ r es (l .k) (l .row) place (l .inv .2) (w .0 .taken) (T.row-room t f (l .i) _ r es (l .k) (l .row) place (l .inv .2) (z .m) (w .0 .taken) (omega arith) (omega (arith, tab-length (z .n) (ownsOf row), c .before .before .before .before .before .before .pre .4)))) (λ w. w .1 ∙ T.row-same t f (l .i) _ r es (l .k) (l .row) place (l .inv .2) (w .0 .left)) (c .if1 .came))
 
 returns : tie.Need-returns Inv-loop μ-loop
 returns c = let z = c .before .before .before .args in let l = c .before .loop in let t : Entry → Bool = λ e. isIn (z .ids) (idOf e) in let f = ownsOf (z .t4) in let e : l .i ≡ z .m = omega arith in l .inv .2 ∙ ap (λ (j : ℕ). filled (tab (z .n) (ownsOf (c .before .before .with-blanks .result)) ++ T.Left t f j)) e ∙ ap (λ (es : List Entry). filled (es ++ T.Left t f (z .m))) (T.row-back (ownsOf (z .first)) (z .n) _ (c .before .before .with-blanks .ensures))

@@ -14,13 +14,13 @@ use Rattle.joining.proofs.join.count_new.Statement.{statement}
 use Rattle.joining.proofs.join.count_new.Tie as tie
 
 abbrev Inv-loop : tie.InvT-loop
-Inv-loop ids count own k₀ i₀ k i = (i ≤ count) × (k ≡ length (T.Left (λ e. isIn ids (idOf e)) (ownsOf own) i))
+Inv-loop ids front count own k₀ i₀ k i = (i ≤ count) × (k ≡ length (T.Left (λ e. isIn ids (idOf e)) (ownsOf own) i))
 
 abbrev μ-loop : tie.MeasureT-loop
-μ-loop ids count own k₀ i₀ k i = count - i
+μ-loop ids front count own k₀ i₀ k i = count - i
 
 loop-holds : tie.Need-loop-holds Inv-loop μ-loop
-loop-holds c = let z = c .args in (omega arith, sym (ap length (T.left-none (λ e. isIn (z .ids) (idOf e)) (ownsOf (z .t2)))))
+loop-holds c = (omega arith, sym (ap length (c .pre .2)))
 
 mul-e : tie.Need-mul-e Inv-loop μ-loop
 mul-e c = search needs
