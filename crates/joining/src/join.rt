@@ -170,6 +170,23 @@ fn join_sound(offices: u32, plots: u32, first: Session, second: Session) -> Sess
     accepted(first, second, count, own)
 }
 
+// Is a session sound? frame::session::session_ok with callers here would be compiled into none of them: the writing of a token would be slower.
+fn sound(s: Session, offices: u32, plots: u32) -> bool
+    ensures { λ r. ⌜ r ≡ sessionOk offices plots (contentOf s) ⌝ }
+{
+    let count = s.count;
+    let clock = s.clock;
+    let read = s.read;
+    if !frame::session::head_ok(s.offices, count, clock, read, offices) {
+        return false;
+    }
+    if count == 0 {
+        return true;
+    }
+    let own = s.own;
+    frame::session::owns_ok(offices, plots, read, own, count)
+}
+
 // 02: one errand, two people.
 pub fn join_sessions(offices: u32, plots: u32, first: Session, second: Session) -> SessionsJoined
     ensures { λ r. ⌜ JoinPromise offices plots first second (codeOf (r .status)) (r .session) ⌝ }
@@ -177,10 +194,10 @@ pub fn join_sessions(offices: u32, plots: u32, first: Session, second: Session) 
     if !frame::entry::ring_ok(offices, plots) {
         return refused(Refusal::Settings);
     }
-    if !frame::session::session_ok(first, offices, plots) {
+    if !sound(first, offices, plots) {
         return refused(Refusal::Content);
     }
-    if !frame::session::session_ok(second, offices, plots) {
+    if !sound(second, offices, plots) {
         return refused(Refusal::Content);
     }
     join_sound(offices, plots, first, second)

@@ -16,28 +16,28 @@ returns : tie.Need-returns
 unfolding numberOf
 returns c = let z = c .before .before .before .args in let n = z .offices in let p = z .plots in C.refused n p (z .first) (z .second) 0 _ _ (C.no-ring n p (z .first) (z .second) (sym (c .before .before .ring-ok .ensures) ∙ not-true _ (c .before .if1 .taken))) (c .refused .ensures .0) (c .refused .ensures .1)
 
-session-ok-requires : tie.Need-session-ok-requires
-session-ok-requires c κs = search needs
+sound-requires : tie.Need-sound-requires
+sound-requires c κs = search needs
 
 refused-requires-2 : tie.Need-refused-requires-2
 refused-requires-2 c κs = search needs
 
 returns-2 : tie.Need-returns-2
 unfolding numberOf
-returns-2 c = let z = c .before .before .before .before .before .args in let n = z .offices in let p = z .plots in C.refused n p (z .first) (z .second) 2 _ _ (C.first-unsound n p (z .first) (z .second) (sym (c .before .before .before .before .ring-ok .ensures) ∙ not-false _ (c .before .before .before .if1 .left)) (sym (c .before .before .session-ok .ensures) ∙ not-true _ (c .before .if2 .taken))) (c .refused2 .ensures .0) (c .refused2 .ensures .1)
+returns-2 c = let z = c .before .before .before .before .before .args in let n = z .offices in let p = z .plots in C.refused n p (z .first) (z .second) 2 _ _ (C.first-unsound n p (z .first) (z .second) (sym (c .before .before .before .before .ring-ok .ensures) ∙ not-false _ (c .before .before .before .if1 .left)) (sym (c .before .before .sound .ensures) ∙ not-true _ (c .before .if2 .taken))) (c .refused2 .ensures .0) (c .refused2 .ensures .1)
 
-session-ok-requires-2 : tie.Need-session-ok-requires-2
-session-ok-requires-2 c κs = search needs
+sound-requires-2 : tie.Need-sound-requires-2
+sound-requires-2 c κs = search needs
 
 refused-requires-3 : tie.Need-refused-requires-3
 refused-requires-3 c κs = search needs
 
 returns-3 : tie.Need-returns-3
 unfolding numberOf
-returns-3 c = let z = c .before .before .before .before .before .before .before .args in let n = z .offices in let p = z .plots in C.refused n p (z .first) (z .second) 2 _ _ (C.second-unsound n p (z .first) (z .second) (sym (c .before .before .before .before .before .before .ring-ok .ensures) ∙ not-false _ (c .before .before .before .before .before .if1 .left)) (sym (c .before .before .before .before .session-ok .ensures) ∙ not-false _ (c .before .before .before .if2 .left)) (sym (c .before .before .session-ok2 .ensures) ∙ not-true _ (c .before .if3 .taken))) (c .refused3 .ensures .0) (c .refused3 .ensures .1)
+returns-3 c = let z = c .before .before .before .before .before .before .before .args in let n = z .offices in let p = z .plots in C.refused n p (z .first) (z .second) 2 _ _ (C.second-unsound n p (z .first) (z .second) (sym (c .before .before .before .before .before .before .ring-ok .ensures) ∙ not-false _ (c .before .before .before .before .before .if1 .left)) (sym (c .before .before .before .before .sound .ensures) ∙ not-false _ (c .before .before .before .if2 .left)) (sym (c .before .before .sound2 .ensures) ∙ not-true _ (c .before .if3 .taken))) (c .refused3 .ensures .0) (c .refused3 .ensures .1)
 
 join-sound-requires : tie.Need-join-sound-requires
-join-sound-requires c κs = (sym (c .before .before .before .before .before .ring-ok .ensures) ∙ not-false _ (c .before .before .before .before .if1 .left), sym (c .before .before .before .session-ok .ensures) ∙ not-false _ (c .before .before .if2 .left), sym (c .before .session-ok2 .ensures) ∙ not-false _ (c .if3 .left))
+join-sound-requires c κs = (sym (c .before .before .before .before .before .ring-ok .ensures) ∙ not-false _ (c .before .before .before .before .if1 .left), sym (c .before .before .before .sound .ensures) ∙ not-false _ (c .before .before .if2 .left), sym (c .before .sound2 .ensures) ∙ not-false _ (c .if3 .left))
 
 returns-4 : tie.Need-returns-4
 returns-4 c = c .join-sound .ensures
@@ -49,10 +49,10 @@ join-sessions-spec =
     ring-ok-requires
     refused-requires
     returns
-    session-ok-requires
+    sound-requires
     refused-requires-2
     returns-2
-    session-ok-requires-2
+    sound-requires-2
     refused-requires-3
     returns-3
     join-sound-requires
