@@ -222,6 +222,7 @@ fn main() -> ExitCode {
     queues(&mut random, &mut report);
     ACCEPTED.iter().for_each(|name| report.met(name));
     joint::ACCEPTED.iter().for_each(|name| report.met(&format!("read_joint: {name}")));
+    swapped::ALIKE.iter().for_each(|name| report.met(&format!("join: {name}")));
     for (call, refusals) in OUTCOMES {
         refusals.iter().for_each(|refusal| report.met(&format!("{call}: refused {refusal}")));
     }

@@ -345,9 +345,9 @@ struct burial_token_read burial_fresh_session(uint32_t offices);
  * What is joined has read all that either has read, its clock has the greater of the two numbers
  * at each place, and it carries the entries of the first and then those of the second that are not
  * among them, each in their order; own[count] to own[15] are zeros. So it knows what either knew:
- * in a ring that keeps the rules of section 3 no later reading hands back less than either of the
- * two had read or written, and what it writes ranks above all of that. With the two swapped only
- * the order of its entries may be another.
+ * in a ring that keeps the rules of section 3 none of its readings hands back less than either of
+ * the two had read or written, and what it writes ranks above all of that. With the two swapped
+ * only the order of its entries may be another.
  * The two that are given stay as they are, and may go on too. What stands behind the entries that
  * they carry does not count.
  * Refusals: BURIAL_BAD_SETTINGS (offices not 2 to 8, plots not 1 to 64), BURIAL_BAD_CONTENT (one

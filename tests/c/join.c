@@ -125,7 +125,7 @@ static void test_swapped(void)
     end("with the two swapped only the order of the entries is another");
 }
 
-/* Each to what it was joined with, whichever comes first. */
+/* Joined to this session, whichever comes first. */
 static void expect_joined(const struct burial_session *first, const struct burial_session *second,
                           const struct burial_session *expected)
 {

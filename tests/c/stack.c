@@ -13,7 +13,7 @@ static ucontext_t here, there;
 static void (*called)(void);
 
 static uint32_t store[STORE], row[ROW], token[BURIAL_TOKEN_WORDS], answer[BURIAL_ANSWER_WORDS], plots[BURIAL_JOINT];
-static struct burial_session session;
+static struct burial_session session, other;
 static size_t token_words, frame_words;
 static struct burial_frame frame;
 
@@ -41,6 +41,7 @@ static size_t need_of(void (*call)(void))
 static void settings(void) { expect(burial_store_settings(store, STORE).refusal == BURIAL_OK); }
 static void fresh(void) { expect(burial_fresh_session(RING).refusal == BURIAL_OK); }
 static void join(void) { expect(burial_join_sessions(RING, PLOTS, session, session).refusal == BURIAL_OK); }
+static void join_other(void) { expect(burial_join_sessions(RING, PLOTS, session, other).refusal == BURIAL_OK); }
 static void write_lent(void) { expect(burial_lent_write(store, STORE, &session, 1, 1, row, ROW).refusal == BURIAL_OK); }
 static void write_value(void) { expect(burial_write(store, STORE, session, 1, 1, row, ROW).refusal == BURIAL_OK); }
 static void read_lent(void) { expect(burial_lent_read_plot(store, STORE, &session, 1).refusal == BURIAL_OK); }
@@ -77,13 +78,17 @@ static void frame_bytes(void)
 }
 
 /* A session that carries 14 entries of office 0; the frame of the first of them is heard at office 1. Its
- * joint reading hands back all of them. */
+ * joint reading hands back all of them. The other carries two of office 1. */
 static void lay(void)
 {
     burial_open_office(RING, 0, PLOTS, store, STORE);
     session = burial_fresh_session(RING).session;
     for (uint32_t i = 0; i < 14; i++)
         expect(burial_lent_write(store, STORE, &session, 2 + i, i, row, ROW).refusal == BURIAL_OK);
+    burial_open_office(RING, 1, PLOTS, store, STORE);
+    other = burial_fresh_session(RING).session;
+    for (uint32_t i = 0; i < 2; i++)
+        expect(burial_lent_write(store, STORE, &other, 2 + i, i, row, ROW).refusal == BURIAL_OK);
     burial_open_office(RING, 1, PLOTS, store, STORE);
     struct burial_session visitor = session;
     expect(burial_lent_write(store, STORE, &visitor, 60, 1, row, ROW).refusal == BURIAL_OK);
@@ -96,7 +101,7 @@ static void lay(void)
 int main(void)
 {
     void (*const calls[])(void) = {
-        settings, fresh, join, hear, frame_in, frame_bytes, frame_out, token_out, token_in, joint_lent, joint_value,
+        settings, fresh, join, join_other, hear, frame_in, frame_bytes, frame_out, token_out, token_in, joint_lent, joint_value,
         read_lent, read_value, write_value, write_lent,
     };
     size_t most = 0;

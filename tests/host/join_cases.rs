@@ -3,7 +3,7 @@
 
 use crate::frame_cases::some_clock;
 use crate::joined::Given;
-use crate::model::entry::{has, ids, insert, union, Entry, IdSet, SERIALS};
+use crate::model::entry::{has, ids, insert, remove, union, Entry, IdSet, SERIALS};
 use crate::model::session::Session;
 use crate::random::Random;
 use crate::session_cases::{random_session, some_new_entry};
@@ -131,7 +131,7 @@ fn other(random: &mut Random, number: u32, bound: u32) -> u32 {
 /// Another dependency, or one less; not the entry itself.
 fn other_deps(random: &mut Random, entry: &mut Entry, offices: u32) {
     let mut others = all_ids(offices);
-    others[entry.office as usize] &= !(1 << (entry.serial - 1));
+    remove(&mut others, entry.office, entry.serial);
     let others: Vec<(u32, u32)> = ids(others).collect();
     let (office, serial) = random.pick(&others);
     entry.deps[office as usize] ^= 1 << (serial - 1);

@@ -81,16 +81,17 @@ impl Given {
     }
 }
 
-/// The answer with all that is carried in the order of ids.
-fn in_order(&(refusal, mut session): &Answer) -> Answer {
+/// The session with all that it carries in the order of ids.
+pub fn in_order(mut session: Session) -> Session {
     session.own.sort_by_key(Entry::id);
-    (refusal, session)
+    session
 }
 
 /// The archive's answer, once it is compared, and that to the two swapped.
 pub fn join(report: &mut Report, given: &Given) -> [Answer; 2] {
     let ways = [given.compare(report), given.swapped().compare(report)];
-    let same = in_order(&ways[0]) == in_order(&ways[1]);
+    let [one, other] = ways.map(|(refusal, session)| (refusal, in_order(session)));
+    let same = one == other;
     report.check("join: swapped, the same but for the order", same, || format!("{ways:?}\n  {given:?}"));
     ways
 }

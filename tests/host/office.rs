@@ -80,7 +80,11 @@ const OUTCOMES: &[(&str, &[&str])] = &[
     ("pasts", &["lack only what an own entry outranks", "no chain comes back"]),
     ("token", &["the session itself"]),
     ("join", &joined::ACCEPTED),
-    ("join", &["accepted", "refused 7"]),
+    (
+        "join",
+        &["accepted", "refused 7", "swapped, the same but for the order", "in a run no entry is refused"],
+    ),
+    ("join", &swapped::ALIKE),
 ];
 
 fn main() -> ExitCode {

@@ -2,7 +2,7 @@
 
 use crate::frame_spoils::{at_least, Spoil, OF_ENTRY};
 use crate::model::codec::Frame;
-use crate::model::entry::{insert, Entry, IdSet};
+use crate::model::entry::{insert, remove};
 use crate::model::session::Session;
 use crate::random::Random;
 
@@ -64,16 +64,12 @@ fn repeat_name(random: &mut Random, session: &mut Session, plots: u32) {
     session.own.iter_mut().zip(0..).for_each(|(entry, number)| entry.value = number);
 }
 
-fn forget(set: &mut IdSet, entry: &Entry) {
-    set[entry.office as usize] &= !(1 << (entry.serial - 1));
-}
-
 /// An entry depends on one that is carried after it and was not read.
 fn depend_on_later(random: &mut Random, session: &mut Session, _: u32) {
     let (low, high) = two_places(random, session);
     let later = session.own[high];
     insert(&mut session.own[low].deps, later.office, later.serial);
-    forget(&mut session.read, &later);
+    remove(&mut session.read, later.office, later.serial);
 }
 
 /// An entry depends on one that was not read, and that the session no longer carries.
@@ -81,7 +77,7 @@ fn depend_on_unread(random: &mut Random, session: &mut Session, _: u32) {
     session.count -= 1;
     let lost = session.own[session.count];
     insert(&mut session.own[random.index(session.count)].deps, lost.office, lost.serial);
-    forget(&mut session.read, &lost);
+    remove(&mut session.read, lost.office, lost.serial);
 }
 
 /// Rules of a session that its entries do not break by themselves.

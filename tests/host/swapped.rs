@@ -3,6 +3,7 @@
 
 use crate::archive::lent::{read_joint, read_plot, write};
 use crate::frame_cases::frames;
+use crate::joined::in_order;
 use crate::model::session::Session;
 use crate::report::Report;
 
@@ -12,9 +13,26 @@ pub struct Swapped<'a> {
     pub store: &'a [u32],
 }
 
+/// What has to be compared at least once with what is carried in two orders.
+pub const ALIKE: [&str; 3] =
+    ["in two orders, read_plot alike", "in two orders, read_joint alike", "in two orders, write alike"];
+
+/// A write on this plot: the refusal, and the frames that are sent.
+fn write_on(store: &mut [u32], session: &mut Session, plot: u32) -> (u32, Vec<Vec<u32>>) {
+    let mut row = [0; 4_600];
+    let (refusal, words) = write(store, session, plot, 7, &mut row);
+    (refusal, sent(&row[..words], session.offices))
+}
+
 impl Swapped<'_> {
-    /// Each makes a call, at a copy of the office: reply, store, and the session's clock and read ids are the
-    /// same.
+    /// Where the two carry in one order, as a session joined with itself, there is less to compare.
+    fn name(&self, call: &str) -> String {
+        let orders = if self.sessions[0].own == self.sessions[1].own { "one order" } else { "two orders" };
+        format!("join: in {orders}, {call} alike")
+    }
+
+    /// Each makes a call, at a copy of the office: reply and store are the same, and the session but for the
+    /// order of what it carries.
     fn compare<R: PartialEq>(
         &self,
         report: &mut Report,
@@ -24,10 +42,9 @@ impl Swapped<'_> {
         let [one, other] = self.sessions.map(|mut session| {
             let mut store = self.store.to_vec();
             let reply = made(&mut store, &mut session);
-            (reply, store, session.clock, session.read)
+            (reply, store, in_order(session))
         });
-        report
-            .check(&format!("join: swapped, {call} alike"), one == other, || format!("{:?}", self.sessions));
+        report.check(&self.name(call), one == other, || format!("{:?}", self.sessions));
     }
 
     /// The plots of all that is carried are read jointly.
@@ -38,11 +55,9 @@ impl Swapped<'_> {
             let mut answer = [0; 48];
             (read_joint(store, session, &plots, &mut answer), answer)
         });
-        self.compare(report, "write", |store, session| {
-            let mut row = [0; 4_600];
-            let (refusal, words) = write(store, session, plot, 7, &mut row);
-            (refusal, sent(&row[..words], session.offices))
-        });
+        let refusal = write_on(&mut self.store.to_vec(), &mut self.sessions[0].clone(), plot).0;
+        let call = if refusal == 0 { "write" } else { "refused write" };
+        self.compare(report, call, |store, session| write_on(store, session, plot));
     }
 }
 

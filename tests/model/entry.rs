@@ -52,6 +52,10 @@ pub fn insert(set: &mut IdSet, office: u32, serial: u32) {
     set[office as usize] |= bit(serial);
 }
 
+pub fn remove(set: &mut IdSet, office: u32, serial: u32) {
+    set[office as usize] &= !bit(serial);
+}
+
 pub fn count(set: &IdSet) -> usize {
     set.iter().map(|word| word.count_ones() as usize).sum()
 }

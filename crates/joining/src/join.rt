@@ -34,7 +34,7 @@ fn refused(refusal: Refusal) -> SessionsJoined
     }
 }
 
-// How many of the first `count` of own have ids that are not in the set? Those in front have none.
+// How many of the first `count` of own have ids that are not in the set? Those of the first `front` are all in it.
 fn count_new(ids: [u32; 8], own: [Entry; 16], front: usize, count: usize) -> usize
     requires { ⌜ (front ≤ count) × (count ≤ 16) × (leaveOut (λ e. isIn ids (idOf e)) (tab front (λ i. getD own i nobody)) ≡ []) ⌝ }
     ensures { λ r. ⌜ (r ≡ length (leaveOut (λ e. isIn ids (idOf e)) (tab count (λ i. getD own i nobody)))) × (r ≤ 16) ⌝ }
@@ -78,7 +78,7 @@ fn own_row(s: Session) -> [Entry; 16]
     with_blanks(own, count)
 }
 
-// The first's own writes, then those of the second whose ids are not in the set (none in front), and blanks behind them.
+// The first's own writes, then those of the second whose ids are not in the set, and blanks behind them. The ids of the first `front` are all in it.
 fn carried(
     first: [Entry; 16],
     n: usize,
@@ -151,7 +151,7 @@ fn join_sound(offices: u32, plots: u32, first: Session, second: Session) -> Sess
     let n = first.count;
     let m = second.count;
     let front = front_of(first, second);
-    // All of the second is the first's: nothing is compared, and nothing is new.
+    // All of the second is the first's: nothing more is compared, and nothing is new.
     if front == m {
         let row = own_row(first);
         return accepted(first, second, n, row);

@@ -22,8 +22,8 @@ pub data Without (Q : ℕ → Type 0) : List ℕ → List ℕ → Type 0 where
 abbrev pub Picked : World → ℕ → List ℕ → List ℕ → Type 0
 Picked W C own ds = Without (W .held C) own ds
 
--- s is the join of a and b: it has read what either has read, carries what a wrote, then what b wrote and a did not (rest), and has no past but
--- theirs
+-- s is the join of a and b: it has read what either has read, carries what a wrote, then what b wrote but for some that a wrote (rest), and has no
+-- past but theirs
 pub record Joins (a b s : IdSession) (rest : List ℕ) : Type 0 where
   pub reads-from : (r : ℕ) → s .reads r → a .reads r ⊎ b .reads r
   pub reads-first : (r : ℕ) → a .reads r → s .reads r

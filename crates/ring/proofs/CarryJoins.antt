@@ -15,6 +15,7 @@ use Rattle.frame.specs.Frames.{ringOk}
 use Rattle.frame.specs.Sessions.{Content, SaneContent, sessionOk}
 use Rattle.frame.proofs.Entries.{ring-facts}
 use Rattle.joining.specs.Joins.{allAlike, joinCode, joined}
+use Rattle.joining.specs.Laws.{Sane}
 use Rattle.joining.specs.Orders.{Permuted, Reordered}
 use Rattle.joining.proofs.Each.{all-alike-at, all-alike-by, all-alike-swap}
 use Rattle.joining.proofs.Laws.{carried-first, carried-from, carried-second, join-laws, joinable, joined-apart}
@@ -22,7 +23,7 @@ use Rattle.joining.proofs.Orders.{apart-permuted, permuted-from, permuted-lengt
 use Rattle.ring.specs.Carrying.{TwoOrders}
 use Rattle.ring.proofs.Carrying.{ok-same}
 
-module _ (s t c : Content) (T : TwoOrders s t) (C : SaneContent c) where
+module _ (s t c : Content) (T : TwoOrders s t) where
   -- what agrees with the one agrees with the other
   alike-same : allAlike (c .own) (s .own) ≡ allAlike (c .own) (t .own)
   alike-same =
@@ -30,7 +31,7 @@ module _ (s t c : Content) (T : TwoOrders s t) (C : SaneContent c) where
       (λ h. all-alike-by (c .own) (t .own) (λ e f i j q. all-alike-at (c .own) (s .own) h e f i (permuted-from (T .order .own) f j) q))
       (λ h. all-alike-by (c .own) (s .own) (λ e f i j q. all-alike-at (c .own) (t .own) h e f i (permuted-to (T .order .own) f j) q))
 
-  module _ (m q : ℕ) where
+  module _ (m q : ℕ) (C : Sane m q c) where
     -- that all three are sound, and agree
     record Fine : Type 0 where
       pub m8 : m ≤ 8
@@ -43,28 +44,28 @@ module _ (s t c : Content) (T : TwoOrders s t) (C : SaneContent c) where
     module _ (F : Fine) where
       own-first : Permuted (joined s c .own) (joined t c .own)
       own-first =
-          apart-permuted (joined s c .own) (joined t c .own) (joined-apart m q (F .m8) s c (T .sane-first) C (F .os) (F .oc))
-          (joined-apart m q (F .m8) t c (T .sane-second) C (F .ot) (F .oc))
+          apart-permuted (joined s c .own) (joined t c .own) (joined-apart m q (F .m8) s c (T .sane-first) (C (F .oc)) (F .os) (F .oc))
+          (joined-apart m q (F .m8) t c (T .sane-second) (C (F .oc)) (F .ot) (F .oc))
           (λ e i.
           ⊎-elim (λ j. carried-first t c e (permuted-to (T .order .own) e j))
-          (λ j. carried-second m q (F .m8) t c (T .sane-second) C (F .ot) (F .oc) (F .alike-t) e j) (carried-from s c e i))
+          (λ j. carried-second m q (F .m8) t c (T .sane-second) (C (F .oc)) (F .ot) (F .oc) (F .alike-t) e j) (carried-from s c e i))
           (λ e i.
           ⊎-elim (λ j. carried-first s c e (permuted-from (T .order .own) e j))
-          (λ j. carried-second m q (F .m8) s c (T .sane-first) C (F .os) (F .oc) (F .alike-s) e j) (carried-from t c e i))
+          (λ j. carried-second m q (F .m8) s c (T .sane-first) (C (F .oc)) (F .os) (F .oc) (F .alike-s) e j) (carried-from t c e i))
 
       own-second : Permuted (joined c s .own) (joined c t .own)
       own-second =
-          apart-permuted (joined c s .own) (joined c t .own) (joined-apart m q (F .m8) c s C (T .sane-first) (F .oc) (F .os))
-          (joined-apart m q (F .m8) c t C (T .sane-second) (F .oc) (F .ot))
+          apart-permuted (joined c s .own) (joined c t .own) (joined-apart m q (F .m8) c s (C (F .oc)) (T .sane-first) (F .oc) (F .os))
+          (joined-apart m q (F .m8) c t (C (F .oc)) (T .sane-second) (F .oc) (F .ot))
           (λ e i.
           ⊎-elim (λ j. carried-first c t e j)
           (λ j.
-          carried-second m q (F .m8) c t C (T .sane-second) (F .oc) (F .ot) (all-alike-swap (t .own) (c .own) ∙ F .alike-t) e (permuted-to (T .order .own) e j))
+          carried-second m q (F .m8) c t (C (F .oc)) (T .sane-second) (F .oc) (F .ot) (all-alike-swap (t .own) (c .own) ∙ F .alike-t) e (permuted-to (T .order .own) e j))
           (carried-from c s e i))
           (λ e i.
           ⊎-elim (λ j. carried-first c s e j)
           (λ j.
-          carried-second m q (F .m8) c s C (T .sane-first) (F .oc) (F .os) (all-alike-swap (s .own) (c .own) ∙ F .alike-s) e (permuted-from (T .order .own) e j))
+          carried-second m q (F .m8) c s (C (F .oc)) (T .sane-first) (F .oc) (F .os) (all-alike-swap (s .own) (c .own) ∙ F .alike-s) e (permuted-from (T .order .own) e j))
           (carried-from c t e i))
 
     fine : (ringOk m q ≡ true) → sessionOk m q s ≡ true → sessionOk m q c ≡ true → allAlike (c .own) (s .own) ≡ true → Fine
@@ -121,8 +122,8 @@ module _ (s t c : Content) (T : TwoOrders s t) (C : SaneContent c) where
         two h =
             let J = joinable m q s c h in
             let F = fine (J .ring) (J .first) (J .second) (J .alike) in
-            let L = join-laws .accepted m q s c (λ x. T .sane-first) (λ x. C) h in
-            let M = join-laws .accepted m q t c (λ x. T .sane-second) (λ x. C) (sym code-same ∙ h) in
+            let L = join-laws .accepted m q s c (λ x. T .sane-first) C h in
+            let M = join-laws .accepted m q t c (λ x. T .sane-second) C (sym code-same ∙ h) in
             record {
               n = m;
               p = q;
@@ -135,7 +136,7 @@ module _ (s t c : Content) (T : TwoOrders s t) (C : SaneContent c) where
             }
 
     swap : (x : Content) → SaneContent x → joinCode m q c x ≡ joinCode m q x c
-    swap x X = join-laws .swapped-code m q x c (λ a. X) (λ a. C)
+    swap x X = join-laws .swapped-code m q x c (λ a. X) C
 
     code-second : joinCode m q c s ≡ joinCode m q c t
     code-second = swap s (T .sane-first) ∙ code-same ∙ sym (swap t (T .sane-second))
@@ -147,8 +148,8 @@ module _ (s t c : Content) (T : TwoOrders s t) (C : SaneContent c) where
         two h =
             let J = joinable m q s c (sym (swap s (T .sane-first)) ∙ h) in
             let F = fine (J .ring) (J .first) (J .second) (J .alike) in
-            let L = join-laws .accepted m q c s (λ x. C) (λ x. T .sane-first) h in
-            let M = join-laws .accepted m q c t (λ x. C) (λ x. T .sane-second) (sym code-second ∙ h) in
+            let L = join-laws .accepted m q c s C (λ x. T .sane-first) h in
+            let M = join-laws .accepted m q c t C (λ x. T .sane-second) (sym code-second ∙ h) in
             record {
               n = m;
               p = q;

@@ -1,4 +1,4 @@
--- No reading depends on the carrying order, and a session that reads and writes goes on. Assumes nothing.
+-- No reading depends on the carrying order. Assumes nothing.
 use Prim.Native.Nat.{ℕ, _*_, _≤_, suc, zero}
 use mathlib.Core.Bool.{Bool, false, true}
 use mathlib.Core.List.{List, List·Memᴰ, List·Memᴰ·head, List·Memᴰ·tail, [], _∷_, map}

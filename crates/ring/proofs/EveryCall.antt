@@ -161,12 +161,13 @@ pub record Led (events : List Event) (sessions : List Tracked) (log : List Made)
   -- the token's words in its row
   pub token-count : map (λ (v : Event). v .count) (at events 15) ≡ 7 ∷ []
   pub token-row : map (λ (v : Event). take 7 (v .row)) (at events 15) ≡ token ∷ []
-  -- sessions read from tokens, and copies, keep the past of their origin; a joined one has both pasts (7 and 8 then read 1.2, 0.1 and 1.1)
+  -- sessions read from tokens, and copies, keep the past of their origin
   pub pasts : map (λ (r : Tracked). r .past) (take 7 sessions) ≡ past-0 ∷ past-1 ∷ [] ∷ [] ∷ past-1 ∷ past-5 ∷ [] ∷ []
   pub entries-made : map (λ (m : Made). idOf (m .entry)) log ≡ 0 ∷ 32 ∷ 33 ∷ 34 ∷ []
 
 -- the joined sessions
 pub record LedJoined (events : List Event) (sessions : List Tracked) (log : List Made) : Type 0 where
+  -- both pasts; 7 and 8 have then read 1.2, 0.1 and 1.1
   pub joined-pasts : map (λ (r : Tracked). r .past) (take 3 (drop 7 sessions))
       ≡ (32 ∷ 0 ∷ 0 ∷ 33 ∷ (past-1 ++ (past-5 ++ past-0)))
       ∷ (32 ∷ 0 ∷ 0 ∷ 33 ∷ (past-1 ++ (past-0 ++ past-5)))

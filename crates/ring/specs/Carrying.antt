@@ -1,5 +1,6 @@
--- CLAIMS BESIDE `Holds`, paper 02, (iv). Of calls on any store and any sessions that a program can have (`Words32`, `SaneContent`):
--- `CarryingOrder`, "Swapping the two may change the carrying order only", and no reply depends on that order, nor what a store then holds and shows;
+-- CLAIMS BESIDE `Holds`, paper 02, (iv). Of calls on any store that a program can have (`Words32`) and any sessions that are sound for something:
+-- `CarryingOrder`, "Swapping the two may change the carrying order only", and no reply depends on that order, but for which of 10 and 11 refuses a
+-- write, nor does what a store then holds and shows;
 -- `GoesOn`, a session that reads and writes goes on. Of the sessions of a run: `EitherWay`, joined either way round; `KeepsOn`, each goes on from
 -- what it was, so joined with a copy of that it stays what it is (`gone-on` of joining/specs/Laws.antt). Assumes nothing.
 use Prim.Native.Nat.{ℕ, _<_, _≤_}
@@ -11,6 +12,7 @@ use lib.ListN.{length}
 use Rattle.frame.specs.Frames.{ringOk}
 use Rattle.frame.specs.Sessions.{Content, SaneContent, sessionOk}
 use Rattle.joining.specs.Joins.{joinCode, joined}
+use Rattle.joining.specs.Laws.{Sane}
 use Rattle.joining.specs.Orders.{GoneOn, Permuted, Reordered}
 use Rattle.store.specs.Offices.{Words32, need}
 use Rattle.office.specs.Calls.{Result, readJoint, readPlot, write}
@@ -64,9 +66,9 @@ pub record CarryingOrder : Type 0 where
       → (write ws s plot value row .code ≡ write ws t plot value row .code)
       ⊎ (TenOrEleven (write ws s plot value row .code) × TenOrEleven (write ws t plot value row .code))
   -- joined with another
-  pub joins : (s t c : Content) → TwoOrders s t → SaneContent c → (m q : ℕ)
+  pub joins : (s t c : Content) → TwoOrders s t → (m q : ℕ) → Sane m q c
       → (joinCode m q s c ≡ joinCode m q t c) × (joinCode m q s c ≡ 0 → TwoOrders (joined s c) (joined t c))
-  pub joins-second : (s t c : Content) → TwoOrders s t → SaneContent c → (m q : ℕ)
+  pub joins-second : (s t c : Content) → TwoOrders s t → (m q : ℕ) → Sane m q c
       → (joinCode m q c s ≡ joinCode m q c t) × (joinCode m q c s ≡ 0 → TwoOrders (joined c s) (joined c t))
 
 -- of any two sessions of a run, also of one and itself, and any settings: the same refusal number either way round; where it is 0 the two joins are
