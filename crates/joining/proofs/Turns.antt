@@ -1,9 +1,8 @@
 -- Turns of the loops over own writes: what one more changes of those that are left, of how many they are, and of the row that has them; eight words
 -- compared place by place. Assumes nothing.
-use Prim.Native.Nat.{ℕ, suc, zero, _+_, _<_, _≤_}
+use Prim.Native.Nat.{ℕ, _+_, _<_, _≤_}
 use mathlib.Core.Bool.{Bool, cond, false, not, true}
 use mathlib.Core.List.{List, [], _++_, _∷_, append-assoc, append-nil}
-use mathlib.Core.Logic.{⊎-elim}
 use mathlib.Core.Path.{_∙_, _≡_, ap, refl, sym}
 use native.Mathlib.Omega.{arith}
 use lib.Dec.{eqb}
@@ -12,7 +11,7 @@ use borrow.Author.Tests.{not-false, not-true}
 use Rattle.causal.specs.Lists.{eqWords, tab}
 use Rattle.causal.specs.Tests.{allBelow, both}
 use Rattle.causal.proofs.Lists.{tab-length, tab-more}
-use Rattle.causal.proofs.Tests.{all-front, lt-or-le}
+use Rattle.causal.proofs.Tests.{all-front}
 use Rattle.frame.specs.Sessions.{filled, leaveOut}
 use Rattle.frame.specs.declared.entry.Entry.{Entry}
 use Rattle.frame.proofs.LeaveOut.{left-few}
@@ -46,16 +45,6 @@ module _ (t : Entry → Bool) where
     pub left-below : (i : ℕ) → length (Left i) ≤ i
     left-below i = omega (arith, left-few t (tab i f), tab-length i f)
 
-    left-grows : (i m : ℕ) → i ≤ m → length (Left i) ≤ length (Left m)
-    unfolding tab
-    left-grows i zero h = let e : i ≡ 0 = omega arith in rw e (omega arith)
-    left-grows i (suc m) h =
-        ⊎-elim (λ (l : i < suc m). omega (arith, left-grows i m (omega arith), one)) (λ (l : suc m ≤ i). let e : i ≡ suc m = omega arith in rw e (omega arith))
-        (lt-or-le i (suc m))
-      where
-        one : length (Left m) ≤ length (leaveOut t (tab m f ++ (f m ∷ [])))
-        one = omega (arith, ap length (left-snoc (tab m f) (f m)), length-append (Left m) (cond (t (f m)) [] (f m ∷ [])))
-
     -- ---- by the test r of entry i, as the code has it
 
     module _ (i : ℕ) (r : Bool) (e : r ≡ t (f i)) where
@@ -65,31 +54,21 @@ module _ (t : Entry → Bool) where
       kept : not r ≡ true → t (f i) ≡ false
       kept h = sym e ∙ not-true r h
 
-      pub count-same : (k : ℕ) → not r ≡ false → k ≡ length (Left i) → k ≡ length (Left (i + 1))
-      count-same k h q = q ∙ ap length (sym (left-out i (taken h)))
-
-      pub count-more : (k : ℕ) → not r ≡ true → k ≡ length (Left i) → k + 1 ≡ length (Left (i + 1))
-      count-more k h q = ap (λ (x : ℕ). x + 1) q ∙ sym (length-append (Left i) (f i ∷ [])) ∙ ap length (sym (left-more i (kept h)))
-
-      -- the row that has es in front: the next place is set, or nothing changes
-      module _ (es : List Entry) (k : ℕ) (row : List Entry) (place : k ≡ length es + length (Left i)) (has : row ≡ filled (es ++ Left i)) where
-        -- there is room for one more, where there is for all
-        pub row-room : (m : ℕ) → not r ≡ true → i < m → length es + length (Left m) ≤ 16 → k < 16
-        row-room m h l b = omega (arith, place, count-more (length (Left i)) h refl, left-grows (i + 1) m (omega arith))
-
+      -- the row that has es in front, where they are 16 at most: the next place is set, or nothing changes
+      module _ (es : List Entry) (k : ℕ) (row : List Entry) (place : k ≡ length es + length (Left i)) (has : k ≤ 16 → row ≡ filled (es ++ Left i)) where
         pub place-same : not r ≡ false → k ≡ length es + length (Left (i + 1))
-        place-same h = omega (arith, place, count-same (length (Left i)) h refl)
+        place-same h = omega (arith, place, ap length (left-out i (taken h)))
 
         pub place-more : not r ≡ true → k + 1 ≡ length es + length (Left (i + 1))
-        place-more h = omega (arith, place, count-more (length (Left i)) h refl)
+        place-more h = omega (arith, place, ap length (left-more i (kept h)), length-append (Left i) (f i ∷ []))
 
-        pub row-same : not r ≡ false → row ≡ filled (es ++ Left (i + 1))
-        row-same h = has ∙ ap (λ (l : List Entry). filled (es ++ l)) (sym (left-out i (taken h)))
+        pub row-same : not r ≡ false → k ≤ 16 → row ≡ filled (es ++ Left (i + 1))
+        row-same h l = has l ∙ ap (λ (l : List Entry). filled (es ++ l)) (sym (left-out i (taken h)))
 
         pub row-more : not r ≡ true → k < 16 → set row k (f i) ≡ filled (es ++ Left (i + 1))
         row-more h l =
             let at : k ≡ length (es ++ Left i) = place ∙ sym (length-append es (Left i)) in
-            ap (λ (z : List Entry). set z k (f i)) has
+            ap (λ (z : List Entry). set z k (f i)) (has (omega arith))
             ∙ ap (λ (j : ℕ). set (filled (es ++ Left i)) j (f i)) at
             ∙ fill-next (es ++ Left i) (f i) (omega (arith, at))
             ∙ ap filled (append-assoc es (Left i) (f i ∷ []) ∙ ap (λ (z : List Entry). es ++ z) (sym (left-more i (kept h))))

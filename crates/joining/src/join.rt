@@ -24,6 +24,12 @@ pub struct SessionsJoined {
     pub session: Session, // all zeros on a refusal
 }
 
+// The own writes of both sessions, each once.
+struct OwnOfBoth {
+    count: usize,
+    own: [Entry; 16],
+}
+
 fn refused(refusal: Refusal) -> SessionsJoined
     ensures { λ r. ⌜ (codeOf (r .status) ≡ numberOf refusal) × (r .session ≡ sessionOf (freshContent 0)) ⌝ }
 {
@@ -32,21 +38,6 @@ fn refused(refusal: Refusal) -> SessionsJoined
         status: Status::Refused(refusal),
         session,
     }
-}
-
-// How many of the first `count` of own have ids that are not in the set? Those of the first `front` are all in it.
-fn count_new(ids: [u32; 8], own: [Entry; 16], front: usize, count: usize) -> usize
-    requires { ⌜ (front ≤ count) × (count ≤ 16) × (leaveOut (λ e. isIn ids (idOf e)) (tab front (λ i. getD own i nobody)) ≡ []) ⌝ }
-    ensures { λ r. ⌜ (r ≡ length (leaveOut (λ e. isIn ids (idOf e)) (tab count (λ i. getD own i nobody)))) × (r ≤ 16) ⌝ }
-{
-    let mut k = 0;
-    for i in front..count {
-        let e = own[i];
-        if !crate::alike::among(e, ids) {
-            k = k + 1;
-        }
-    }
-    k
 }
 
 // The first `count` of own, and blanks behind them.
@@ -78,28 +69,31 @@ fn own_row(s: Session) -> [Entry; 16]
     with_blanks(own, count)
 }
 
-// The first's own writes, then those of the second whose ids are not in the set, and blanks behind them. The ids of the first `front` are all in it.
-fn carried(
+// The first's own writes, then those of the second whose ids are not in the set, and blanks behind them; and how many they are. Of more than 16 the row
+// says nothing. The ids of the first `front` are all in the set.
+fn both_own(
     first: [Entry; 16],
     n: usize,
     ids: [u32; 8],
     second: [Entry; 16],
     front: usize,
     m: usize,
-) -> [Entry; 16]
-    requires { ⌜ (n ≤ 16) × (front ≤ m) × (m ≤ 16) × (leaveOut (λ e. isIn ids (idOf e)) (tab front (λ i. getD second i nobody)) ≡ []) × (n + length (leaveOut (λ e. isIn ids (idOf e)) (tab m (λ i. getD second i nobody))) ≤ 16) ⌝ }
-    ensures { λ r. ⌜ r ≡ filled (tab n (λ i. getD first i nobody) ++ leaveOut (λ e. isIn ids (idOf e)) (tab m (λ i. getD second i nobody))) ⌝ }
+) -> OwnOfBoth
+    requires { ⌜ (n ≤ 16) × (front ≤ m) × (m ≤ 16) × (leaveOut (λ e. isIn ids (idOf e)) (tab front (λ i. getD second i nobody)) ≡ []) ⌝ }
+    ensures { λ r. ⌜ (r .count ≡ n + length (leaveOut (λ e. isIn ids (idOf e)) (tab m (λ i. getD second i nobody)))) × (r .count ≤ 16 → r .own ≡ filled (tab n (λ i. getD first i nobody) ++ leaveOut (λ e. isIn ids (idOf e)) (tab m (λ i. getD second i nobody)))) ⌝ }
 {
-    let mut row = with_blanks(first, n);
-    let mut k = n;
+    let mut own = with_blanks(first, n);
+    let mut count = n;
     for i in front..m {
         let e = second[i];
         if !crate::alike::among(e, ids) {
-            row[k] = e;
-            k = k + 1;
+            if count < 16 {
+                own[count] = e;
+            }
+            count = count + 1;
         }
     }
-    row
+    OwnOfBoth { count, own }
 }
 
 // With how many of the same own writes do two sessions begin? They are taken out only where both have any.
@@ -162,11 +156,12 @@ fn join_sound(offices: u32, plots: u32, first: Session, second: Session) -> Sess
     if !crate::alike::all_alike(second_own, front, m, ids, first_own, n) {
         return refused(Refusal::Different);
     }
-    let count = n + count_new(ids, second_own, front, m);
+    let carried = both_own(first_own, n, ids, second_own, front, m);
+    let count = carried.count;
     if count > 16 {
         return refused(Refusal::SessionFull);
     }
-    let own = carried(first_own, n, ids, second_own, front, m);
+    let own = carried.own;
     accepted(first, second, count, own)
 }
 
