@@ -66,6 +66,11 @@ own-turn n p read seen f i r q e = e ∙ ap (λ (s : List ℕ). ownTurn n p read
 abbrev pub ownsOf : List Entry → ℕ → Entry
 ownsOf own i = getD own i nobody
 
+-- a session's count is the number of its own writes
+pub count-is : (s : Session) → length (contentOf s .own) ≡ s .count
+unfolding contentOf
+count-is s = tab-length (s .count) (ownsOf (s .own))
+
 pub session-is : (n p : ℕ) (s : Session)
     → both (eqb (s .offices) n) (both (leb (s .count) 16) (both (clockOk n (s .clock)) (both (idsOk n (s .read)) (ownOk n p (s .read) zeros (tab (s .count) (ownsOf (s .own)))))))
     ≡ sessionOk n p (contentOf s)

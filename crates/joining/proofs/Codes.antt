@@ -4,32 +4,28 @@ use mathlib.Core.Bool.{false, true}
 use mathlib.Core.List.{List, List·Memᴰ, _++_}
 use mathlib.Core.Path.{_∙_, _≡_, ap, sym}
 use native.Mathlib.Omega.{arith}
-use lib.ListN.{getD, length, length-append}
+use lib.ListN.{length, length-append}
 use borrow.Author.Tests.{le-leb, lt-leb}
 use Rattle.causal.specs.Clocks.{join}
 use Rattle.causal.specs.Codes.{check}
 use Rattle.causal.specs.Sets.{isIn, unite}
 use Rattle.causal.specs.Tests.{both}
-use Rattle.causal.proofs.Lists.{tab-length}
 use Rattle.frame.specs.Entries.{idOf}
 use Rattle.frame.specs.Frames.{ringOk}
-use Rattle.frame.specs.Sessions.{Content, contentOf, filled, freshContent, idsOf, leaveOut, nobody, sessionOf, sessionOk}
+use Rattle.frame.specs.Sessions.{Content, contentOf, filled, freshContent, idsOf, leaveOut, sessionOf, sessionOk}
 use Rattle.frame.specs.declared.entry.Entry.{Entry}
 use Rattle.frame.specs.declared.session.Session.{Session}
 use Rattle.frame.proofs.Entries.{entry-facts, ring-facts}
 use Rattle.frame.proofs.Ids.{id-range}
+use Rattle.frame.proofs.OwnTurns.{count-is}
 use Rattle.frame.proofs.Sessions.{own-ok, session-facts}
 use Rattle.joining.specs.Joins.{allAlike, joinCode, joinSessions, joined, joinedIf, notAmong}
 use Rattle.joining.specs.Promises.{JoinPromise}
 
-pub own-count : (s : Session) → length (contentOf s .own) ≡ s .count
-unfolding contentOf
-own-count s = tab-length (s .count) (λ i. getD (s .own) i nobody)
-
 -- of a session that is sound in a ring in range
 module _ (n p : ℕ) (s : Session) (ring : ringOk n p ≡ true) (ok : sessionOk n p (contentOf s) ≡ true) where
   pub few : s .count ≤ 16
-  few = omega (arith, session-facts n p (contentOf s) ok .few, own-count s)
+  few = omega (arith, session-facts n p (contentOf s) ok .few, count-is s)
 
   pub small : (e : Entry) → List·Memᴰ e (contentOf s .own) → idOf e < 256
   small e m =
@@ -73,7 +69,7 @@ module _ (n p : ℕ) (a b : Session) where
 
     pub length-joined : length (joined A B .own) ≡ a .count + length (notAmong (A .own) (B .own))
     unfolding joined
-    length-joined = length-append (A .own) (notAmong (A .own) (B .own)) ∙ ap (λ (k : ℕ). k + length (notAmong (A .own) (B .own))) (own-count a)
+    length-joined = length-append (A .own) (notAmong (A .own) (B .own)) ∙ ap (λ (k : ℕ). k + length (notAmong (A .own) (B .own))) (count-is a)
 
     pub too-many : allAlike (B .own) (A .own) ≡ true → 16 < a .count + length (notAmong (A .own) (B .own)) → 7 ≡ Code
     unfolding joinCode check both

@@ -7,10 +7,11 @@ use lib.ListN.{getD, length, length-set, set}
 use lib.Seq.{getD-set-other, getD-set-same}
 use Rattle.causal.specs.Clocks.{join}
 use Rattle.causal.specs.Lists.{tab}
-use Rattle.causal.proofs.Lists.{tab-length, tab-more}
+use Rattle.causal.proofs.Lists.{tab-more}
 use Rattle.frame.specs.Sessions.{Content, contentOf, nobody}
 use Rattle.frame.specs.declared.entry.Entry.{Entry}
 use Rattle.frame.specs.declared.session.Session.{Session}
+use Rattle.frame.proofs.OwnTurns.{count-is}
 use Rattle.store.specs.Offices.{Found, None, Office, Some, current, officeOf, reveal, soundStore}
 use Rattle.office.specs.Answers.{anyFound, entryFound, extendedBy, notedIn, readPlotSession, sessionIf}
 use Rattle.office.specs.Calls.{newEntry, readPlot, write, writeCode, writeOn, wroteSession}
@@ -28,10 +29,6 @@ tab-ext : {A : Type 0} (n : ℕ) (f g : ℕ → A) → ((i : ℕ) → i < n → 
 unfolding tab
 tab-ext zero f g h = refl
 tab-ext (suc n) f g h = λ i. tab-ext n f g (λ k l. h k (omega arith)) i ++ (h n (omega arith) i ∷ [])
-
-pub own-length : (s : Session) → length (contentOf s .own) ≡ s .count
-unfolding contentOf
-own-length s = tab-length (s .count) (λ i. getD (s .own) i nobody)
 
 -- one own entry more
 own-more : (own : List Entry) (n : ℕ) (e : Entry) → n < length own →
@@ -67,7 +64,7 @@ noted-size s (Some e) = refl
 module _ (ws : List ℕ) (s : Session) (size : length (s .own) ≡ 16) where
   module _ (plot value : ℕ) (row : List ℕ) (z : write ws (contentOf s) plot value row .code ≡ 0) where
     pub write-session : length (contentOf s .own) < 16 → write ws (contentOf s) plot value row .session ≡ contentOf (extendedBy s (newEntry (officeOf ws) (contentOf s) plot value))
-    write-session few = accepted-session ws (contentOf s) plot value row z ∙ sym (extended s (officeOf ws) plot value (omega (arith, own-length s)))
+    write-session few = accepted-session ws (contentOf s) plot value row z ∙ sym (extended s (officeOf ws) plot value (omega (arith, count-is s)))
 
     -- "`W` and name"
     pub write-reply : wroteReply (write ws (contentOf s) plot value row .session .own) ≡ wroteName (newEntry (officeOf ws) (contentOf s) plot value)

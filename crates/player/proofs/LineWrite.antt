@@ -19,6 +19,7 @@ use Rattle.frame.specs.declared.refusal.Refusal.{Refusal}
 use Rattle.frame.specs.declared.refusal.Written.{Written}
 use Rattle.frame.specs.declared.refusal.Written.the-variants.{NotWritten, Words}
 use Rattle.frame.specs.declared.session.Session.{Session}
+use Rattle.frame.proofs.OwnTurns.{count-is}
 use Rattle.store.specs.Offices.{officeOf}
 use Rattle.office.specs.Answers.{extendedBy, madeBy}
 use Rattle.office.specs.Calls.{Result, newEntry, write, writeSends}
@@ -38,7 +39,7 @@ use Rattle.player.specs.Play.{Scene, wroteReply}
 use Rattle.player.specs.Shows.{Shows}
 use Rattle.player.specs.Steps.{Foretells, Plays}
 use Rattle.player.proofs.Accepted.{Writes, writes}
-use Rattle.player.proofs.Contents.{own-length, wroteName, write-reply, write-session, write-size}
+use Rattle.player.proofs.Contents.{wroteName, write-reply, write-session, write-size}
 use Rattle.player.proofs.PlayWrite.{Sends, write-done, write-full, write-refused}
 use Rattle.player.proofs.Refusals.{not-written, refused-as, words-code}
 use Rattle.player.proofs.Room.{cut-rows}
@@ -139,7 +140,7 @@ module _ (g : Scene) (d : Desk) (stores lines : List ℕ) (S : Shows g d stores 
       small = omega (arith, words-are, facts code .room)
 
       pub few : s .count < 16
-      few = omega (arith, own-length s, facts code .few)
+      few = omega (arith, count-is s, facts code .few)
 
       made : entry ≡ newEntry (officeOf ws) (contentOf s) plot value
       unfolding madeBy

@@ -17,8 +17,8 @@ use Rattle.frame.specs.declared.session.Session.{Session}
 use Rattle.frame.specs.Calls.{laid}
 use Rattle.frame.specs.Sessions.{Content, contentOf, nobody, sessionOk}
 use Rattle.frame.specs.Tokens.{rowsOf}
+use Rattle.frame.proofs.OwnTurns.{count-is}
 use Rattle.store.specs.Offices.{Office, officeOf, soundStore}
-use Rattle.writing.proofs.Writes.{count-is}
 use Rattle.office.specs.Calls.{Result, given, worded, newEntry, sentOf, holdAll, writeSends, writeCode, writeOn, wroteSession, write}
 use Rattle.office.specs.Answers.{sessionIf, extendedBy, writeSession}
 

@@ -12,7 +12,7 @@ use Rattle.causal.specs.Codes.{check}
 use Rattle.causal.specs.Lists.{part, zeros}
 use Rattle.causal.specs.Sets.{Within, has, subsetOf}
 use Rattle.causal.proofs.Codes.{check-none, or-both, or-none, or-some}
-use Rattle.causal.proofs.Lists.{sum-le, tab-length}
+use Rattle.causal.proofs.Lists.{sum-le}
 use Rattle.causal.proofs.Sets.{has-lt, is-in, subset-within}
 use Rattle.frame.specs.declared.entry.Entry.{Entry}
 use Rattle.frame.specs.declared.session.Session.{Session}
@@ -27,6 +27,7 @@ use Rattle.frame.specs.Tokens.{rowsOf}
 use Rattle.frame.specs.Calls.{laid}
 use Rattle.frame.proofs.Entries.{RingFacts, entry-facts, facts-frame, frame-wider}
 use Rattle.frame.proofs.Ids.{id-range}
+use Rattle.frame.proofs.OwnTurns.{count-is}
 use Rattle.frame.proofs.Sessions.{ids-new, ids-set, session-facts, own-ok}
 use Rattle.store.specs.Offices.{Office, need, slotAt, officeOf, storeWords, soundStore, made}
 use Rattle.store.specs.Slots.{holdWords}
@@ -86,10 +87,6 @@ ready ws s plot value h =
     let j = check-none (ltb (made (officeOf ws)) 32) 6 _ (omega arith) (i .1) in
     let k = check-none (subsetOf (contentOf s .read) (officeOf ws .held)) 12 _ (omega arith) (j .1) in
     record { sound = a .0; session = d .0; plot-ok = f .0; value-ok = g .0; room = i .0; more = j .0; read-held = k .0; owns = c .1 }
-
-pub count-is : (s : Session) → length (contentOf s .own) ≡ s .count
-unfolding contentOf
-count-is s = tab-length (s .count) (ownAt (s .own))
 
 pub made-le : (O : Office) → made O ≤ 32
 unfolding made

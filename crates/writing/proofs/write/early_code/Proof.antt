@@ -3,13 +3,14 @@ use native.Mathlib.Omega.{arith}
 use mathlib.Core.Path.{refl, sym, ap, _∙_}
 use lib.ListN.{length}
 use Rattle.frame.specs.Sessions.{contentOf}
+use Rattle.frame.proofs.OwnTurns.{count-is}
 use Rattle.store.specs.Offices.{officeOf, soundStore}
 use Rattle.store.proofs.Rules.{laid}
 use Rattle.office.specs.Steps.{ownAt}
 use Rattle.writing.specs.Writes.{secondCodes}
 use Rattle.office.proofs.OwnCodes.{own-none}
 use Rattle.writing.proofs.EarlyCodes.{early-stops, early-second, early-own}
-use Rattle.writing.proofs.Writes.{first-ready, count-is, count-le, slots}
+use Rattle.writing.proofs.Writes.{first-ready, count-le, slots}
 use borrow.Author.Needs.{needs}
 use Rattle.writing.proofs.write.early_code.Statement.{statement}
 use Rattle.writing.proofs.write.early_code.Tie as tie
