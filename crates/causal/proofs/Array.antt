@@ -9,5 +9,5 @@ use denote.Plain.{UInt}
 use borrow.Author.Rules.{elem_Fits}
 use Rattle.causal.specs.Sets.{IdSet}
 
-pub id-set : (xs : List ℕ) {vs : List Val} → Is (Array (UInt w32) 8) xs vs → IdSet xs
-id-set xs p = record { eight = p.1.0.1; fits = λ i. (elem_Fits w32 w32 xs p.0 i p.1.1 tt).fits }
+pub id_set : (xs : List ℕ) {vs : List Val} → Is (Array (UInt w32) 8) xs vs → IdSet xs
+id_set xs p = record { eight = p.1.0.1; fits = λ i. (elem_Fits w32 w32 xs p.0 i p.1.1 tt).fits }

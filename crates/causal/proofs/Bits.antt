@@ -10,34 +10,34 @@ use lib.Pow.{pow-lt, shr-shr}
 use lib.Count.{count_trailing_zeros, under}
 use Rattle.causal.specs.Sets.{bit}
 use Rattle.causal.specs.Tests.{both}
-use Rattle.causal.proofs.Tests.{same_test, both_true, both-intro}
+use Rattle.causal.proofs.Tests.{same_test, both_true, both_intro}
 use lib.Dec.{eqb, eqb-zero-suc, eqb-suc-zero, eqb-suc-suc}
 use borrow.Author.Tests.{eq-eqb, ne_eqb, eqb-true}
 
-pub bit-lt : (w i : ℕ) → bit w i < 2
+pub bit_lt : (w i : ℕ) → bit w i < 2
 unfolding bit
-bit-lt w i = omega arith
+bit_lt w i = omega arith
 
-pub bit-zero-word : (i : ℕ) → bit 0 i ≡ 0
+pub bit_zero_word : (i : ℕ) → bit 0 i ≡ 0
 unfolding bit
-bit-zero-word i = simp zero-div
+bit_zero_word i = simp zero-div
 
-pub bit-or : (a b i : ℕ) → bit (bit_or a b) i ≡ max (bit a i) (bit b i)
+pub bit_or_lem : (a b i : ℕ) → bit (bit_or a b) i ≡ max (bit a i) (bit b i)
 unfolding bit
-bit-or a b i = rw or_shr (omega (arith, or_step (a / 2 ^ i) (b / 2 ^ i)))
+bit_or_lem a b i = rw or_shr (omega (arith, or_step (a / 2 ^ i) (b / 2 ^ i)))
 
-pub bit-and : (a b i : ℕ) → bit (bit_and a b) i ≡ min (bit a i) (bit b i)
+pub bit_and_lem : (a b i : ℕ) → bit (bit_and a b) i ≡ min (bit a i) (bit b i)
 unfolding bit
-bit-and a b i = rw and_shr (omega (arith, and_step (a / 2 ^ i) (b / 2 ^ i)))
+bit_and_lem a b i = rw and_shr (omega (arith, and_step (a / 2 ^ i) (b / 2 ^ i)))
 
 -- the lowest bit, and the others
-pub bit-low : (w : ℕ) → bit w 0 ≡ w % 2
+pub bit_low : (w : ℕ) → bit w 0 ≡ w % 2
 unfolding bit
-bit-low w = omega arith
+bit_low w = omega arith
 
-pub bit-suc : (w i : ℕ) → bit w (suc i) ≡ bit (w / 2) i
+pub bit_suc : (w i : ℕ) → bit w (suc i) ≡ bit (w / 2) i
 unfolding bit
-bit-suc w i = ap (λ (n : ℕ). n % 2) (ap (λ (n : ℕ). w / 2 ^ n) (sym (one-add i)) ∙ sym (shr-shr w 1 i))
+bit_suc w i = ap (λ (n : ℕ). n % 2) (ap (λ (n : ℕ). w / 2 ^ n) (sym (one-add i)) ∙ sym (shr-shr w 1 i))
 
 -- 1 where the test holds, 0 where it does not
 abbrev pub flag : Bool → ℕ
@@ -48,38 +48,38 @@ flag false = 0
 unfoldable pub same : ℕ → ℕ → ℕ
 same i j = flag (eqb i j)
 
-pub same-eq : (i j : ℕ) → i ≡ j → same i j ≡ 1
+pub same_eq : (i j : ℕ) → i ≡ j → same i j ≡ 1
 unfolding same
-same-eq i j e = ap flag (eq-eqb i j e)
+same_eq i j e = ap flag (eq-eqb i j e)
 
-pub same-ne : (i j : ℕ) → (i ≡ j → ⊥) → same i j ≡ 0
+pub same_ne : (i j : ℕ) → (i ≡ j → ⊥) → same i j ≡ 0
 unfolding same
-same-ne i j e = ap flag (ne_eqb i j e)
+same_ne i j e = ap flag (ne_eqb i j e)
 
 -- bit i of 2 ^ j
-pub bit-pow : (j i : ℕ) → bit (2 ^ j) i ≡ same i j
+pub bit_pow : (j i : ℕ) → bit (2 ^ j) i ≡ same i j
 unfolding same
-bit-pow zero zero = bit-low 1
-bit-pow zero (suc i) = bit-suc 1 i ∙ bit-zero-word i ∙ ap flag (sym (eqb-suc-zero i))
-bit-pow (suc j) zero = bit-low (2 ^ suc j) ∙ rw pow-suc (simp eqb-zero-suc (omega arith))
-bit-pow (suc j) (suc i) =
+bit_pow zero zero = bit_low 1
+bit_pow zero (suc i) = bit_suc 1 i ∙ bit_zero_word i ∙ ap flag (sym (eqb-suc-zero i))
+bit_pow (suc j) zero = bit_low (2 ^ suc j) ∙ rw pow-suc (simp eqb-zero-suc (omega arith))
+bit_pow (suc j) (suc i) =
     let e : 2 ^ suc j / 2 ≡ 2 ^ j = rw pow-suc (omega arith) in
-    bit-suc (2 ^ suc j) i ∙ ap (λ (n : ℕ). bit n i) e ∙ bit-pow j i ∙ ap flag (sym (eqb-suc-suc i j))
+    bit_suc (2 ^ suc j) i ∙ ap (λ (n : ℕ). bit n i) e ∙ bit_pow j i ∙ ap flag (sym (eqb-suc-suc i j))
 
 -- words of n bits with the same bits are equal
-pub bits-ext : (n x y : ℕ) → x < 2 ^ n → y < 2 ^ n → ((i : ℕ) → i < n → bit x i ≡ bit y i) → x ≡ y
-bits-ext zero x y p q f = omega arith
-bits-ext (suc n) x y p q f =
+pub bits_ext : (n x y : ℕ) → x < 2 ^ n → y < 2 ^ n → ((i : ℕ) → i < n → bit x i ≡ bit y i) → x ≡ y
+bits_ext zero x y p q f = omega arith
+bits_ext (suc n) x y p q f =
     let p' : x < 2 ^ n * 2 = rw pow-suc at p in
     let q' : y < 2 ^ n * 2 = rw pow-suc at q in
-    let halves : x / 2 ≡ y / 2 = bits-ext n (x / 2) (y / 2) (omega arith) (omega arith) (λ i h. sym (bit-suc x i) ∙ f (suc i) (suc-le-suc h) ∙ bit-suc y i) in
-    let low : x % 2 ≡ y % 2 = sym (bit-low x) ∙ f 0 (omega arith) ∙ bit-low y in
+    let halves : x / 2 ≡ y / 2 = bits_ext n (x / 2) (y / 2) (omega arith) (omega arith) (λ i h. sym (bit_suc x i) ∙ f (suc i) (suc-le-suc h) ∙ bit_suc y i) in
+    let low : x % 2 ≡ y % 2 = sym (bit_low x) ∙ f 0 (omega arith) ∙ bit_low y in
     omega arith
 
 -- bit i of (a | b) ^ b: a's bit, unless b has it
-pub bit-minus : (a b i : ℕ) → bit (bit_xor (bit_or a b) b) i ≡ bit a i - bit b i
+pub bit_minus : (a b i : ℕ) → bit (bit_xor (bit_or a b) b) i ≡ bit a i - bit b i
 unfolding bit
-bit-minus a b i =
+bit_minus a b i =
     rw (xor_shr, or_shr)
     (go (a / 2 ^ i) (b / 2 ^ i) (bit_or (a / 2 ^ i) (b / 2 ^ i)) (omega (arith, or_step (a / 2 ^ i) (b / 2 ^ i))))
   where
@@ -100,22 +100,22 @@ bit-minus a b i =
 -- ---- what count_trailing_zeros says
 
 -- all bits below it are clear
-pub tz-below : (k w i : ℕ) → i < count_trailing_zeros k w → bit w i ≡ 0
+pub tz_below : (k w i : ℕ) → i < count_trailing_zeros k w → bit w i ≡ 0
 unfolding count_trailing_zeros
-tz-below zero w i h = absurd (not-suc-le-zero h)
-tz-below (suc k) w i h = go (λ j l. tz-below k (w / 2) j l) (w % 2) refl i h
+tz_below zero w i h = absurd (not-suc-le-zero h)
+tz_below (suc k) w i h = go (λ j l. tz_below k (w / 2) j l) (w % 2) refl i h
   where
     go : ((j : ℕ) → j < count_trailing_zeros k (w / 2) → bit (w / 2) j ≡ 0) → (d : ℕ) → w % 2 ≡ d
         → (j : ℕ) → j < under d (count_trailing_zeros k (w / 2)) → bit w j ≡ 0
-    go ih zero e zero l = bit-low w ∙ e
-    go ih zero e (suc j) l = bit-suc w j ∙ ih j (le_of_suc-le-suc l)
+    go ih zero e zero l = bit_low w ∙ e
+    go ih zero e (suc j) l = bit_suc w j ∙ ih j (le_of_suc-le-suc l)
     go ih (suc d) e j l = absurd (not-suc-le-zero l)
 
 -- the bit at it is set, where the word is not 0; and it is below the width then
-pub tz-at : (k w : ℕ) → 0 < w → w < 2 ^ k → (count_trailing_zeros k w < k) × (bit w (count_trailing_zeros k w) ≡ 1)
+pub tz_at : (k w : ℕ) → 0 < w → w < 2 ^ k → (count_trailing_zeros k w < k) × (bit w (count_trailing_zeros k w) ≡ 1)
 unfolding count_trailing_zeros
-tz-at zero w p q = omega arith
-tz-at (suc k) w p q = go (λ l r. tz-at k (w / 2) l r) (w % 2) refl
+tz_at zero w p q = omega arith
+tz_at (suc k) w p q = go (λ l r. tz_at k (w / 2) l r) (w % 2) refl
   where
     q' : w < 2 ^ k * 2
     q' = rw pow-suc at q
@@ -124,8 +124,8 @@ tz-at (suc k) w p q = go (λ l r. tz-at k (w / 2) l r) (w % 2) refl
         → (under d (count_trailing_zeros k (w / 2)) < suc k) × (bit w (under d (count_trailing_zeros k (w / 2))) ≡ 1)
     go ih zero e =
         let r = ih (omega arith) (omega (arith, q')) in
-        (suc-le-suc r.0, bit-suc w (count_trailing_zeros k (w / 2)) ∙ r.1)
-    go ih (suc d) e = (omega arith, bit-low w ∙ omega arith)
+        (suc-le-suc r.0, bit_suc w (count_trailing_zeros k (w / 2)) ∙ r.1)
+    go ih (suc d) e = (omega arith, bit_low w ∙ omega arith)
 
 -- `1u32 << b`, as the machine has it
 pub one_shl : (b : ℕ) → b < 32 → (1 * 2 ^ b) % 2 ^ 32 ≡ 2 ^ b
@@ -133,14 +133,14 @@ one_shl b h = rw one-mul (mod-eq_of_lt (pow-lt {i = b} {j = 32} h))
 
 -- ---- nothing left
 
-pub or-is-zero : (x y : ℕ) → eqb (bit_or x y) 0 ≡ both (eqb x 0) (eqb y 0)
-or-is-zero x y = same_test _ _ none all
+pub or_is_zero : (x y : ℕ) → eqb (bit_or x y) 0 ≡ both (eqb x 0) (eqb y 0)
+or_is_zero x y = same_test _ _ none all
   where
     none : eqb (bit_or x y) 0 ≡ true → both (eqb x 0) (eqb y 0) ≡ true
     none e =
         let z = eqb-true (bit_or x y) 0 e in
         let s = or_add_and x y in
-        both-intro _ _ (eq-eqb x 0 (omega (arith, and_le_l x y, and_le_r x y))) (eq-eqb y 0 (omega (arith, and_le_l x y, and_le_r x y)))
+        both_intro _ _ (eq-eqb x 0 (omega (arith, and_le_l x y, and_le_r x y))) (eq-eqb y 0 (omega (arith, and_le_l x y, and_le_r x y)))
 
     all : both (eqb x 0) (eqb y 0) ≡ true → eqb (bit_or x y) 0 ≡ true
     all e =

@@ -5,14 +5,14 @@ use mathlib.Core.List.{List}
 use native.Mathlib.Omega.{arith}
 use lib.ListN.{get_or}
 use Rattle.causal.specs.Clocks.{Covers, join}
-use Rattle.causal.proofs.Lists.{zip8-at}
+use Rattle.causal.proofs.Lists.{zip8_at}
 
-pub join-at : (a b : List ℕ) (j : ℕ) → j < 8 → get_or (join a b) j 0 ≡ max (get_or a j 0) (get_or b j 0)
+pub join_at_lem : (a b : List ℕ) (j : ℕ) → j < 8 → get_or (join a b) j 0 ≡ max (get_or a j 0) (get_or b j 0)
 unfolding join
-join-at a b = zip8-at max a b
+join_at_lem a b = zip8_at max a b
 
-pub join-covers : (a b : List ℕ) → Covers (join a b) a × Covers (join a b) b
-join-covers a b = (λ j h. omega (arith, join-at a b j h), λ j h. omega (arith, join-at a b j h))
+pub join_covers : (a b : List ℕ) → Covers (join a b) a × Covers (join a b) b
+join_covers a b = (λ j h. omega (arith, join_at_lem a b j h), λ j h. omega (arith, join_at_lem a b j h))
 
-pub join-least : (a b c : List ℕ) → Covers c a → Covers c b → Covers c (join a b)
-join-least a b c p q j h = omega (arith, join-at a b j h, p j h, q j h)
+pub join_least : (a b c : List ℕ) → Covers c a → Covers c b → Covers c (join a b)
+join_least a b c p q j h = omega (arith, join_at_lem a b j h, p j h, q j h)

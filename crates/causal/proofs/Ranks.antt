@@ -10,21 +10,21 @@ use borrow.Author.Tests.{ltb-true, ltb-false, lt-ltb, le-ltb}
 use native.Mathlib.Numerals.{add-one}
 use lib.ListN.{length, get_or, drop, length-append, drop_of_length-le}
 use lib.Seq.{drop-cons}
-use Rattle.causal.specs.Rank.{higher, rank_of, ranksAbove}
-use Rattle.causal.proofs.Tests.{false-true}
+use Rattle.causal.specs.Rank.{higher, rank_of, ranks_above}
+use Rattle.causal.proofs.Tests.{false_true}
 
 -- how it compares, place by place
-pub higher-more : (x y : ℕ) (xs ys : List ℕ) → y < x → higher (x ∷ xs) (y ∷ ys) ≡ true
+pub higher_more : (x y : ℕ) (xs ys : List ℕ) → y < x → higher (x ∷ xs) (y ∷ ys) ≡ true
 unfolding higher
-higher-more x y xs ys h = rw (lt-ltb y x h)
+higher_more x y xs ys h = rw (lt-ltb y x h)
 
-pub higher-less : (x y : ℕ) (xs ys : List ℕ) → x < y → higher (x ∷ xs) (y ∷ ys) ≡ false
+pub higher_less : (x y : ℕ) (xs ys : List ℕ) → x < y → higher (x ∷ xs) (y ∷ ys) ≡ false
 unfolding higher
-higher-less x y xs ys h = rw (le-ltb y x (omega arith), lt-ltb x y h)
+higher_less x y xs ys h = rw (le-ltb y x (omega arith), lt-ltb x y h)
 
-pub higher-same : (x y : ℕ) (xs ys : List ℕ) → x ≡ y → higher (x ∷ xs) (y ∷ ys) ≡ higher xs ys
+pub higher_same : (x y : ℕ) (xs ys : List ℕ) → x ≡ y → higher (x ∷ xs) (y ∷ ys) ≡ higher xs ys
 unfolding higher
-higher-same x y xs ys h = rw (le-ltb y x (omega arith), le-ltb x y (omega arith))
+higher_same x y xs ys h = rw (le-ltb y x (omega arith), le-ltb x y (omega arith))
 
 pub data Order (x y : ℕ) : Type 0 where
   less : x < y → Order x y
@@ -39,81 +39,81 @@ order x y = go (ltb x y) refl (ltb y x) refl
     go false p true q = more (ltb-true y x q)
     go false p false q = same (omega (arith, ltb-false x y p, ltb-false y x q))
 
-pub higher-irrefl : (xs : List ℕ) → higher xs xs ≡ false
+pub higher_irrefl : (xs : List ℕ) → higher xs xs ≡ false
 unfolding higher
-higher-irrefl [] = refl
-higher-irrefl (x ∷ xs) = higher-same x x xs xs refl ∙ higher-irrefl xs
+higher_irrefl [] = refl
+higher_irrefl (x ∷ xs) = higher_same x x xs xs refl ∙ higher_irrefl xs
 
-pub higher-trans : (xs ys zs : List ℕ) → higher xs ys ≡ true → higher ys zs ≡ true → higher xs zs ≡ true
+pub higher_trans : (xs ys zs : List ℕ) → higher xs ys ≡ true → higher ys zs ≡ true → higher xs zs ≡ true
 unfolding higher
-higher-trans [] ys zs p q = false-true p
-higher-trans (x ∷ xs) [] zs p q = false-true q
-higher-trans (x ∷ xs) (y ∷ ys) [] p q = refl
-higher-trans (x ∷ xs) (y ∷ ys) (z ∷ zs) p q = go (order x y) (order y z) (higher-trans xs ys zs)
+higher_trans [] ys zs p q = false_true p
+higher_trans (x ∷ xs) [] zs p q = false_true q
+higher_trans (x ∷ xs) (y ∷ ys) [] p q = refl
+higher_trans (x ∷ xs) (y ∷ ys) (z ∷ zs) p q = go (order x y) (order y z) (higher_trans xs ys zs)
   where
     go : Order x y → Order y z → (higher xs ys ≡ true → higher ys zs ≡ true → higher xs zs ≡ true) → higher (x ∷ xs) (z ∷ zs) ≡ true
-    go (less a) o ih = false-true (sym (higher-less x y xs ys a) ∙ p)
-    go (same a) (less b) ih = false-true (sym (higher-less y z ys zs b) ∙ q)
+    go (less a) o ih = false_true (sym (higher_less x y xs ys a) ∙ p)
+    go (same a) (less b) ih = false_true (sym (higher_less y z ys zs b) ∙ q)
     go (same a) (same b) ih =
-        higher-same x z xs zs (a ∙ b) ∙ ih (sym (higher-same x y xs ys a) ∙ p) (sym (higher-same y z ys zs b) ∙ q)
-    go (same a) (more b) ih = higher-more x z xs zs (omega arith)
-    go (more a) (less b) ih = false-true (sym (higher-less y z ys zs b) ∙ q)
-    go (more a) (same b) ih = higher-more x z xs zs (omega arith)
-    go (more a) (more b) ih = higher-more x z xs zs (omega arith)
+        higher_same x z xs zs (a ∙ b) ∙ ih (sym (higher_same x y xs ys a) ∙ p) (sym (higher_same y z ys zs b) ∙ q)
+    go (same a) (more b) ih = higher_more x z xs zs (omega arith)
+    go (more a) (less b) ih = false_true (sym (higher_less y z ys zs b) ∙ q)
+    go (more a) (same b) ih = higher_more x z xs zs (omega arith)
+    go (more a) (more b) ih = higher_more x z xs zs (omega arith)
 
 -- of two lists one of which is above the other, any third is below the one or above the other
-pub higher-cotrans : (xs ys zs : List ℕ) → higher xs zs ≡ true → (higher xs ys ≡ true) ⊎ (higher ys zs ≡ true)
+pub higher_cotrans : (xs ys zs : List ℕ) → higher xs zs ≡ true → (higher xs ys ≡ true) ⊎ (higher ys zs ≡ true)
 unfolding higher
-higher-cotrans [] ys zs p = false-true p
-higher-cotrans (x ∷ xs) [] zs p = inl refl
-higher-cotrans (x ∷ xs) (y ∷ ys) [] p = inr refl
-higher-cotrans (x ∷ xs) (y ∷ ys) (z ∷ zs) p = go (order x y) (order y z) (λ q. higher-cotrans xs ys zs q)
+higher_cotrans [] ys zs p = false_true p
+higher_cotrans (x ∷ xs) [] zs p = inl refl
+higher_cotrans (x ∷ xs) (y ∷ ys) [] p = inr refl
+higher_cotrans (x ∷ xs) (y ∷ ys) (z ∷ zs) p = go (order x y) (order y z) (λ q. higher_cotrans xs ys zs q)
   where
     go : Order x y → Order y z → (higher xs zs ≡ true → (higher xs ys ≡ true) ⊎ (higher ys zs ≡ true)) → (higher (x ∷ xs) (y ∷ ys) ≡ true) ⊎ (higher (y ∷ ys) (z ∷ zs) ≡ true)
-    go (more a) o ih = inl (higher-more x y xs ys a)
-    go (less a) (more b) ih = inr (higher-more y z ys zs b)
-    go (less a) (same b) ih = false-true (sym (higher-less x z xs zs (omega arith)) ∙ p)
-    go (less a) (less b) ih = false-true (sym (higher-less x z xs zs (omega arith)) ∙ p)
-    go (same a) (more b) ih = inr (higher-more y z ys zs b)
-    go (same a) (less b) ih = false-true (sym (higher-less x z xs zs (omega arith)) ∙ p)
+    go (more a) o ih = inl (higher_more x y xs ys a)
+    go (less a) (more b) ih = inr (higher_more y z ys zs b)
+    go (less a) (same b) ih = false_true (sym (higher_less x z xs zs (omega arith)) ∙ p)
+    go (less a) (less b) ih = false_true (sym (higher_less x z xs zs (omega arith)) ∙ p)
+    go (same a) (more b) ih = inr (higher_more y z ys zs b)
+    go (same a) (less b) ih = false_true (sym (higher_less x z xs zs (omega arith)) ∙ p)
     go (same a) (same b) ih =
-        ⊎_elim (λ q. inl (higher-same x y xs ys a ∙ q)) (λ q. inr (higher-same y z ys zs b ∙ q)) (ih (sym (higher-same x z xs zs (a ∙ b)) ∙ p))
+        ⊎_elim (λ q. inl (higher_same x y xs ys a ∙ q)) (λ q. inr (higher_same y z ys zs b ∙ q)) (ih (sym (higher_same x z xs zs (a ∙ b)) ∙ p))
 
 -- lists as long as each other, neither above the other, are the same
-pub higher-total : (xs ys : List ℕ) → length xs ≡ length ys → higher xs ys ≡ false → higher ys xs ≡ false → xs ≡ ys
+pub higher_total : (xs ys : List ℕ) → length xs ≡ length ys → higher xs ys ≡ false → higher ys xs ≡ false → xs ≡ ys
 unfolding higher
-higher-total [] [] l p q = refl
-higher-total [] (y ∷ ys) l p q = absurd (omega arith)
-higher-total (x ∷ xs) [] l p q = absurd (omega arith)
-higher-total (x ∷ xs) (y ∷ ys) l p q = go (order x y) (λ u v. higher-total xs ys (omega arith) u v)
+higher_total [] [] l p q = refl
+higher_total [] (y ∷ ys) l p q = absurd (omega arith)
+higher_total (x ∷ xs) [] l p q = absurd (omega arith)
+higher_total (x ∷ xs) (y ∷ ys) l p q = go (order x y) (λ u v. higher_total xs ys (omega arith) u v)
   where
     go : Order x y → (higher xs ys ≡ false → higher ys xs ≡ false → xs ≡ ys) → x ∷ xs ≡ y ∷ ys
-    go (less a) ih = false-true (sym q ∙ higher-more y x ys xs a)
-    go (more a) ih = false-true (sym p ∙ higher-more x y xs ys a)
-    go (same a) ih = let r = ih (sym (higher-same x y xs ys a) ∙ p) (sym (higher-same y x ys xs (sym a)) ∙ q) in cc
+    go (less a) ih = false_true (sym q ∙ higher_more y x ys xs a)
+    go (more a) ih = false_true (sym p ∙ higher_more x y xs ys a)
+    go (same a) ih = let r = ih (sym (higher_same x y xs ys a) ∙ p) (sym (higher_same y x ys xs (sym a)) ∙ q) in cc
 
-snoc-eq : (xs ys : List ℕ) (x y : ℕ) → xs ++ (x ∷ []) ≡ ys ++ (y ∷ []) → (xs ≡ ys) × (x ≡ y)
-snoc-eq [] [] x y e = (refl, cc)
-snoc-eq [] (b ∷ ys) x y e = let r : length ((x ∷ [])) ≡ length (b ∷ ys ++ (y ∷ [])) = ap length e in absurd (omega (arith, length-append ys (y ∷ [])))
-snoc-eq (a ∷ xs) [] x y e = let r : length (a ∷ xs ++ (x ∷ [])) ≡ length (y ∷ []) = ap length e in absurd (omega (arith, length-append xs (x ∷ [])))
-snoc-eq (a ∷ xs) (b ∷ ys) x y e = let r = snoc-eq xs ys x y (cc) in let q : a ≡ b = cc in let t = r.0 in (cc, r.1)
+snoc_eq : (xs ys : List ℕ) (x y : ℕ) → xs ++ (x ∷ []) ≡ ys ++ (y ∷ []) → (xs ≡ ys) × (x ≡ y)
+snoc_eq [] [] x y e = (refl, cc)
+snoc_eq [] (b ∷ ys) x y e = let r : length ((x ∷ [])) ≡ length (b ∷ ys ++ (y ∷ [])) = ap length e in absurd (omega (arith, length-append ys (y ∷ [])))
+snoc_eq (a ∷ xs) [] x y e = let r : length (a ∷ xs ++ (x ∷ [])) ≡ length (y ∷ []) = ap length e in absurd (omega (arith, length-append xs (x ∷ [])))
+snoc_eq (a ∷ xs) (b ∷ ys) x y e = let r = snoc_eq xs ys x y (cc) in let q : a ≡ b = cc in let t = r.0 in (cc, r.1)
 
 -- ---- clocks and offices
 
-pub above-irrefl : (c : List ℕ) (o : ℕ) → ranksAbove c o c o ≡ false
-unfolding ranksAbove
-above-irrefl c o = higher-irrefl (rank_of c o)
+pub above_irrefl : (c : List ℕ) (o : ℕ) → ranks_above c o c o ≡ false
+unfolding ranks_above
+above_irrefl c o = higher_irrefl (rank_of c o)
 
-pub above-trans : (a b c : List ℕ) (o p q : ℕ) → ranksAbove a o b p ≡ true → ranksAbove b p c q ≡ true → ranksAbove a o c q ≡ true
-unfolding ranksAbove
-above-trans a b c o p q = higher-trans (rank_of a o) (rank_of b p) (rank_of c q)
+pub above_trans : (a b c : List ℕ) (o p q : ℕ) → ranks_above a o b p ≡ true → ranks_above b p c q ≡ true → ranks_above a o c q ≡ true
+unfolding ranks_above
+above_trans a b c o p q = higher_trans (rank_of a o) (rank_of b p) (rank_of c q)
 
 -- neither outranks the other: the same clock and the same office
-pub above-total : (c d : List ℕ) (o p : ℕ) → length c ≡ length d → ranksAbove c o d p ≡ false → ranksAbove d p c o ≡ false → (c ≡ d) × (o ≡ p)
-unfolding ranksAbove
-above-total c d o p l f g =
+pub above_total : (c d : List ℕ) (o p : ℕ) → length c ≡ length d → ranks_above c o d p ≡ false → ranks_above d p c o ≡ false → (c ≡ d) × (o ≡ p)
+unfolding ranks_above
+above_total c d o p l f g =
     let ll : length (rank_of c o) ≡ length (rank_of d p) = length-append c (o ∷ []) ∙ ap (λ (n : ℕ). n + 1) l ∙ sym (length-append d (p ∷ [])) in
-    snoc-eq c d o p (higher-total (rank_of c o) (rank_of d p) ll f g)
+    snoc_eq c d o p (higher_total (rank_of c o) (rank_of d p) ll f g)
 
 -- ---- a comparison from the front, place by place
 
@@ -122,20 +122,20 @@ module _ (c d : List ℕ) (o p j : ℕ) where
   Left = higher (rank_of (drop j c) o) (rank_of (drop j d) p)
 
   pub rank_same : j < length c → j < length d → get_or c j 0 ≡ get_or d j 0 → Left ≡ higher (rank_of (drop (j + 1) c) o) (rank_of (drop (j + 1) d) p)
-  rank_same h k e = rw (add-one, drop-cons c j 0 h, drop-cons d j 0 k) (higher-same (get_or c j 0) (get_or d j 0) _ _ e)
+  rank_same h k e = rw (add-one, drop-cons c j 0 h, drop-cons d j 0 k) (higher_same (get_or c j 0) (get_or d j 0) _ _ e)
 
-  pub rank-differs : j < length c → j < length d → (get_or c j 0 ≡ get_or d j 0 → ⊥) → ltb (get_or d j 0) (get_or c j 0) ≡ Left
-  rank-differs h k n = rw (drop-cons c j 0 h, drop-cons d j 0 k) (go (order (get_or c j 0) (get_or d j 0)))
+  pub rank_differs : j < length c → j < length d → (get_or c j 0 ≡ get_or d j 0 → ⊥) → ltb (get_or d j 0) (get_or c j 0) ≡ Left
+  rank_differs h k n = rw (drop-cons c j 0 h, drop-cons d j 0 k) (go (order (get_or c j 0) (get_or d j 0)))
     where
       go : Order (get_or c j 0) (get_or d j 0)
           → ltb (get_or d j 0) (get_or c j 0) ≡ higher (get_or c j 0 ∷ rank_of (drop (suc j) c) o) (get_or d j 0 ∷ rank_of (drop (suc j) d) p)
-      go (less a) = le-ltb (get_or d j 0) (get_or c j 0) (omega arith) ∙ sym (higher-less _ _ _ _ a)
+      go (less a) = le-ltb (get_or d j 0) (get_or c j 0) (omega arith) ∙ sym (higher_less _ _ _ _ a)
       go (same a) = absurd (n a)
-      go (more a) = lt-ltb _ _ a ∙ sym (higher-more _ _ _ _ a)
+      go (more a) = lt-ltb _ _ a ∙ sym (higher_more _ _ _ _ a)
 
-  pub rank-end : length c ≤ j → length d ≤ j → ltb p o ≡ Left
+  pub rank_end : length c ≤ j → length d ≤ j → ltb p o ≡ Left
   unfolding higher
-  rank-end h k = rw (drop_of_length-le c {i = j} h, drop_of_length-le d {i = j} k) (go (ltb p o) refl (ltb o p) refl)
+  rank_end h k = rw (drop_of_length-le c {i = j} h, drop_of_length-le d {i = j} k) (go (ltb p o) refl (ltb o p) refl)
     where
       go : (a : Bool) → ltb p o ≡ a → (b : Bool) → ltb o p ≡ b → a ≡ cond a true (cond b false false)
       go true e b f = refl

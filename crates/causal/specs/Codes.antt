@@ -13,6 +13,6 @@ or_else zero b = b
 or_else (suc a) b = suc a
 
 -- the first refusal of p 0, p 1, .., p (n - 1)
-unfoldable pub firstCode : ℕ → (ℕ → ℕ) → ℕ
-firstCode zero p = 0
-firstCode (suc n) p = or_else (firstCode n p) (p n)
+unfoldable pub first_code : ℕ → (ℕ → ℕ) → ℕ
+first_code zero p = 0
+first_code (suc n) p = or_else (first_code n p) (p n)

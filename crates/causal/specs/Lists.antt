@@ -12,9 +12,9 @@ tab zero f = []
 tab (suc n) f = tab n f ++ (f n ∷ [])
 
 -- f 0 + f 1 + .. + f (n - 1)
-unfoldable pub sumBelow : ℕ → (ℕ → ℕ) → ℕ
-sumBelow zero f = 0
-sumBelow (suc n) f = sumBelow n f + f n
+unfoldable pub sum_below : ℕ → (ℕ → ℕ) → ℕ
+sum_below zero f = 0
+sum_below (suc n) f = sum_below n f + f n
 
 -- eight zeros: the empty set, and the clock of nobody
 abbrev pub zeros : List ℕ
@@ -34,8 +34,8 @@ zip8 f a b =
     ∷ []
 
 -- the same words
-unfoldable pub eqWords : List ℕ → List ℕ → Bool
-eqWords [] [] = true
-eqWords [] (b ∷ ys) = false
-eqWords (a ∷ xs) [] = false
-eqWords (a ∷ xs) (b ∷ ys) = both (eqb a b) (eqWords xs ys)
+unfoldable pub eq_words : List ℕ → List ℕ → Bool
+eq_words [] [] = true
+eq_words [] (b ∷ ys) = false
+eq_words (a ∷ xs) [] = false
+eq_words (a ∷ xs) (b ∷ ys) = both (eqb a b) (eq_words xs ys)

@@ -12,5 +12,5 @@ higher (x ∷ xs) (y ∷ ys) = cond (ltb y x) true (cond (ltb x y) false (higher
 abbrev pub rank_of : List ℕ → ℕ → List ℕ
 rank_of clock office = clock ++ (office ∷ [])
 
-unfoldable pub ranksAbove : List ℕ → ℕ → List ℕ → ℕ → Bool
-ranksAbove c o d p = higher (rank_of c o) (rank_of d p)
+unfoldable pub ranks_above : List ℕ → ℕ → List ℕ → ℕ → Bool
+ranks_above c o d p = higher (rank_of c o) (rank_of d p)

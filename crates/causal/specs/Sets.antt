@@ -4,7 +4,7 @@ use Rattle.std.specs.Prelude.{ℕ, ◌+◌, ◌/◌, ◌%◌, ◌^◌, ◌<◌, 
 use Rattle.std.specs.Int.Bits.{bit_or, bit_xor}
 use Rattle.std.specs.Int.Count.{count_trailing_zeros}
 use Rattle.causal.specs.Tests.{all_below}
-use Rattle.causal.specs.Lists.{zip8, sumBelow}
+use Rattle.causal.specs.Lists.{zip8, sum_below}
 use Rattle.causal.specs.declared.set.Lowest.{Lowest}
 use Rattle.causal.specs.declared.set.Lowest.TheVariants.{At, Empty}
 
@@ -16,8 +16,8 @@ bit w i = w / 2 ^ i % 2
 unfoldable pub has : List ℕ → ℕ → ℕ
 has s k = bit (get_or s (k / 32) 0) (k % 32)
 
-unfoldable pub isIn : List ℕ → ℕ → Bool
-isIn s k = eqb (has s k) 1
+unfoldable pub is_in : List ℕ → ℕ → Bool
+is_in s k = eqb (has s k) 1
 
 -- the list is a set of ids: eight words, each below 2 ^ 32
 pub record IdSet (s : List ℕ) : Type 0 where
@@ -41,21 +41,21 @@ is_empty s = all_below 8 (λ i. eqb (get_or s i 0) 0)
 unfoldable pub word_in : List ℕ → List ℕ → ℕ → Bool
 word_in a b i = eqb (bit_or (get_or a i 0) (get_or b i 0)) (get_or b i 0)
 
-unfoldable pub subsetOf : List ℕ → List ℕ → Bool
-subsetOf a b = all_below 8 (word_in a b)
+unfoldable pub subset_of : List ℕ → List ℕ → Bool
+subset_of a b = all_below 8 (word_in a b)
 
 -- how many members
 unfoldable pub size_of : List ℕ → ℕ
-size_of s = sumBelow 256 (has s)
+size_of s = sum_below 256 (has s)
 
 -- every member of a is one of b
 abbrev pub Within : List ℕ → List ℕ → Type 0
 Within a b = (k : ℕ) → has a k ≡ 1 → has b k ≡ 1
 
 -- the lowest member of the words s, the first of which stands for base and what follows
-unfoldable pub lowestIn : List ℕ → ℕ → Lowest
-lowestIn [] base = Empty
-lowestIn (w ∷ ws) base = cond (eqb w 0) (lowestIn ws (base + 32)) (At (base + count_trailing_zeros 32 w))
+unfoldable pub lowest_in : List ℕ → ℕ → Lowest
+lowest_in [] base = Empty
+lowest_in (w ∷ ws) base = cond (eqb w 0) (lowest_in ws (base + 32)) (At (base + count_trailing_zeros 32 w))
 
-unfoldable pub lowestOf : List ℕ → Lowest
-lowestOf s = lowestIn s 0
+unfoldable pub lowest_of : List ℕ → Lowest
+lowest_of s = lowest_in s 0

@@ -1,6 +1,6 @@
 // Sets of ids (01: of names) as eight words: id k, 0 <= k < 256, is bit k % 32 of word k / 32.
 ghost use Rattle.std.specs.Prelude.{◌≡◌, cond, eqb};
-ghost use Rattle.causal.specs.Sets.{isIn, inserted, unite, minus, is_empty, subsetOf, size_of, lowestOf};
+ghost use Rattle.causal.specs.Sets.{is_in, inserted, unite, minus, is_empty, subset_of, size_of, lowest_of};
 
 #[derive(Drop)]
 pub enum Lowest {
@@ -10,7 +10,7 @@ pub enum Lowest {
 
 // Is k a member? A number from 256 on is none.
 pub fn contains(set: [u32; 8], k: usize) -> bool
-    ensures { result ≡ isIn set k }
+    ensures { result ≡ is_in set k }
 {
     if k >= 256 {
         return false;
@@ -89,7 +89,7 @@ pub fn is_empty(set: [u32; 8]) -> bool
 
 // Is every member of a one of b?
 pub fn subset(a: [u32; 8], b: [u32; 8]) -> bool
-    ensures { result ≡ subsetOf a b }
+    ensures { result ≡ subset_of a b }
 {
     let left = without(a, b);
     is_empty(left)
@@ -108,7 +108,7 @@ pub fn size(set: [u32; 8]) -> usize
 
 // The least member.
 pub fn lowest_of(set: [u32; 8]) -> Lowest
-    ensures { result ≡ lowestOf set }
+    ensures { result ≡ lowest_of set }
 {
     let mut i = 0;
     while i < 8 {

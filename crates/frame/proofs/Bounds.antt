@@ -2,18 +2,18 @@
 -- with two conditions at once, then with the later one alone. Assumes nothing.
 use Rattle.std.proofs.Common.{◌≡◌, ℕ, ◌+◌, true, false, List, [], ◌∷◌, refl}
 use Rattle.causal.specs.Codes.{check}
-use Rattle.causal.specs.Lists.{eqWords, part, tab, zeros}
-use Rattle.causal.specs.Sets.{bit, has, inserted, isIn, subsetOf, unite, word_in}
+use Rattle.causal.specs.Lists.{eq_words, part, tab, zeros}
+use Rattle.causal.specs.Sets.{bit, has, inserted, is_in, subset_of, unite, word_in}
 use Rattle.causal.specs.Tests.{all_below, both, either}
-use Rattle.frame.specs.Calls.{readFrameCode, writeFrameCode}
-use Rattle.frame.specs.Entries.{boundsOk, clockOk, clockPlaceOk, entryOk, idsOk, idsPlaceOk}
-use Rattle.frame.specs.Frames.{accepts, bodyWords, frame_of, frameOk, frameWords, framed, ringOk}
-use Rattle.frame.specs.Sessions.{Content, freshContent, ownOk, sessionOk}
-use Rattle.frame.specs.TokenCalls.{readTokenCode, writeTokenCode}
-use Rattle.frame.specs.Tokens.{acceptsToken, contentFrom, ownFrom, rows_of, tokenWords}
-use Rattle.frame.specs.Words.{clockFrom, clockWords, idWordIf, idWords, idWordsTo, idsFrom, summed, total}
+use Rattle.frame.specs.Calls.{read_frame_code, write_frame_code}
+use Rattle.frame.specs.Entries.{bounds_ok, clock_ok, clock_place_ok, entry_ok, ids_ok, ids_place_ok}
+use Rattle.frame.specs.Frames.{accepts, body_words, frame_of, frame_ok, frame_words, framed, ring_ok}
+use Rattle.frame.specs.Sessions.{Content, fresh_content, own_ok, session_ok}
+use Rattle.frame.specs.TokenCalls.{read_token_code, write_token_code}
+use Rattle.frame.specs.Tokens.{accepts_token, content_from, own_from, rows_of, token_words}
+use Rattle.frame.specs.Words.{clock_from, clock_words, id_word_if, id_words, id_words_to, ids_from, summed, total}
 use Rattle.frame.specs.declared.entry.Entry.{Entry}
-use Rattle.frame.proofs.Cases.{entryA, entryB, rowA}
+use Rattle.frame.proofs.Cases.{entry_a, entry_b, row_a}
 
 -- the entry of office 1 with the serial s and the dependencies d
 abbrev pub numbered : ℕ → List ℕ → Entry
@@ -36,83 +36,83 @@ only i = inserted zeros (32 + i)
 
 -- "offices in a ring: 2 to 8", "plots: 1 to 64"
 pub record Rings : Type 0 where
-  pub ring-1 : ringOk 1 64 ≡ false
-  pub ring-2 : ringOk 2 64 ≡ true
-  pub ring-8 : ringOk 8 64 ≡ true
-  pub ring-9 : ringOk 9 64 ≡ false
-  pub plots-0 : ringOk 3 0 ≡ false
-  pub plots-1 : ringOk 3 1 ≡ true
-  pub plots-64 : ringOk 3 64 ≡ true
-  pub plots-65 : ringOk 3 65 ≡ false
+  pub ring_1 : ring_ok 1 64 ≡ false
+  pub ring_2 : ring_ok 2 64 ≡ true
+  pub ring_8 : ring_ok 8 64 ≡ true
+  pub ring_9 : ring_ok 9 64 ≡ false
+  pub plots_0 : ring_ok 3 0 ≡ false
+  pub plots_1 : ring_ok 3 1 ≡ true
+  pub plots_64 : ring_ok 3 64 ≡ true
+  pub plots_65 : ring_ok 3 65 ≡ false
 
 -- the entry rules: office, serial, plot, value; then clock, own number and dependencies
 pub record Rules : Type 0 where
-  pub office-2 : boundsOk 3 64 2 1 5 709 ≡ true
-  pub office-3 : boundsOk 3 64 3 1 5 709 ≡ false
-  pub serial-0 : boundsOk 3 64 0 0 5 709 ≡ false
-  pub serial-1 : boundsOk 3 64 0 1 5 709 ≡ true
-  pub serial-32 : boundsOk 3 64 0 32 5 709 ≡ true
-  pub serial-33 : boundsOk 3 64 0 33 5 709 ≡ false
-  pub plot-63 : boundsOk 3 64 0 1 63 709 ≡ true
-  pub plot-64 : boundsOk 3 64 0 1 64 709 ≡ false
-  pub value-top : boundsOk 3 64 0 1 5 268435455 ≡ true
-  pub value-over : boundsOk 3 64 0 1 5 268435456 ≡ false
+  pub office_2 : bounds_ok 3 64 2 1 5 709 ≡ true
+  pub office_3 : bounds_ok 3 64 3 1 5 709 ≡ false
+  pub serial_0 : bounds_ok 3 64 0 0 5 709 ≡ false
+  pub serial_1 : bounds_ok 3 64 0 1 5 709 ≡ true
+  pub serial_32 : bounds_ok 3 64 0 32 5 709 ≡ true
+  pub serial_33 : bounds_ok 3 64 0 33 5 709 ≡ false
+  pub plot_63 : bounds_ok 3 64 0 1 63 709 ≡ true
+  pub plot_64 : bounds_ok 3 64 0 1 64 709 ≡ false
+  pub value_top : bounds_ok 3 64 0 1 5 268435455 ≡ true
+  pub value_over : bounds_ok 3 64 0 1 5 268435456 ≡ false
   -- "each 0 to 32", "unused offices zero"
-  pub clock-32 : clockOk 3 (0 ∷ 0 ∷ 32 ∷ 0 ∷ 0 ∷ 0 ∷ 0 ∷ 0 ∷ []) ≡ true
-  pub clock-33 : clockOk 3 (0 ∷ 0 ∷ 33 ∷ 0 ∷ 0 ∷ 0 ∷ 0 ∷ 0 ∷ []) ≡ false
-  pub clock-unused : clockOk 3 (0 ∷ 0 ∷ 0 ∷ 1 ∷ 0 ∷ 0 ∷ 0 ∷ 0 ∷ []) ≡ false
+  pub clock_32 : clock_ok 3 (0 ∷ 0 ∷ 32 ∷ 0 ∷ 0 ∷ 0 ∷ 0 ∷ 0 ∷ []) ≡ true
+  pub clock_33 : clock_ok 3 (0 ∷ 0 ∷ 33 ∷ 0 ∷ 0 ∷ 0 ∷ 0 ∷ 0 ∷ []) ≡ false
+  pub clock_unused : clock_ok 3 (0 ∷ 0 ∷ 0 ∷ 1 ∷ 0 ∷ 0 ∷ 0 ∷ 0 ∷ []) ≡ false
   -- "its own office's number equals its serial"; "No entry depends on itself"; names of offices that the ring has
-  pub own-number : entryOk 3 64 (numbered 4 zeros) ≡ true
-  pub other-number : entryOk 3 64 (clocked 4 3 5) ≡ false
-  pub on-another : entryOk 3 64 (numbered 4 (only 2)) ≡ true
-  pub on-itself : entryOk 3 64 (numbered 4 (only 3)) ≡ false
-  pub on-a-stranger : entryOk 3 64 (numbered 4 (0 ∷ 0 ∷ 0 ∷ 1 ∷ 0 ∷ 0 ∷ 0 ∷ 0 ∷ [])) ≡ false
+  pub own_number : entry_ok 3 64 (numbered 4 zeros) ≡ true
+  pub other_number : entry_ok 3 64 (clocked 4 3 5) ≡ false
+  pub on_another : entry_ok 3 64 (numbered 4 (only 2)) ≡ true
+  pub on_itself : entry_ok 3 64 (numbered 4 (only 3)) ≡ false
+  pub on_a_stranger : entry_ok 3 64 (numbered 4 (0 ∷ 0 ∷ 0 ∷ 1 ∷ 0 ∷ 0 ∷ 0 ∷ 0 ∷ [])) ≡ false
 
 -- "own entries carried by an errand: 16"; "own entries have distinct names .., and each depends only on read names and earlier own entries"
 pub record Carried : Type 0 where
-  pub carries-16 : sessionOk 3 64 (loaded 16) ≡ true
-  pub carries-17 : sessionOk 3 64 (loaded 17) ≡ false
-  pub other-ring : sessionOk 4 64 (loaded 1) ≡ false
-  pub fewer-plots : sessionOk 3 5 (loaded 1) ≡ false
-  pub same_name : sessionOk 3 64 (carrying (numbered 1 zeros ∷ numbered 1 zeros ∷ [])) ≡ false
-  pub on-earlier : sessionOk 3 64 (carrying (numbered 1 zeros ∷ numbered 2 (only 0) ∷ [])) ≡ true
-  pub on-later : sessionOk 3 64 (carrying (numbered 1 (only 1) ∷ numbered 2 zeros ∷ [])) ≡ false
+  pub carries_16 : session_ok 3 64 (loaded 16) ≡ true
+  pub carries_17 : session_ok 3 64 (loaded 17) ≡ false
+  pub other_ring : session_ok 4 64 (loaded 1) ≡ false
+  pub fewer_plots : session_ok 3 5 (loaded 1) ≡ false
+  pub same_name : session_ok 3 64 (carrying (numbered 1 zeros ∷ numbered 1 zeros ∷ [])) ≡ false
+  pub on_earlier : session_ok 3 64 (carrying (numbered 1 zeros ∷ numbered 2 (only 0) ∷ [])) ≡ true
+  pub on_later : session_ok 3 64 (carrying (numbered 1 (only 1) ∷ numbered 2 zeros ∷ [])) ≡ false
 
 pub record Frames : Type 0 where
   -- "The "still to hear" count is at most offices − 2"
-  pub hops-in-2 : frameOk 2 64 (framed 2 0 entryA) ≡ true
-  pub hops-over-2 : frameOk 2 64 (framed 2 1 entryA) ≡ false
-  pub hops-in-3 : frameOk 3 64 (framed 3 1 entryA) ≡ true
-  pub hops-over-3 : frameOk 3 64 (framed 3 2 entryA) ≡ false
-  pub hops-in-8 : frameOk 8 64 (framed 8 6 entryA) ≡ true
-  pub hops-over-8 : frameOk 8 64 (framed 8 7 entryA) ≡ false
+  pub hops_in_2 : frame_ok 2 64 (framed 2 0 entry_a) ≡ true
+  pub hops_over_2 : frame_ok 2 64 (framed 2 1 entry_a) ≡ false
+  pub hops_in_3 : frame_ok 3 64 (framed 3 1 entry_a) ≡ true
+  pub hops_over_3 : frame_ok 3 64 (framed 3 2 entry_a) ≡ false
+  pub hops_in_8 : frame_ok 8 64 (framed 8 6 entry_a) ≡ true
+  pub hops_over_8 : frame_ok 8 64 (framed 8 7 entry_a) ≡ false
   -- read as a frame of its ring and plots, of another ring, of too few plots
-  pub reads : readFrameCode 3 6 rowA ≡ 0
-  pub other-ring : readFrameCode 4 64 rowA ≡ 9
-  pub fewer-plots : readFrameCode 3 5 rowA ≡ 9
+  pub reads : read_frame_code 3 6 row_a ≡ 0
+  pub other_ring : read_frame_code 4 64 row_a ≡ 9
+  pub fewer_plots : read_frame_code 3 5 row_a ≡ 9
   -- reading: 1 and 9; 9
-  pub order-1-9 : readFrameCode 9 64 [] ∷ readFrameCode 8 64 [] ∷ [] ≡ 1 ∷ 9 ∷ []
+  pub order_1_9 : read_frame_code 9 64 [] ∷ read_frame_code 8 64 [] ∷ [] ≡ 1 ∷ 9 ∷ []
   -- writing: room, and one word short; 3 and 8; 8
-  pub room : writeFrameCode (framed 3 1 entryB) 8 ∷ writeFrameCode (framed 3 1 entryB) 7 ∷ [] ≡ 0 ∷ 8 ∷ []
-  pub order-3-8 : writeFrameCode (framed 3 2 entryB) 7 ∷ writeFrameCode (framed 3 1 entryB) 7 ∷ [] ≡ 3 ∷ 8 ∷ []
-  pub order-3-8-ring : writeFrameCode (framed 9 1 entryB) 0 ∷ writeFrameCode (framed 8 1 entryB) 0 ∷ [] ≡ 3 ∷ 8 ∷ []
+  pub room : write_frame_code (framed 3 1 entry_b) 8 ∷ write_frame_code (framed 3 1 entry_b) 7 ∷ [] ≡ 0 ∷ 8 ∷ []
+  pub order_3_8 : write_frame_code (framed 3 2 entry_b) 7 ∷ write_frame_code (framed 3 1 entry_b) 7 ∷ [] ≡ 3 ∷ 8 ∷ []
+  pub order_3_8_ring : write_frame_code (framed 9 1 entry_b) 0 ∷ write_frame_code (framed 8 1 entry_b) 0 ∷ [] ≡ 3 ∷ 8 ∷ []
   -- plot 63 is in a frame of its ring size with 64 plots, 64 is not
-  pub last-plot : writeFrameCode (framed 3 1 (clocked 1 1 63)) 7 ≡ 0
-  pub plot-over : writeFrameCode (framed 3 1 (clocked 1 1 64)) 7 ≡ 3
+  pub last_plot : write_frame_code (framed 3 1 (clocked 1 1 63)) 7 ≡ 0
+  pub plot_over : write_frame_code (framed 3 1 (clocked 1 1 64)) 7 ≡ 3
 
 pub record Tokens : Type 0 where
   -- twelve words, read with plots that cover its own entry, with too few, in another ring
-  pub reads : readTokenCode 3 6 (tokenWords (loaded 1)) ≡ 0
-  pub fewer-plots : readTokenCode 3 5 (tokenWords (loaded 1)) ≡ 9
-  pub other-ring : readTokenCode 4 64 (tokenWords (loaded 1)) ≡ 9
+  pub reads : read_token_code 3 6 (token_words (loaded 1)) ≡ 0
+  pub fewer_plots : read_token_code 3 5 (token_words (loaded 1)) ≡ 9
+  pub other_ring : read_token_code 4 64 (token_words (loaded 1)) ≡ 9
   -- reading: 1 and 9; 9
-  pub order-1-9 : readTokenCode 9 64 [] ∷ readTokenCode 8 64 [] ∷ [] ≡ 1 ∷ 9 ∷ []
+  pub order_1_9 : read_token_code 9 64 [] ∷ read_token_code 8 64 [] ∷ [] ≡ 1 ∷ 9 ∷ []
   -- writing: room, and one word short; 3 and 8; 8
-  pub room : writeTokenCode (loaded 1) 12 ∷ writeTokenCode (loaded 1) 11 ∷ [] ≡ 0 ∷ 8 ∷ []
-  pub order-3-8 : writeTokenCode (carrying (numbered 0 zeros ∷ [])) 0 ∷ writeTokenCode (loaded 1) 0 ∷ [] ≡ 3 ∷ 8 ∷ []
-  pub order-3-8-ring : writeTokenCode (freshContent 9) 0 ∷ writeTokenCode (freshContent 8) 0 ∷ [] ≡ 3 ∷ 8 ∷ []
-  pub carries-16 : writeTokenCode (loaded 16) 117 ≡ 0
-  pub carries-17 : writeTokenCode (loaded 17) 0 ≡ 3
+  pub room : write_token_code (loaded 1) 12 ∷ write_token_code (loaded 1) 11 ∷ [] ≡ 0 ∷ 8 ∷ []
+  pub order_3_8 : write_token_code (carrying (numbered 0 zeros ∷ [])) 0 ∷ write_token_code (loaded 1) 0 ∷ [] ≡ 3 ∷ 8 ∷ []
+  pub order_3_8_ring : write_token_code (fresh_content 9) 0 ∷ write_token_code (fresh_content 8) 0 ∷ [] ≡ 3 ∷ 8 ∷ []
+  pub carries_16 : write_token_code (loaded 16) 117 ≡ 0
+  pub carries_17 : write_token_code (loaded 17) 0 ≡ 3
 
 pub record Bounds : Type 0 where
   pub rings : Rings
@@ -122,79 +122,79 @@ pub record Bounds : Type 0 where
   pub tokens : Tokens
 
 pub bounds : Bounds
-unfolding both ringOk either all_below bit has isIn inserted clockPlaceOk clockOk idsPlaceOk idsOk boundsOk entryOk tab unite word_in subsetOf ownOk sessionOk check eqWords part clockWords clockFrom idWordIf idWordsTo idWords idsFrom total summed bodyWords frameWords frameOk frame_of accepts readFrameCode writeFrameCode rows_of tokenWords ownFrom contentFrom acceptsToken readTokenCode writeTokenCode
+unfolding both ring_ok either all_below bit has is_in inserted clock_place_ok clock_ok ids_place_ok ids_ok bounds_ok entry_ok tab unite word_in subset_of own_ok session_ok check eq_words part clock_words clock_from id_word_if id_words_to id_words ids_from total summed body_words frame_words frame_ok frame_of accepts read_frame_code write_frame_code rows_of token_words own_from content_from accepts_token read_token_code write_token_code
 bounds =
     record {
       rings =
           record {
-            ring-1 = refl;
-            ring-2 = refl;
-            ring-8 = refl;
-            ring-9 = refl;
-            plots-0 = refl;
-            plots-1 = refl;
-            plots-64 = refl;
-            plots-65 = refl;
+            ring_1 = refl;
+            ring_2 = refl;
+            ring_8 = refl;
+            ring_9 = refl;
+            plots_0 = refl;
+            plots_1 = refl;
+            plots_64 = refl;
+            plots_65 = refl;
           };
       rules =
           record {
-            office-2 = refl;
-            office-3 = refl;
-            serial-0 = refl;
-            serial-1 = refl;
-            serial-32 = refl;
-            serial-33 = refl;
-            plot-63 = refl;
-            plot-64 = refl;
-            value-top = refl;
-            value-over = refl;
-            clock-32 = refl;
-            clock-33 = refl;
-            clock-unused = refl;
-            own-number = refl;
-            other-number = refl;
-            on-another = refl;
-            on-itself = refl;
-            on-a-stranger = refl;
+            office_2 = refl;
+            office_3 = refl;
+            serial_0 = refl;
+            serial_1 = refl;
+            serial_32 = refl;
+            serial_33 = refl;
+            plot_63 = refl;
+            plot_64 = refl;
+            value_top = refl;
+            value_over = refl;
+            clock_32 = refl;
+            clock_33 = refl;
+            clock_unused = refl;
+            own_number = refl;
+            other_number = refl;
+            on_another = refl;
+            on_itself = refl;
+            on_a_stranger = refl;
           };
       carried =
           record {
-            carries-16 = refl;
-            carries-17 = refl;
-            other-ring = refl;
-            fewer-plots = refl;
+            carries_16 = refl;
+            carries_17 = refl;
+            other_ring = refl;
+            fewer_plots = refl;
             same_name = refl;
-            on-earlier = refl;
-            on-later = refl;
+            on_earlier = refl;
+            on_later = refl;
           };
       frames =
           record {
-            hops-in-2 = refl;
-            hops-over-2 = refl;
-            hops-in-3 = refl;
-            hops-over-3 = refl;
-            hops-in-8 = refl;
-            hops-over-8 = refl;
+            hops_in_2 = refl;
+            hops_over_2 = refl;
+            hops_in_3 = refl;
+            hops_over_3 = refl;
+            hops_in_8 = refl;
+            hops_over_8 = refl;
             reads = refl;
-            other-ring = refl;
-            fewer-plots = refl;
-            order-1-9 = refl;
+            other_ring = refl;
+            fewer_plots = refl;
+            order_1_9 = refl;
             room = refl;
-            order-3-8 = refl;
-            order-3-8-ring = refl;
-            last-plot = refl;
-            plot-over = refl;
+            order_3_8 = refl;
+            order_3_8_ring = refl;
+            last_plot = refl;
+            plot_over = refl;
           };
       tokens =
           record {
             reads = refl;
-            fewer-plots = refl;
-            other-ring = refl;
-            order-1-9 = refl;
+            fewer_plots = refl;
+            other_ring = refl;
+            order_1_9 = refl;
             room = refl;
-            order-3-8 = refl;
-            order-3-8-ring = refl;
-            carries-16 = refl;
-            carries-17 = refl;
+            order_3_8 = refl;
+            order_3_8_ring = refl;
+            carries_16 = refl;
+            carries_17 = refl;
           };
     }

@@ -9,13 +9,13 @@ use seplogic.Ra.Ura.{Ura}
 use prog.Memory.{Memory}
 use prog.Routine.{Routine}
 use Rattle.frame.specs.Promises.{ReadFramePromise, ReadTokenPromise, WriteFramePromise, WriteTokenPromise}
-use Rattle.frame.specs.Refusals.{code_of, replyOf}
+use Rattle.frame.specs.Refusals.{code_of, reply_of}
 use Rattle.frame.specs.declared.entry.Frame.{Frame}
 use Rattle.frame.specs.declared.reader.FrameRead.{FrameRead}
 use Rattle.frame.specs.declared.refusal.Written.{Written}
 use Rattle.frame.specs.declared.session.Session.{Session}
 use Rattle.frame.specs.declared.token.TokenRead.{TokenRead}
-use Rattle.frame.proofs.reader.read_frame as read-frame
+use Rattle.frame.proofs.reader.read_frame as read_frame_lem
 use Rattle.frame.proofs.token.read_token as read-token
 use Rattle.frame.proofs.token.write_token as write-token
 use Rattle.frame.proofs.writer.write_frame as write-frame
@@ -42,40 +42,40 @@ Lent = Bor Session
 
 module _ {M : Type 1} {𝓤 : Ura M} (𝓛 : Logic 𝓤) (mem : Memory → SProp 𝓤) (run : Routine → Fun 𝓤) where
   pub record FrameContracts : Type 2 where
-    pub read-frame-met : read-frame.Statement.statement M
-    pub read-frame-is : (κs : One) (words : Row) (n p : ℕ) (r : FrameRead) (words' : Row)
-        → (read-frame.clauses 𝓛 mem run κs (words, (n, (p, tt)))).ensures tt r (words', (n, (p, tt)))
+    pub read_frame_met : read_frame_lem.Statement.statement M
+    pub read_frame_is : (κs : One) (words : Row) (n p : ℕ) (r : FrameRead) (words' : Row)
+        → (read_frame_lem.clauses 𝓛 mem run κs (words, (n, (p, tt)))).ensures tt r (words', (n, (p, tt)))
         ≡ fact 𝓤 (ReadFramePromise words.now n p (code_of r.status) r.frame)
-    pub read-frame-asks : (κs : One) (words : Row) (n p : ℕ) → (read-frame.clauses 𝓛 mem run κs (words, (n, (p, tt)))).requires tt ≡ emp 𝓤
-    pub write-frame-met : write-frame.Statement.statement M
-    pub write-frame-is : (κs : One) (f : Frame) (row : Row) (r : Written) (row' : Row)
+    pub read_frame_asks : (κs : One) (words : Row) (n p : ℕ) → (read_frame_lem.clauses 𝓛 mem run κs (words, (n, (p, tt)))).requires tt ≡ emp 𝓤
+    pub write_frame_met : write-frame.Statement.statement M
+    pub write_frame_is : (κs : One) (f : Frame) (row : Row) (r : Written) (row' : Row)
         → (write-frame.clauses 𝓛 mem run κs (f, (row, tt))).ensures tt r (f, (row', tt))
-        ≡ fact 𝓤 (WriteFramePromise f row.now (replyOf r) row'.now)
-    pub write-frame-asks : (κs : One) (f : Frame) (row : Row) → (write-frame.clauses 𝓛 mem run κs (f, (row, tt))).requires tt ≡ emp 𝓤
-    pub read-token-met : read-token.Statement.statement M
-    pub read-token-is : (κs : One) (words : Row) (n p : ℕ) (r : TokenRead) (words' : Row)
+        ≡ fact 𝓤 (WriteFramePromise f row.now (reply_of r) row'.now)
+    pub write_frame_asks : (κs : One) (f : Frame) (row : Row) → (write-frame.clauses 𝓛 mem run κs (f, (row, tt))).requires tt ≡ emp 𝓤
+    pub read_token_met : read-token.Statement.statement M
+    pub read_token_is : (κs : One) (words : Row) (n p : ℕ) (r : TokenRead) (words' : Row)
         → (read-token.clauses 𝓛 mem run κs (words, (n, (p, tt)))).ensures tt r (words', (n, (p, tt)))
         ≡ fact 𝓤 (ReadTokenPromise words.now n p (code_of r.status) r.session)
-    pub read-token-asks : (κs : One) (words : Row) (n p : ℕ) → (read-token.clauses 𝓛 mem run κs (words, (n, (p, tt)))).requires tt ≡ emp 𝓤
-    pub write-token-met : write-token.Statement.statement M
-    pub write-token-is : (κs : One) (s : Session) (row : Row) (r : Written) (row' : Row)
+    pub read_token_asks : (κs : One) (words : Row) (n p : ℕ) → (read-token.clauses 𝓛 mem run κs (words, (n, (p, tt)))).requires tt ≡ emp 𝓤
+    pub write_token_met : write-token.Statement.statement M
+    pub write_token_is : (κs : One) (s : Session) (row : Row) (r : Written) (row' : Row)
         → (write-token.clauses 𝓛 mem run κs (s, (row, tt))).ensures tt r (s, (row', tt))
-        ≡ fact 𝓤 (WriteTokenPromise s row.now (replyOf r) row'.now)
-    pub write-token-asks : (κs : One) (s : Session) (row : Row) → (write-token.clauses 𝓛 mem run κs (s, (row, tt))).requires tt ≡ emp 𝓤
+        ≡ fact 𝓤 (WriteTokenPromise s row.now (reply_of r) row'.now)
+    pub write_token_asks : (κs : One) (s : Session) (row : Row) → (write-token.clauses 𝓛 mem run κs (s, (row, tt))).requires tt ≡ emp 𝓤
 
-  pub frame-contracts : FrameContracts
-  frame-contracts =
+  pub frame_contracts : FrameContracts
+  frame_contracts =
       record {
-        read-frame-met = read-frame.Met.met;
-        read-frame-is = λ κs words n p r words'. refl;
-        read-frame-asks = λ κs words n p. refl;
-        write-frame-met = write-frame.Met.met;
-        write-frame-is = λ κs f row r row'. refl;
-        write-frame-asks = λ κs f row. refl;
-        read-token-met = read-token.Met.met;
-        read-token-is = λ κs words n p r words'. refl;
-        read-token-asks = λ κs words n p. refl;
-        write-token-met = write-token.Met.met;
-        write-token-is = λ κs s row r row'. refl;
-        write-token-asks = λ κs s row. refl;
+        read_frame_met = read_frame_lem.Met.met;
+        read_frame_is = λ κs words n p r words'. refl;
+        read_frame_asks = λ κs words n p. refl;
+        write_frame_met = write-frame.Met.met;
+        write_frame_is = λ κs f row r row'. refl;
+        write_frame_asks = λ κs f row. refl;
+        read_token_met = read-token.Met.met;
+        read_token_is = λ κs words n p r words'. refl;
+        read_token_asks = λ κs words n p. refl;
+        write_token_met = write-token.Met.met;
+        write_token_is = λ κs s row r row'. refl;
+        write_token_asks = λ κs s row. refl;
       }

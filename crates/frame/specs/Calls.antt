@@ -3,37 +3,37 @@ use Rattle.std.specs.Prelude.{ℕ, zero, suc, List, ◌++◌, length, drop, nat_
 use Rattle.causal.specs.Codes.{check}
 use Rattle.frame.specs.declared.entry.Frame.{Frame}
 use Rattle.frame.specs.Refusals.{Reply, replied}
-use Rattle.frame.specs.Frames.{ringOk, frameWords, frameOk, frame_of, accepts, blankFrame}
+use Rattle.frame.specs.Frames.{ring_ok, frame_words, frame_ok, frame_of, accepts, blank_frame}
 
 -- words in front of a row: "Words of a row beyond those named stay"
 unfoldable pub laid : List ℕ → List ℕ → List ℕ
 laid ws row = ws ++ drop (length ws) row
 
 -- the same where there is no refusal, else the row as it came
-unfoldable pub laidIf : ℕ → List ℕ → List ℕ → List ℕ
-laidIf zero ws row = laid ws row
-laidIf (suc c) ws row = row
+unfoldable pub laid_if : ℕ → List ℕ → List ℕ → List ℕ
+laid_if zero ws row = laid ws row
+laid_if (suc c) ws row = row
 
 -- "Reading, with ring size and plots given: 1 if these are out of range, then 9 if it breaks a rule above"
-unfoldable pub readFrameCode : ℕ → ℕ → List ℕ → ℕ
-readFrameCode n p ws = check (ringOk n p) 1 (check (accepts n p ws) 9 0)
+unfoldable pub read_frame_code : ℕ → ℕ → List ℕ → ℕ
+read_frame_code n p ws = check (ring_ok n p) 1 (check (accepts n p ws) 9 0)
 
 -- the frame that is read; on a refusal a fixed blank
-unfoldable pub frameIf : ℕ → List ℕ → Frame
-frameIf zero ws = frame_of ws
-frameIf (suc c) ws = blankFrame
+unfoldable pub frame_if : ℕ → List ℕ → Frame
+frame_if zero ws = frame_of ws
+frame_if (suc c) ws = blank_frame
 
-unfoldable pub readFrame : ℕ → ℕ → List ℕ → Frame
-readFrame n p ws = frameIf (readFrameCode n p ws) ws
+unfoldable pub read_frame : ℕ → ℕ → List ℕ → Frame
+read_frame n p ws = frame_if (read_frame_code n p ws) ws
 
 -- "Writing: 3 for content that no frame or slip of its ring size with 64 plots has, then 8"
-unfoldable pub writeFrameCode : Frame → ℕ → ℕ
-writeFrameCode f room = check (frameOk f.offices 64 f) 3 (check (nat_le (length (frameWords f)) room) 8 0)
+unfoldable pub write_frame_code : Frame → ℕ → ℕ
+write_frame_code f room = check (frame_ok f.offices 64 f) 3 (check (nat_le (length (frame_words f)) room) 8 0)
 
 -- "the number of words written is returned"
-unfoldable pub writeFrame : Frame → ℕ → Reply
-writeFrame f room = replied (writeFrameCode f room) (length (frameWords f))
+unfoldable pub write_frame : Frame → ℕ → Reply
+write_frame f room = replied (write_frame_code f room) (length (frame_words f))
 
 -- the row that is left
-unfoldable pub writeFrameRow : Frame → List ℕ → List ℕ
-writeFrameRow f row = laidIf (writeFrameCode f (length row)) (frameWords f) row
+unfoldable pub write_frame_row : Frame → List ℕ → List ℕ
+write_frame_row f row = laid_if (write_frame_code f (length row)) (frame_words f) row

@@ -34,9 +34,9 @@ pub record Reply : Type 0 where
   pub code : ℕ
   pub words : ℕ
 
-unfoldable pub replyOf : Written → Reply
-replyOf (Words n) = record { code = 0; words = n }
-replyOf (NotWritten x) = record { code = number_of x; words = 0 }
+unfoldable pub reply_of : Written → Reply
+reply_of (Words n) = record { code = 0; words = n }
+reply_of (NotWritten x) = record { code = number_of x; words = 0 }
 
 -- n words, or "a refusal number with nothing else"
 unfoldable pub replied : ℕ → ℕ → Reply

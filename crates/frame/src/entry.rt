@@ -1,9 +1,9 @@
 // Entries, frames that carry them round the ring, and the rules they keep.
 ghost use Rattle.std.specs.Prelude.{◌≡◌, ℕ, ◌+◌, ◌-◌, ◌*◌, ◌<◌, ◌≤◌, not, ltb, List, if◌then◌else◌, ◌==◌, nat_le, nat_lt, slice_index};
 ghost use Rattle.causal.specs.Tests.{both, either};
-ghost use Rattle.causal.specs.Sets.{bit, is_empty, isIn};
-ghost use Rattle.frame.specs.Entries.{id_of, clockOk, underOk, idsOk, boundsOk, entryOk, outranks as outranksOf, blankEntry};
-ghost use Rattle.frame.specs.Frames.{ringOk, frameOk};
+ghost use Rattle.causal.specs.Sets.{bit, is_empty, is_in};
+ghost use Rattle.frame.specs.Entries.{id_of, clock_ok, under_ok, ids_ok, bounds_ok, entry_ok, outranks as outranksOf, blank_entry};
+ghost use Rattle.frame.specs.Frames.{ring_ok, frame_ok};
 
 #[repr(C)]
 #[derive(Drop)]
@@ -26,7 +26,7 @@ pub struct Frame {
 
 // The settings of a ring: 2 to 8 offices, 1 to 64 plots.
 pub fn ring_ok(offices: u32, plots: u32) -> bool
-    ensures { result ≡ ringOk offices plots }
+    ensures { result ≡ ring_ok offices plots }
 {
     if offices < 2 {
         return false;
@@ -52,7 +52,7 @@ fn most(n: usize, j: usize) -> u32
 
 // The greatest numbers that a clock may have, place by place.
 pub fn mosts(n: usize) -> [u32; 8]
-    ensures { (clock : List ℕ) → underOk result clock ≡ clockOk n clock }
+    ensures { (clock : List ℕ) → under_ok result clock ≡ clock_ok n clock }
 {
     [
         most(n, 0),
@@ -78,7 +78,7 @@ fn over(x: u32, most: u32) -> u32
 
 // What is over its bound, place by place. Bounds in a row of their own, so that all places are compared at once.
 pub fn overs(most: [u32; 8], clock: [u32; 8]) -> [u32; 8]
-    ensures { is_empty result ≡ underOk most clock }
+    ensures { is_empty result ≡ under_ok most clock }
 {
     [
         over(clock[0], most[0]),
@@ -94,7 +94,7 @@ pub fn overs(most: [u32; 8], clock: [u32; 8]) -> [u32; 8]
 
 // Numbers of 0 to 32, and zero for offices that the ring has not.
 pub fn clock_ok(n: usize, clock: [u32; 8]) -> bool
-    ensures { result ≡ clockOk n clock }
+    ensures { result ≡ clock_ok n clock }
 {
     let most = mosts(n);
     let left = overs(most, clock);
@@ -113,7 +113,7 @@ fn beyond(n: usize, w: u32, j: usize) -> u32
 
 // No id of an office that the ring has not. All words at once.
 pub fn ids_ok(n: usize, ids: [u32; 8]) -> bool
-    ensures { result ≡ idsOk n ids }
+    ensures { result ≡ ids_ok n ids }
 {
     let left = [
         beyond(n, ids[0], 0),
@@ -130,7 +130,7 @@ pub fn ids_ok(n: usize, ids: [u32; 8]) -> bool
 
 // The bounds of the numbers.
 pub fn bounds_ok(n: u32, p: u32, office: u32, serial: u32, plot: u32, value: u32) -> bool
-    ensures { result ≡ boundsOk n p office serial plot value }
+    ensures { result ≡ bounds_ok n p office serial plot value }
 {
     if office >= n {
         return false;
@@ -158,7 +158,7 @@ pub fn in_word(w: u32, serial: u32) -> bool
 // The rules of clock and dependencies.
 fn past_ok(n: usize, office: usize, serial: u32, clock: [u32; 8], deps: [u32; 8]) -> bool
     requires { (office < 8) × (1 ≤ serial) × (serial ≤ 32) }
-    ensures { result ≡ both (slice_index clock office == serial) (both (not (isIn deps (32 * office + (serial - 1)))) (both (clockOk n clock) (idsOk n deps))) }
+    ensures { result ≡ both (slice_index clock office == serial) (both (not (is_in deps (32 * office + (serial - 1)))) (both (clock_ok n clock) (ids_ok n deps))) }
 {
     if clock[office] != serial {
         return false;
@@ -174,7 +174,7 @@ fn past_ok(n: usize, office: usize, serial: u32, clock: [u32; 8], deps: [u32; 8]
 
 // The entry rules.
 pub fn entry_ok(n: u32, p: u32, e: Entry) -> bool
-    ensures { result ≡ entryOk n p e }
+    ensures { result ≡ entry_ok n p e }
 {
     if !bounds_ok(n, p, e.office, e.serial, e.plot, e.value) {
         return false;
@@ -190,7 +190,7 @@ pub fn entry_ok(n: u32, p: u32, e: Entry) -> bool
 
 // What a frame may say.
 pub fn frame_ok(n: u32, p: u32, f: Frame) -> bool
-    ensures { result ≡ frameOk n p f }
+    ensures { result ≡ frame_ok n p f }
 {
     if f.offices != n {
         return false;
@@ -230,7 +230,7 @@ pub fn outranks(e: Entry, f: Entry) -> bool
 
 // What stands where there is no entry.
 pub fn blank_entry() -> Entry
-    ensures { result ≡ blankEntry }
+    ensures { result ≡ blank_entry }
 {
     let clock = [0u32; 8];
     let deps = [0u32; 8];

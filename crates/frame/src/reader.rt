@@ -1,13 +1,13 @@
 // Reading a frame: each word is checked where it stands.
 ghost use Rattle.std.specs.Prelude.{◌≡◌, ◌+◌, ◌-◌, ◌*◌, ◌<◌, ◌≤◌, true, not, length, ◌==◌, nat_le, slice_index};
-ghost use Rattle.causal.specs.Sets.{isIn};
+ghost use Rattle.causal.specs.Sets.{is_in};
 ghost use Rattle.frame.specs.Refusals.{number_of, code_of};
-ghost use Rattle.frame.specs.Frames.{ringOk, blankFrame};
-ghost use Rattle.frame.specs.Calls.{readFrame};
+ghost use Rattle.frame.specs.Frames.{ring_ok, blank_frame};
+ghost use Rattle.frame.specs.Calls.{read_frame};
 ghost use Rattle.causal.specs.Tests.{both};
-ghost use Rattle.frame.specs.Entries.{clockOk, idsOk, entryOk};
-ghost use Rattle.frame.specs.Words.{clockFrom};
-ghost use Rattle.frame.specs.Reading.{shapeOk, kindsOk, sumOk, frame_at};
+ghost use Rattle.frame.specs.Entries.{clock_ok, ids_ok, entry_ok};
+ghost use Rattle.frame.specs.Words.{clock_from};
+ghost use Rattle.frame.specs.Reading.{shape_ok, kinds_ok, sum_ok, frame_at};
 ghost use Rattle.frame.specs.Promises.{ReadFramePromise};
 
 use crate::entry::{Entry, Frame};
@@ -21,7 +21,7 @@ pub struct FrameRead {
 
 // What stands where there is no frame.
 fn blank_frame() -> Frame
-    ensures { result ≡ blankFrame }
+    ensures { result ≡ blank_frame }
 {
     let entry = crate::entry::blank_entry();
     Frame {
@@ -32,7 +32,7 @@ fn blank_frame() -> Frame
 }
 
 fn refused(refusal: Refusal) -> FrameRead
-    ensures { (code_of result.status ≡ number_of refusal) × (result.frame ≡ blankFrame) }
+    ensures { (code_of result.status ≡ number_of refusal) × (result.frame ≡ blank_frame) }
 {
     let frame = blank_frame();
     FrameRead {
@@ -44,7 +44,7 @@ fn refused(refusal: Refusal) -> FrameRead
 // The head is one, for n offices, and the length is exact.
 fn shape_ok(ws: &[u32], n: u32) -> bool
     requires { n ≤ 8 }
-    ensures { result ≡ shapeOk n ws.now }
+    ensures { result ≡ shape_ok n ws.now }
 {
     if ws.len() < 1 {
         return false;
@@ -61,7 +61,7 @@ fn shape_ok(ws: &[u32], n: u32) -> bool
 
 // The fields of a row that has the shape of a frame, with the clock and the dependencies that were read.
 fn frame_of(ws: &[u32], n: u32, clock: [u32; 8], deps: [u32; 8]) -> Frame
-    requires { (3 + n ≤ length ws.now) × (clock ≡ clockFrom ws.now 3 n) }
+    requires { (3 + n ≤ length ws.now) × (clock ≡ clock_from ws.now 3 n) }
     ensures { result ≡ frame_at n ws.now deps }
 {
     let head = ws[0] % crate::word::LOW;
@@ -83,7 +83,7 @@ fn frame_of(ws: &[u32], n: u32, clock: [u32; 8], deps: [u32; 8]) -> Frame
 // Are the words behind the head of their kinds, up to the dependencies, and the numbers of the clock in range?
 fn kinds_ok(ws: &[u32], n: u32) -> bool
     requires { (n ≤ 8) × (3 + n ≤ length ws.now) }
-    ensures { result ≡ both (kindsOk n ws.now) (clockOk n (clockFrom ws.now 3 n)) }
+    ensures { result ≡ both (kinds_ok n ws.now) (clock_ok n (clock_from ws.now 3 n)) }
 {
     if !crate::word::kind_is(3, ws[1]) {
         return false;
@@ -97,7 +97,7 @@ fn kinds_ok(ws: &[u32], n: u32) -> bool
 // The rules of clock and dependencies, but for their ranges, which were seen as they were read.
 fn past_ok(office: usize, serial: u32, clock: [u32; 8], deps: [u32; 8]) -> bool
     requires { (office < 8) × (1 ≤ serial) × (serial ≤ 32) }
-    ensures { result ≡ both (slice_index clock office == serial) (not (isIn deps (32 * office + (serial - 1)))) }
+    ensures { result ≡ both (slice_index clock office == serial) (not (is_in deps (32 * office + (serial - 1)))) }
 {
     if clock[office] != serial {
         return false;
@@ -107,8 +107,8 @@ fn past_ok(office: usize, serial: u32, clock: [u32; 8], deps: [u32; 8]) -> bool
 
 // The entry rules, where clock and dependencies are in range. Not by `entry_ok`, which would copy the entry.
 fn rules_ok(n: u32, p: u32, e: Entry) -> bool
-    requires { (n ≤ 8) × (clockOk n e.clock ≡ true) × (idsOk n e.deps ≡ true) }
-    ensures { result ≡ entryOk n p e }
+    requires { (n ≤ 8) × (clock_ok n e.clock ≡ true) × (ids_ok n e.deps ≡ true) }
+    ensures { result ≡ entry_ok n p e }
 {
     if !crate::entry::bounds_ok(n, p, e.office, e.serial, e.plot, e.value) {
         return false;
@@ -120,8 +120,8 @@ fn rules_ok(n: u32, p: u32, e: Entry) -> bool
 
 // May the frame say what it says, and is the check word right?
 fn content_ok(ws: &[u32], n: u32, p: u32, f: Frame) -> bool
-    requires { (2 ≤ n) × (n ≤ 8) × (1 ≤ length ws.now) × (clockOk n f.entry.clock ≡ true) × (idsOk n f.entry.deps ≡ true) }
-    ensures { result ≡ both (nat_le f.hops (n - 2)) (both (sumOk ws.now) (entryOk n p f.entry)) }
+    requires { (2 ≤ n) × (n ≤ 8) × (1 ≤ length ws.now) × (clock_ok n f.entry.clock ≡ true) × (ids_ok n f.entry.deps ≡ true) }
+    ensures { result ≡ both (nat_le f.hops (n - 2)) (both (sum_ok ws.now) (entry_ok n p f.entry)) }
 {
     if f.hops > n - 2 {
         return false;
@@ -135,8 +135,8 @@ fn content_ok(ws: &[u32], n: u32, p: u32, f: Frame) -> bool
 
 // The frame that a row has, all zeros where it has none.
 pub fn frame_from(ws: &[u32], offices: u32, plots: u32) -> Frame
-    requires { ringOk offices plots ≡ true }
-    ensures { result ≡ readFrame offices plots ws.now }
+    requires { ring_ok offices plots ≡ true }
+    ensures { result ≡ read_frame offices plots ws.now }
 {
     if !shape_ok(ws, offices) {
         return blank_frame();

@@ -1,10 +1,10 @@
 // Sessions (01: errands).
 ghost use Rattle.std.specs.Prelude.{◌≡◌, ℕ, ◌+◌, ◌-◌, ◌*◌, ◌<◌, ◌≤◌, true, not, List, ◌==◌, slice_index, slice_index_or};
 ghost use Rattle.causal.specs.Tests.{both};
-ghost use Rattle.causal.specs.Sets.{isIn, unite, subsetOf};
+ghost use Rattle.causal.specs.Sets.{is_in, unite, subset_of};
 ghost use Rattle.causal.specs.Lists.{tab, zeros};
-ghost use Rattle.frame.specs.Entries.{clockOk, underOk, idsOk};
-ghost use Rattle.frame.specs.Sessions.{nobody, contentOf, sessionOf, ids_of, ownTurn, ownOk, headOk, sessionOk, freshContent};
+ghost use Rattle.frame.specs.Entries.{clock_ok, under_ok, ids_ok};
+ghost use Rattle.frame.specs.Sessions.{nobody, content_of, session_of, ids_of, own_turn, own_ok, head_ok, session_ok, fresh_content};
 
 use crate::entry::Entry;
 
@@ -20,7 +20,7 @@ pub struct Session {
 
 // What stands where there is no session: all zeros.
 pub fn blank_session() -> Session
-    ensures { result ≡ sessionOf (freshContent 0) }
+    ensures { result ≡ session_of (fresh_content 0) }
 {
     let clock = [0u32; 8];
     let read = [0u32; 8];
@@ -47,7 +47,7 @@ fn own_past_ok(
     seen: [u32; 8],
 ) -> bool
     requires { (office < 8) × (1 ≤ serial) × (serial ≤ 32) }
-    ensures { result ≡ both (slice_index clock office == serial) (both (not (isIn deps (32 * office + (serial - 1)))) (both (not (isIn seen (32 * office + (serial - 1)))) (both (underOk most clock) (subsetOf deps (unite read seen))))) }
+    ensures { result ≡ both (slice_index clock office == serial) (both (not (is_in deps (32 * office + (serial - 1)))) (both (not (is_in seen (32 * office + (serial - 1)))) (both (under_ok most clock) (subset_of deps (unite read seen))))) }
 {
     if clock[office] != serial {
         return false;
@@ -68,8 +68,8 @@ fn own_past_ok(
 // One own write: the entry rules, an id that is not among the earlier ones, and no dependency but on what was read or written before. All of
 // that is of offices that the ring has, so its dependencies are, too.
 fn own_ok(n: u32, p: u32, most: [u32; 8], read: [u32; 8], seen: [u32; 8], e: Entry) -> bool
-    requires { ((c : List ℕ) → underOk most c ≡ clockOk n c) × (idsOk n read ≡ true) × (idsOk n seen ≡ true) }
-    ensures { result ≡ ownTurn n p read seen e }
+    requires { ((c : List ℕ) → under_ok most c ≡ clock_ok n c) × (ids_ok n read ≡ true) × (ids_ok n seen ≡ true) }
+    ensures { result ≡ own_turn n p read seen e }
 {
     if !crate::entry::bounds_ok(n, p, e.office, e.serial, e.plot, e.value) {
         return false;
@@ -92,8 +92,8 @@ pub struct Owns {
 
 // The own writes, with the set of the ids seen so far.
 pub fn owns_of(n: u32, p: u32, read: [u32; 8], own: [Entry; 16], count: usize) -> Owns
-    requires { (count ≤ 16) × (idsOk n read ≡ true) }
-    ensures { (result.ok ≡ ownOk n p read zeros (tab count (λ i. slice_index_or own i nobody))) × (result.ok ≡ true → result.ids ≡ ids_of (tab count (λ i. slice_index_or own i nobody))) }
+    requires { (count ≤ 16) × (ids_ok n read ≡ true) }
+    ensures { (result.ok ≡ own_ok n p read zeros (tab count (λ i. slice_index_or own i nobody))) × (result.ok ≡ true → result.ids ≡ ids_of (tab count (λ i. slice_index_or own i nobody))) }
 {
     let most = crate::entry::mosts(n as usize);
     let mut seen = [0u32; 8];
@@ -116,8 +116,8 @@ pub fn owns_of(n: u32, p: u32, read: [u32; 8], own: [Entry; 16], count: usize) -
 }
 
 pub fn owns_ok(n: u32, p: u32, read: [u32; 8], own: [Entry; 16], count: usize) -> bool
-    requires { (count ≤ 16) × (idsOk n read ≡ true) }
-    ensures { result ≡ ownOk n p read zeros (tab count (λ i. slice_index_or own i nobody)) }
+    requires { (count ≤ 16) × (ids_ok n read ≡ true) }
+    ensures { result ≡ own_ok n p read zeros (tab count (λ i. slice_index_or own i nobody)) }
 {
     let owns = owns_of(n, p, read, own, count);
     owns.ok
@@ -125,7 +125,7 @@ pub fn owns_ok(n: u32, p: u32, read: [u32; 8], own: [Entry; 16], count: usize) -
 
 // All of a session but its own writes: the ring size, how many it carries, clock and read ids.
 pub fn head_ok(offices: u32, count: usize, clock: [u32; 8], read: [u32; 8], n: u32) -> bool
-    ensures { result ≡ headOk n offices count clock read }
+    ensures { result ≡ head_ok n offices count clock read }
 {
     if offices != n {
         return false;
@@ -142,7 +142,7 @@ pub fn head_ok(offices: u32, count: usize, clock: [u32; 8], read: [u32; 8], n: u
 // 01: is a session sound for a ring of so many offices, with so many plots? The own writes are taken out only where there are any: they are
 // 1,280 bytes.
 pub fn session_ok(s: Session, offices: u32, plots: u32) -> bool
-    ensures { result ≡ sessionOk offices plots (contentOf s) }
+    ensures { result ≡ session_ok offices plots (content_of s) }
 {
     let count = s.count;
     let clock = s.clock;
@@ -175,7 +175,7 @@ fn ids_of(own: [Entry; 16], count: usize) -> [u32; 8]
 // The ids of a session's own writes.
 pub fn own_ids(s: Session) -> [u32; 8]
     requires { s.count ≤ 16 }
-    ensures { result ≡ ids_of (contentOf s).own }
+    ensures { result ≡ ids_of (content_of s).own }
 {
     let count = s.count;
     if count == 0 {

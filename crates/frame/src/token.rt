@@ -3,14 +3,14 @@ ghost use Rattle.std.specs.Prelude.{◌≡◌, ℕ, ◌+◌, ◌%◌, ◌<◌, �
 ghost use Rattle.std.proofs.lemmas.List.Edits.{sets};
 ghost use Rattle.causal.specs.Codes.{check};
 ghost use Rattle.causal.specs.Lists.{tab};
-ghost use Rattle.frame.specs.Entries.{idsOk};
-ghost use Rattle.frame.specs.Words.{clockWords, idWords, total};
-ghost use Rattle.frame.specs.Refusals.{number_of, code_of, replyOf};
-ghost use Rattle.frame.specs.Frames.{ringOk, framed, frameOk, frame_of};
+ghost use Rattle.frame.specs.Entries.{ids_ok};
+ghost use Rattle.frame.specs.Words.{clock_words, id_words, total};
+ghost use Rattle.frame.specs.Refusals.{number_of, code_of, reply_of};
+ghost use Rattle.frame.specs.Frames.{ring_ok, framed, frame_ok, frame_of};
 ghost use Rattle.frame.specs.Calls.{laid};
-ghost use Rattle.frame.specs.Sessions.{nobody, contentOf, filled, sessionOf, sessionOk, freshContent};
-ghost use Rattle.frame.specs.Tokens.{ownRows, tokenHead, tokenWords, frameLength, ownFrom};
-ghost use Rattle.frame.specs.TokenReading.{tokenShape, ownFrameOk, ownFramesOk, startOk, carriedOk};
+ghost use Rattle.frame.specs.Sessions.{nobody, content_of, filled, session_of, session_ok, fresh_content};
+ghost use Rattle.frame.specs.Tokens.{own_rows, token_head, token_words, frame_length, own_from};
+ghost use Rattle.frame.specs.TokenReading.{token_shape, own_frame_ok, own_frames_ok, start_ok, carried_ok};
 ghost use Rattle.frame.specs.Promises.{ReadTokenPromise, WriteTokenPromise};
 
 use crate::entry::{Entry, Frame};
@@ -34,7 +34,7 @@ fn own_frame(n: u32, e: Entry) -> Frame
 // How many words the own writes take.
 fn own_words(n: u32, own: [Entry; 16], count: usize) -> usize
     requires { (n ≤ 8) × (count ≤ 16) }
-    ensures { result ≡ length (ownRows n (tab count (λ i. get_or own i nobody))) }
+    ensures { result ≡ length (own_rows n (tab count (λ i. get_or own i nobody))) }
 {
     let mut words: usize = 0;
     for i in 0..count {
@@ -48,7 +48,7 @@ fn own_words(n: u32, own: [Entry; 16], count: usize) -> usize
 // The same of a session's own writes, which are taken out only where there are any.
 fn carried_words(s: Session) -> usize
     requires { (s.offices ≤ 8) × (s.count ≤ 16) }
-    ensures { result ≡ length (ownRows s.offices (tab s.count (λ i. get_or s.own i nobody))) }
+    ensures { result ≡ length (own_rows s.offices (tab s.count (λ i. get_or s.own i nobody))) }
 {
     if s.count == 0 {
         return 0;
@@ -60,7 +60,7 @@ fn carried_words(s: Session) -> usize
 // How many words a token takes.
 fn words_of(s: Session) -> usize
     requires { (s.offices ≤ 8) × (s.count ≤ 16) }
-    ensures { result ≡ length (tokenWords (contentOf s)) }
+    ensures { result ≡ length (token_words (content_of s)) }
 {
     let read = s.read;
     let n = s.offices;
@@ -70,15 +70,15 @@ fn words_of(s: Session) -> usize
 
 fn head_word(n: u32, owns: u32, reads: u32) -> u32
     requires { (n ≤ 8) × (owns ≤ 16) × (reads ≤ 256) }
-    ensures { result ≡ tokenHead n owns reads }
+    ensures { result ≡ token_head n owns reads }
 {
     0x8000_0000 + (n * 0x0100_0000 + (owns * 0x1_0000 + reads))
 }
 
 // The own writes, each right behind the one before; gives the place behind them.
 fn put_owns(n: u32, own: [Entry; 16], count: usize, out: &mut [u32], at: usize) -> usize
-    requires { (count ≤ 16) × ((i : ℕ) → i < count → frameOk n 64 (framed n 0 (slice_index_or own i nobody)) ≡ true) × (at + length (ownRows n (tab count (λ i. get_or own i nobody))) ≤ length out.old) }
-    ensures { (result ≡ at + length (ownRows n (tab count (λ i. get_or own i nobody)))) × (out.new ≡ sets out.old at (ownRows n (tab count (λ i. get_or own i nobody)))) }
+    requires { (count ≤ 16) × ((i : ℕ) → i < count → frame_ok n 64 (framed n 0 (slice_index_or own i nobody)) ≡ true) × (at + length (own_rows n (tab count (λ i. get_or own i nobody))) ≤ length out.old) }
+    ensures { (result ≡ at + length (own_rows n (tab count (λ i. get_or own i nobody)))) × (out.new ≡ sets out.old at (own_rows n (tab count (λ i. get_or own i nobody)))) }
 {
     let mut to = at;
     for i in 0..count {
@@ -91,10 +91,10 @@ fn put_owns(n: u32, own: [Entry; 16], count: usize, out: &mut [u32], at: usize) 
 
 // The head, the clock and the read ids. The head is put behind what it counts.
 fn put_start(n: u32, count: usize, clock: [u32; 8], read: [u32; 8], out: &mut [u32]) -> Put
-    requires { (n ≤ 8) × (count ≤ 16) × ((j : ℕ) → j < 8 → slice_index clock j ≤ 32) × (1 + n + length (idWords read) ≤ length out.old) }
-    ensures { (result.to ≡ 1 + n + length (idWords read))
-        × (result.sum % 268435456 ≡ total (tokenHead n count (length (idWords read)) ∷ (clockWords n clock ++ idWords read)) % 268435456)
-        × (out.new ≡ sets (sets (slice_set out.old 0 (tokenHead n count (length (idWords read)))) 1 (clockWords n clock)) (1 + n) (idWords read)) }
+    requires { (n ≤ 8) × (count ≤ 16) × ((j : ℕ) → j < 8 → slice_index clock j ≤ 32) × (1 + n + length (id_words read) ≤ length out.old) }
+    ensures { (result.to ≡ 1 + n + length (id_words read))
+        × (result.sum % 268435456 ≡ total (token_head n count (length (id_words read)) ∷ (clock_words n clock ++ id_words read)) % 268435456)
+        × (out.new ≡ sets (sets (slice_set out.old 0 (token_head n count (length (id_words read)))) 1 (clock_words n clock)) (1 + n) (id_words read)) }
 {
     let clocks = crate::word::put_clock(clock, n as usize, out, 1);
     let put = crate::word::put_ids(read, out, 1 + n as usize);
@@ -111,8 +111,8 @@ fn put_start(n: u32, count: usize, clock: [u32; 8], read: [u32; 8], out: &mut [u
 
 // The words of a token, where there is room for them. The own writes are taken out before out is written to, and only where there are any.
 fn fill(s: Session, out: &mut [u32])
-    requires { (ringOk s.offices 64 ≡ true) × (sessionOk s.offices 64 (contentOf s) ≡ true) × (length (tokenWords (contentOf s)) ≤ length out.old) }
-    ensures { out.new ≡ laid (tokenWords (contentOf s)) out.old }
+    requires { (ring_ok s.offices 64 ≡ true) × (session_ok s.offices 64 (content_of s) ≡ true) × (length (token_words (content_of s)) ≤ length out.old) }
+    ensures { out.new ≡ laid (token_words (content_of s)) out.old }
 {
     let clock = s.clock;
     let read = s.read;
@@ -131,7 +131,7 @@ fn fill(s: Session, out: &mut [u32])
 
 // 01: write a slip.
 pub fn write_token(s: Session, out: &mut [u32]) -> Written
-    ensures { WriteTokenPromise s out.old (replyOf result) out.new }
+    ensures { WriteTokenPromise s out.old (reply_of result) out.new }
 {
     let n = s.offices;
     if !crate::entry::ring_ok(n, 64) {
@@ -170,7 +170,7 @@ struct OwnsRead {
 }
 
 fn refused(refusal: Refusal) -> TokenRead
-    ensures { (code_of result.status ≡ number_of refusal) × (result.session ≡ sessionOf (freshContent 0)) }
+    ensures { (code_of result.status ≡ number_of refusal) × (result.session ≡ session_of (fresh_content 0)) }
 {
     let session = crate::session::blank_session();
     TokenRead {
@@ -182,7 +182,7 @@ fn refused(refusal: Refusal) -> TokenRead
 // The head is one, for n offices, and what it counts may stand in the row.
 fn shape_ok(ws: &[u32], n: u32) -> bool
     requires { n ≤ 8 }
-    ensures { result ≡ tokenShape n ws.now }
+    ensures { result ≡ token_shape n ws.now }
 {
     if ws.len() < 1 {
         return false;
@@ -217,8 +217,8 @@ fn no_own() -> OwnRead
 
 // The own write whose frame the row begins with.
 fn own_from(ws: &[u32], n: u32, p: u32) -> OwnRead
-    requires { ringOk n p ≡ true }
-    ensures { (result.ok ≡ ownFrameOk n p ws.now) × (result.ok ≡ true → (result.words ≡ frameLength n ws.now) × (result.entry ≡ (frame_of (take (frameLength n ws.now) ws.now)).entry)) }
+    requires { ring_ok n p ≡ true }
+    ensures { (result.ok ≡ own_frame_ok n p ws.now) × (result.ok ≡ true → (result.words ≡ frame_length n ws.now) × (result.entry ≡ (frame_of (take (frame_length n ws.now) ws.now)).entry)) }
 {
     if ws.len() < 1 {
         return no_own();
@@ -241,8 +241,8 @@ fn own_from(ws: &[u32], n: u32, p: u32) -> OwnRead
 
 // The own writes whose frames stand one behind the other, up to the last word.
 fn owns_from(ws: &[u32], n: u32, p: u32, count: usize) -> OwnsRead
-    requires { (ringOk n p ≡ true) × (count ≤ 16) }
-    ensures { (result.ok ≡ ownFramesOk count n p ws.now) × (result.ok ≡ true → result.own ≡ filled (ownFrom count n ws.now)) }
+    requires { (ring_ok n p ≡ true) × (count ≤ 16) }
+    ensures { (result.ok ≡ own_frames_ok count n p ws.now) × (result.ok ≡ true → result.own ≡ filled (own_from count n ws.now)) }
 {
     let blank = crate::entry::blank_entry();
     let mut own = [blank; 16];
@@ -265,7 +265,7 @@ fn owns_from(ws: &[u32], n: u32, p: u32, count: usize) -> OwnsRead
 // All of a row but the numbers of the clock and the own frames: the head, the kinds of the clock words, the read ids, the check.
 fn start_ok(ws: &[u32], n: u32) -> bool
     requires { n ≤ 8 }
-    ensures { result ≡ startOk n ws.now }
+    ensures { result ≡ start_ok n ws.now }
 {
     if !shape_ok(ws, n) {
         return false;
@@ -283,7 +283,7 @@ fn start_ok(ws: &[u32], n: u32) -> bool
 
 // The session that carries no own writes.
 fn bare(offices: u32, clock: [u32; 8], read: [u32; 8]) -> TokenRead
-    ensures { (code_of result.status ≡ 0) × (result.session ≡ sessionOf (record { offices = offices; clock = clock; read = read; own = [] })) }
+    ensures { (code_of result.status ≡ 0) × (result.session ≡ session_of (record { offices = offices; clock = clock; read = read; own = [] })) }
 {
     let blank = crate::entry::blank_entry();
     let own = [blank; 16];
@@ -302,9 +302,9 @@ fn bare(offices: u32, clock: [u32; 8], read: [u32; 8]) -> TokenRead
 
 // The session whose own frames stand in ws, up to the last word.
 fn laden(ws: &[u32], n: u32, p: u32, clock: [u32; 8], read: [u32; 8], count: usize) -> TokenRead
-    requires { (ringOk n p ≡ true) × (count ≤ 16) × (idsOk n read ≡ true) }
-    ensures { (code_of result.status ≡ check (carriedOk count n p read ws.now) 9 0)
-        × (result.session ≡ sessionOf (if carriedOk count n p read ws.now then (record { offices = n; clock = clock; read = read; own = ownFrom count n ws.now }) else freshContent 0)) }
+    requires { (ring_ok n p ≡ true) × (count ≤ 16) × (ids_ok n read ≡ true) }
+    ensures { (code_of result.status ≡ check (carried_ok count n p read ws.now) 9 0)
+        × (result.session ≡ session_of (if carried_ok count n p read ws.now then (record { offices = n; clock = clock; read = read; own = own_from count n ws.now }) else fresh_content 0)) }
 {
     let owns = owns_from(ws, n, p, count);
     if !owns.ok {

@@ -3,14 +3,14 @@ ghost use Rattle.std.specs.Prelude.{◌≡◌, ℕ, ◌+◌, ◌/◌, ◌%◌, �
 ghost use Rattle.std.proofs.lemmas.List.Edits.{sets};
 ghost use Rattle.causal.specs.Lists.{tab};
 ghost use Rattle.causal.specs.Tests.{both};
-ghost use Rattle.frame.specs.Words.{payload, kindIs, total, clockWords, clockFrom, idWordsIn, idWords, idsFrom, sum_word};
-ghost use Rattle.frame.specs.Reading.{clockKinds, clocksIn, nextOk, ascends, bitIn, eightBits, fourBits, sumOk};
+ghost use Rattle.frame.specs.Words.{payload, kind_is, total, clock_words, clock_from, id_words_in, id_words, ids_from, sum_word};
+ghost use Rattle.frame.specs.Reading.{clock_kinds, clocks_in, next_ok, ascends, bit_in, eight_bits, four_bits, sum_ok};
 
 pub const LOW: u32 = 0x1000_0000;
 
 // Is w a word of this kind? Kinds that no format has are no word's.
 pub fn kind_is(want: u32, w: u32) -> bool
-    ensures { result ≡ kindIs want w }
+    ensures { result ≡ kind_is want w }
 {
     let kind = w / LOW;
     if kind != want {
@@ -49,7 +49,7 @@ pub struct Put {
 // n clock words from at on; gives their sum.
 pub fn put_clock(clock: [u32; 8], n: usize, out: &mut [u32], at: usize) -> u32
     requires { (n ≤ 8) × (at + n ≤ length out.old) × ((j : ℕ) → j < 8 → slice_index clock j ≤ 32) }
-    ensures { (result % 268435456 ≡ total (clockWords n clock) % 268435456) × (out.new ≡ sets out.old at (clockWords n clock)) }
+    ensures { (result % 268435456 ≡ total (clock_words n clock) % 268435456) × (out.new ≡ sets out.old at (clock_words n clock)) }
 {
     let mut sum: u32 = 0;
     for j in 0..n {
@@ -77,8 +77,8 @@ fn put_run(first: u32, count: usize, out: &mut [u32], at: usize) -> u32
 
 // The words of the ids in word j of a set, lowest first, from at on. One at a time.
 fn put_each(j: usize, w: u32, out: &mut [u32], at: usize) -> Put
-    requires { (j < 8) × (at + length (idWordsIn j w 32) ≤ length out.old) }
-    ensures { (result.to ≡ at + length (idWordsIn j w 32)) × (result.sum % 268435456 ≡ total (idWordsIn j w 32) % 268435456) × (out.new ≡ sets out.old at (idWordsIn j w 32)) }
+    requires { (j < 8) × (at + length (id_words_in j w 32) ≤ length out.old) }
+    ensures { (result.to ≡ at + length (id_words_in j w 32)) × (result.sum % 268435456 ≡ total (id_words_in j w 32) % 268435456) × (out.new ≡ sets out.old at (id_words_in j w 32)) }
 {
     let first = 0x6000_0001 + 256 * j as u32;
     let mut to = at;
@@ -96,8 +96,8 @@ fn put_each(j: usize, w: u32, out: &mut [u32], at: usize) -> Put
 
 // The same, where most words of a set have all ids up to some serial.
 fn put_ids_of(j: usize, w: u32, out: &mut [u32], at: usize) -> Put
-    requires { (j < 8) × (at + length (idWordsIn j w 32) ≤ length out.old) }
-    ensures { (result.to ≡ at + length (idWordsIn j w 32)) × (result.sum % 268435456 ≡ total (idWordsIn j w 32) % 268435456) × (out.new ≡ sets out.old at (idWordsIn j w 32)) }
+    requires { (j < 8) × (at + length (id_words_in j w 32) ≤ length out.old) }
+    ensures { (result.to ≡ at + length (id_words_in j w 32)) × (result.sum % 268435456 ≡ total (id_words_in j w 32) % 268435456) × (out.new ≡ sets out.old at (id_words_in j w 32)) }
 {
     if w < 256 {
         return put_each(j, w, out, at);
@@ -116,8 +116,8 @@ fn put_ids_of(j: usize, w: u32, out: &mut [u32], at: usize) -> Put
 
 // The words of a set of ids, from at on.
 pub fn put_ids(ids: [u32; 8], out: &mut [u32], at: usize) -> Put
-    requires { at + length (idWords ids) ≤ length out.old }
-    ensures { (result.to ≡ at + length (idWords ids)) × (result.sum % 268435456 ≡ total (idWords ids) % 268435456) × (out.new ≡ sets out.old at (idWords ids)) }
+    requires { at + length (id_words ids) ≤ length out.old }
+    ensures { (result.to ≡ at + length (id_words ids)) × (result.sum % 268435456 ≡ total (id_words ids) % 268435456) × (out.new ≡ sets out.old at (id_words ids)) }
 {
     let mut to = at;
     let mut sum: u32 = 0;
@@ -144,7 +144,7 @@ pub fn put_sum(out: &mut [u32], end: usize)
 // Are the n words from at on of the kind of clock words?
 pub fn clock_kinds(ws: &[u32], at: usize, n: usize) -> bool
     requires { at + n ≤ length ws.now }
-    ensures { result ≡ clockKinds ws.now at n }
+    ensures { result ≡ clock_kinds ws.now at n }
 {
     for j in 0..n {
         if !kind_is(5, ws[at + j]) {
@@ -156,7 +156,7 @@ pub fn clock_kinds(ws: &[u32], at: usize, n: usize) -> bool
 
 // Is w a word of a clock, with a number up to 32?
 fn clock_word(w: u32) -> bool
-    ensures { result ≡ both (kindIs 5 w) (nat_le (payload w) 32) }
+    ensures { result ≡ both (kind_is 5 w) (nat_le (payload w) 32) }
 {
     if !kind_is(5, w) {
         return false;
@@ -167,7 +167,7 @@ fn clock_word(w: u32) -> bool
 // The same for the n words from at on.
 pub fn clock_words(ws: &[u32], at: usize, n: usize) -> bool
     requires { at + n ≤ length ws.now }
-    ensures { result ≡ clocksIn ws.now at n }
+    ensures { result ≡ clocks_in ws.now at n }
 {
     for j in 0..n {
         if !clock_word(ws[at + j]) {
@@ -180,7 +180,7 @@ pub fn clock_words(ws: &[u32], at: usize, n: usize) -> bool
 // The clock whose n words stand from at on.
 pub fn clock_from(ws: &[u32], at: usize, n: usize) -> [u32; 8]
     requires { (n ≤ 8) × (at + n ≤ length ws.now) }
-    ensures { result ≡ clockFrom ws.now at n }
+    ensures { result ≡ clock_from ws.now at n }
 {
     let mut clock = [0u32; 8];
     for j in 0..n {
@@ -191,7 +191,7 @@ pub fn clock_from(ws: &[u32], at: usize, n: usize) -> [u32; 8]
 
 // 0 where w may stand right behind a word of an id: it is above it, and its serial is one of 1 to 32.
 fn not_next(before: u32, w: u32) -> u32
-    ensures { (result == 0) ≡ nextOk before w }
+    ensures { (result == 0) ≡ next_ok before w }
 {
     if w <= before {
         return 1;
@@ -240,7 +240,7 @@ fn is_run(ws: &[u32], i: usize) -> bool
 // A word of a set with the eight bits from b on.
 fn with_eight(w: u32, b: u32) -> u32
     requires { b ≤ 24 }
-    ensures { result ≡ eightBits w b }
+    ensures { result ≡ eight_bits w b }
 {
     w | (1u32 << b)
         | (2u32 << b)
@@ -266,7 +266,7 @@ fn is_four(ws: &[u32], i: usize) -> bool
 // The bit of an id in the word of its office.
 fn bit_of(w: u32) -> u32
     requires { 1 ≤ w }
-    ensures { result ≡ bitIn w }
+    ensures { result ≡ bit_in w }
 {
     1u32 << ((w - 1) % 32)
 }
@@ -274,7 +274,7 @@ fn bit_of(w: u32) -> u32
 // A word of a set with the four ids of a row from i on.
 fn with_four(w: u32, ws: &[u32], i: usize) -> u32
     requires { (i + 3 < length ws.now) × (ascends 8 0 ws.now ≡ true) }
-    ensures { result ≡ fourBits w ws.now i }
+    ensures { result ≡ four_bits w ws.now i }
 {
     w | bit_of(ws[i]) | bit_of(ws[i + 1]) | bit_of(ws[i + 2]) | bit_of(ws[i + 3])
 }
@@ -282,7 +282,7 @@ fn with_four(w: u32, ws: &[u32], i: usize) -> u32
 // The set that ascending words of ids name: eight that stand one next to the other, or four of one office, are put in at once.
 pub fn ids_from(ws: &[u32]) -> [u32; 8]
     requires { ascends 8 0 ws.now ≡ true }
-    ensures { result ≡ idsFrom ws.now }
+    ensures { result ≡ ids_from ws.now }
 {
     let mut ids = [0u32; 8];
     let mut i: usize = 0;
@@ -306,7 +306,7 @@ pub fn ids_from(ws: &[u32]) -> [u32; 8]
 // Is the last word the check of those before it?
 pub fn sum_ok(ws: &[u32]) -> bool
     requires { 1 ≤ length ws.now }
-    ensures { result ≡ sumOk ws.now }
+    ensures { result ≡ sum_ok ws.now }
 {
     let end = ws.len() - 1;
     let last = ws[end];

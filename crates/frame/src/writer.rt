@@ -1,10 +1,10 @@
 // Writing a frame.
 ghost use Rattle.std.specs.Prelude.{◌≡◌, ◌+◌, ◌%◌, ◌<◌, ◌≤◌, true, [], ◌∷◌, length, nat_le};
 ghost use Rattle.std.proofs.lemmas.List.Edits.{sets};
-ghost use Rattle.frame.specs.Frames.{headWord, frameOk, frameWords};
+ghost use Rattle.frame.specs.Frames.{head_word, frame_ok, frame_words};
 ghost use Rattle.frame.specs.Calls.{laid};
 ghost use Rattle.frame.specs.Promises.{WriteFramePromise};
-ghost use Rattle.frame.specs.Refusals.{replyOf};
+ghost use Rattle.frame.specs.Refusals.{reply_of};
 
 use crate::entry::Frame;
 use crate::refusal::{Refusal, Written};
@@ -20,7 +20,7 @@ fn put_head(out: &mut [u32], head: u32, plot: u32, value: u32)
 
 fn head_word(office: u32, serial: u32, hops: u32, offices: u32, count: u32) -> u32
     requires { (office < 16) × (serial < 256) × (hops < 16) × (offices < 16) × (count < 256) }
-    ensures { result ≡ headWord office serial hops offices count }
+    ensures { result ≡ head_word office serial hops offices count }
 {
     0x1000_0000
         + (office * 0x0100_0000 + (serial * 0x1_0000 + (hops * 0x1000 + (offices * 256 + count))))
@@ -38,7 +38,7 @@ fn check_word(head: u32, fields: u32, clocks: u32, deps: u32) -> u32
 // How many words a frame takes.
 pub fn words_of(f: Frame) -> usize
     requires { f.offices ≤ 8 }
-    ensures { result ≡ length (frameWords f) }
+    ensures { result ≡ length (frame_words f) }
 {
     let e = f.entry;
     let deps = e.deps;
@@ -48,7 +48,7 @@ pub fn words_of(f: Frame) -> usize
 // Has a row of so many words room for a frame? No frame has more than 268: what it depends on is counted only for a shorter row.
 fn has_room(f: Frame, room: usize) -> bool
     requires { f.offices ≤ 8 }
-    ensures { result ≡ nat_le (length (frameWords f)) room }
+    ensures { result ≡ nat_le (length (frame_words f)) room }
 {
     if room >= 268 {
         return true;
@@ -59,8 +59,8 @@ fn has_room(f: Frame, room: usize) -> bool
 // The words of a frame that may be written, where there is room for them: nothing is asked again. Gives how many. The head is put behind what
 // it counts.
 fn put(f: Frame, out: &mut [u32]) -> usize
-    requires { (frameOk f.offices 64 f ≡ true) × (length (frameWords f) ≤ length out.old) }
-    ensures { (result ≡ length (frameWords f)) × (out.new ≡ laid (frameWords f) out.old) }
+    requires { (frame_ok f.offices 64 f ≡ true) × (length (frame_words f) ≤ length out.old) }
+    ensures { (result ≡ length (frame_words f)) × (out.new ≡ laid (frame_words f) out.old) }
 {
     let e = f.entry;
     let clock = e.clock;
@@ -78,8 +78,8 @@ fn put(f: Frame, out: &mut [u32]) -> usize
 
 // A frame that may be written, from at on: the rest of out is lent to the frame writer. Gives the place behind it.
 pub fn put_frame(f: Frame, out: &mut [u32], at: usize) -> usize
-    requires { (frameOk f.offices 64 f ≡ true) × (at + length (frameWords f) ≤ length out.old) }
-    ensures { (result ≡ at + length (frameWords f)) × (out.new ≡ sets out.old at (frameWords f)) }
+    requires { (frame_ok f.offices 64 f ≡ true) × (at + length (frame_words f) ≤ length out.old) }
+    ensures { (result ≡ at + length (frame_words f)) × (out.new ≡ sets out.old at (frame_words f)) }
 {
     let words = put(f, &mut out[at..]);
     at + words
@@ -87,7 +87,7 @@ pub fn put_frame(f: Frame, out: &mut [u32], at: usize) -> usize
 
 // 01: write a frame.
 pub fn write_frame(f: Frame, out: &mut [u32]) -> Written
-    ensures { WriteFramePromise f out.old (replyOf result) out.new }
+    ensures { WriteFramePromise f out.old (reply_of result) out.new }
 {
     if !crate::entry::frame_ok(f.offices, 64, f) {
         return Written::NotWritten(Refusal::Content);

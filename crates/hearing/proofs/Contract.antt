@@ -7,7 +7,7 @@ use types.Logic.{Logic}
 use seplogic.Ra.Ura.{Ura}
 use prog.Memory.{Memory}
 use prog.Routine.{Routine}
-use Rattle.frame.specs.Refusals.{replyOf}
+use Rattle.frame.specs.Refusals.{reply_of}
 use Rattle.frame.specs.declared.refusal.Written.{Written}
 use Rattle.frame.proofs.Contract.{Row, Three}
 use Rattle.office.specs.Promises.{ReceivePromise}
@@ -15,16 +15,16 @@ use Rattle.hearing.proofs.receive.receive as receive
 
 module _ {M : Type 1} {𝓤 : Ura M} (𝓛 : Logic 𝓤) (mem : Memory → SProp 𝓤) (run : Routine → Fun 𝓤) where
   pub record HearingContracts : Type 2 where
-    pub receive-met : receive.Statement.statement M
-    pub receive-is : (κs : Three) (ws frame row : Row) (r : Written) (ws' frame' row' : Row)
+    pub receive_met : receive.Statement.statement M
+    pub receive_is : (κs : Three) (ws frame row : Row) (r : Written) (ws' frame' row' : Row)
         → (receive.clauses 𝓛 mem run κs (ws, (frame, (row, tt)))).ensures tt r (ws', (frame', (row', tt)))
-        ≡ fact 𝓤 (ReceivePromise ws.now frame.now row.now (replyOf r) ws'.now row'.now)
-    pub receive-asks : (κs : Three) (ws frame row : Row) → (receive.clauses 𝓛 mem run κs (ws, (frame, (row, tt)))).requires tt ≡ emp 𝓤
+        ≡ fact 𝓤 (ReceivePromise ws.now frame.now row.now (reply_of r) ws'.now row'.now)
+    pub receive_asks : (κs : Three) (ws frame row : Row) → (receive.clauses 𝓛 mem run κs (ws, (frame, (row, tt)))).requires tt ≡ emp 𝓤
 
-  pub hearing-contracts : HearingContracts
-  hearing-contracts =
+  pub hearing_contracts : HearingContracts
+  hearing_contracts =
       record {
-        receive-met = receive.Met.met;
-        receive-is = λ κs ws frame row r ws' frame' row'. refl;
-        receive-asks = λ κs ws frame row. refl;
+        receive_met = receive.Met.met;
+        receive_is = λ κs ws frame row r ws' frame' row'. refl;
+        receive_asks = λ κs ws frame row. refl;
       }

@@ -6,48 +6,48 @@ use native.Mathlib.Omega.{arith}
 use lib.ListN.{length, get_or, drop, set, length-append}
 use lib.Seq.{sets, set_at, take-length}
 use Rattle.causal.specs.Lists.{part}
-use Rattle.causal.proofs.Lists.{sets-front}
+use Rattle.causal.proofs.Lists.{sets_front}
 use Rattle.frame.specs.declared.entry.Frame.{Frame}
 use Rattle.frame.specs.Words.{sum_word, summed, total}
-use Rattle.frame.specs.Frames.{bodyWords, frame_of, frameWords}
+use Rattle.frame.specs.Frames.{body_words, frame_of, frame_words}
 use Rattle.frame.specs.Calls.{laid}
-use Rattle.frame.proofs.Frames.{length-frame, last_word}
+use Rattle.frame.proofs.Frames.{length_frame, last_word}
 use Rattle.office.specs.Calls.{onward}
 
 -- it keeps its number of words
-pub length-onward : (f : Frame) → length (frameWords (onward f)) ≡ length (frameWords f)
-length-onward f = length-frame (onward f) ∙ sym (length-frame f)
+pub length_onward : (f : Frame) → length (frame_words (onward f)) ≡ length (frame_words f)
+length_onward f = length_frame (onward f) ∙ sym (length_frame f)
 
 -- ---- the two words that change, and those between
 
 abbrev head : Frame → ℕ
-head f = get_or (bodyWords f) 0 0
+head f = get_or (body_words f) 0 0
 
 abbrev between : Frame → List ℕ
-between f = drop 1 (bodyWords f)
+between f = drop 1 (body_words f)
 
 abbrev check : Frame → ℕ
-check f = sum_word (bodyWords f)
+check f = sum_word (body_words f)
 
-parts : (f : Frame) → frameWords f ≡ head f ∷ (between f ++ (check f ∷ []))
-unfolding frameWords summed bodyWords
+parts : (f : Frame) → frame_words f ≡ head f ∷ (between f ++ (check f ∷ []))
+unfolding frame_words summed body_words
 parts f = refl
 
-first : (f : Frame) → get_or (frameWords f) 0 0 ≡ head f
+first : (f : Frame) → get_or (frame_words f) 0 0 ≡ head f
 first f = ap (λ (l : List ℕ). get_or l 0 0) (parts f)
 
 between_stays : (f : Frame) → between f ≡ between (onward f)
-unfolding bodyWords
+unfolding body_words
 between_stays f = refl
 
-head-down : (f : Frame) → 1 ≤ f.hops → (4096 ≤ head f) × (head f - 4096 ≡ head (onward f))
-unfolding bodyWords
-head-down f h = (omega arith, omega arith)
+head_down : (f : Frame) → 1 ≤ f.hops → (4096 ≤ head f) × (head f - 4096 ≡ head (onward f))
+unfolding body_words
+head_down f h = (omega arith, omega arith)
 
 -- the check is the sum of the payloads modulo 2^28
-check-down : (f : Frame) → 1 ≤ f.hops → 4026531840 + (check f - 4096) % 268435456 ≡ check (onward f)
-unfolding total bodyWords
-check-down f h = let d = head-down f h in sums (head f) (head (onward f)) (total (between f)) d.0 (sym d.1)
+check_down : (f : Frame) → 1 ≤ f.hops → 4026531840 + (check f - 4096) % 268435456 ≡ check (onward f)
+unfolding total body_words
+check_down f h = let d = head_down f h in sums (head f) (head (onward f)) (total (between f)) d.0 (sym d.1)
   where
     sums : (a b t : ℕ) → 4096 ≤ a → b ≡ a - 4096
         → 4026531840 + (4026531840 + (a % 268435456 + t) % 268435456 - 4096) % 268435456 ≡ 4026531840 + (b % 268435456 + t) % 268435456
@@ -55,24 +55,24 @@ check-down f h = let d = head-down f h in sums (head f) (head (onward f)) (total
 
 -- ---- of a row that is the writing of a frame
 
-module _ (ws : List ℕ) (e : ws ≡ frameWords (frame_of ws)) where
+module _ (ws : List ℕ) (e : ws ≡ frame_words (frame_of ws)) where
   pub long : 4 ≤ length ws
-  long = omega (arith, ap length e, length-frame (frame_of ws))
+  long = omega (arith, ap length e, length_frame (frame_of ws))
 
-  pub head-large : 4096 ≤ get_or ws 0 0
-  unfolding bodyWords
-  head-large = let q = ap (λ (l : List ℕ). get_or l 0 0) e ∙ first (frame_of ws) in omega arith
+  pub head_large : 4096 ≤ get_or ws 0 0
+  unfolding body_words
+  head_large = let q = ap (λ (l : List ℕ). get_or l 0 0) e ∙ first (frame_of ws) in omega arith
 
-  pub check-large : 4096 ≤ get_or ws (length ws - 1) 0
-  check-large = let q = ap (λ (l : List ℕ). get_or l (length l - 1) 0) e ∙ last_word (frame_of ws) in omega arith
+  pub check_large : 4096 ≤ get_or ws (length ws - 1) 0
+  check_large = let q = ap (λ (l : List ℕ). get_or l (length l - 1) 0) e ∙ last_word (frame_of ws) in omega arith
 
 -- ---- in the out row
 
 -- a row copied to the front of another, then its first and its last word made anew
-made-anew : (ws out xs : List ℕ) (a z b y : ℕ) → ws ≡ a ∷ (xs ++ (z ∷ [])) → length ws ≤ length out
+made_anew : (ws out xs : List ℕ) (a z b y : ℕ) → ws ≡ a ∷ (xs ++ (z ∷ [])) → length ws ≤ length out
     → set (set (sets out 0 (part ws 0 (length ws))) 0 b) (length ws - 1) y ≡ laid (b ∷ (xs ++ (y ∷ []))) out
 unfolding laid part
-made-anew ws out xs a z b y e h =
+made_anew ws out xs a z b y e h =
     ap (λ (l : List ℕ). set (set l 0 b) (length ws - 1) y) copied
     ∙ set_at (b ∷ xs) z (drop (length ws) out) y (length ws - 1) (omega (arith, long, length-append xs (z ∷ [])))
     ∙ ap (λ (l : List ℕ). b ∷ l) (sym (append_assoc xs (y ∷ []) (drop (length ws) out)))
@@ -87,7 +87,7 @@ made-anew ws out xs a z b y e h =
     copied : sets out 0 (part ws 0 (length ws)) ≡ a ∷ (xs ++ (z ∷ drop (length ws) out))
     copied =
         ap (sets out 0) (take-length ws)
-        ∙ sets-front out ws h
+        ∙ sets_front out ws h
         ∙ ap (λ (l : List ℕ). l ++ drop (length ws) out) e
         ∙ ap (λ (l : List ℕ). a ∷ l) (append_assoc xs (z ∷ []) (drop (length ws) out))
 
@@ -96,19 +96,19 @@ abbrev sent : List ℕ → List ℕ → List ℕ
 sent ws out =
     set (set (sets out 0 (part ws 0 (length ws))) 0 (get_or ws 0 0 - 4096)) (length ws - 1) (4026531840 + (get_or ws (length ws - 1) 0 - 4096) % 268435456)
 
-pub onward-laid : (ws out : List ℕ) → ws ≡ frameWords (frame_of ws) → 1 ≤ (frame_of ws).hops → length ws ≤ length out
-    → sent ws out ≡ laid (frameWords (onward (frame_of ws))) out
-onward-laid ws out e h l = go (frame_of ws) e h
+pub onward_laid : (ws out : List ℕ) → ws ≡ frame_words (frame_of ws) → 1 ≤ (frame_of ws).hops → length ws ≤ length out
+    → sent ws out ≡ laid (frame_words (onward (frame_of ws))) out
+onward_laid ws out e h l = go (frame_of ws) e h
   where
-    go : (f : Frame) → ws ≡ frameWords f → 1 ≤ f.hops → sent ws out ≡ laid (frameWords (onward f)) out
+    go : (f : Frame) → ws ≡ frame_words f → 1 ≤ f.hops → sent ws out ≡ laid (frame_words (onward f)) out
     go f q p =
-        let a : get_or ws 0 0 - 4096 ≡ head (onward f) = ap (λ (l : List ℕ). get_or l 0 0 - 4096) q ∙ ap (λ (w : ℕ). w - 4096) (first f) ∙ (head-down f p).1 in
+        let a : get_or ws 0 0 - 4096 ≡ head (onward f) = ap (λ (l : List ℕ). get_or l 0 0 - 4096) q ∙ ap (λ (w : ℕ). w - 4096) (first f) ∙ (head_down f p).1 in
         let z : 4026531840 + (get_or ws (length ws - 1) 0 - 4096) % 268435456 ≡ check (onward f) =
         ap (λ (l : List ℕ). 4026531840 + (get_or l (length l - 1) 0 - 4096) % 268435456) q
         ∙ ap (λ (w : ℕ). 4026531840 + (w - 4096) % 268435456) (last_word f)
-        ∙ check-down f p
+        ∙ check_down f p
         in
-        made-anew ws out (between f) (head f) (check f) _ _ (q ∙ parts f) l
+        made_anew ws out (between f) (head f) (check f) _ _ (q ∙ parts f) l
         ∙ ap₂ (λ (x y : ℕ). laid (x ∷ (between f ++ (y ∷ []))) out) a z
         ∙ ap (λ (xs : List ℕ). laid (head (onward f) ∷ (xs ++ (check (onward f) ∷ []))) out) (between_stays f)
         ∙ ap (λ (ws : List ℕ). laid ws out) (sym (parts (onward f)))

@@ -3,11 +3,11 @@ ghost use Rattle.std.specs.Prelude.{◌≡◌, true, eqb, leb, length, get_or};
 ghost use Rattle.std.proofs.lemmas.List.Edits.{sets};
 ghost use Rattle.causal.specs.Tests.{either};
 ghost use Rattle.causal.specs.Lists.{part, zeros};
-ghost use Rattle.causal.specs.Sets.{IdSet, inserted, subsetOf};
-ghost use Rattle.frame.specs.Refusals.{replyOf};
-ghost use Rattle.frame.specs.Frames.{frame_of, frameOk, frameWords};
-ghost use Rattle.store.specs.Offices.{officeOf, soundStore, reveal};
-ghost use Rattle.office.specs.Calls.{receiveCode, receiveOn, stored};
+ghost use Rattle.causal.specs.Sets.{IdSet, inserted, subset_of};
+ghost use Rattle.frame.specs.Refusals.{reply_of};
+ghost use Rattle.frame.specs.Frames.{frame_of, frame_ok, frame_words};
+ghost use Rattle.store.specs.Offices.{office_of, sound_store, reveal};
+ghost use Rattle.office.specs.Calls.{receive_code, receive_on, stored};
 ghost use Rattle.office.specs.Promises.{ReceivePromise};
 
 use frame::entry::Frame;
@@ -25,8 +25,8 @@ fn room_ok(hops: u32, words: usize, room: usize) -> bool
 
 // 10 and 11; 12: a dependency is not held; 8. `words`: how many the frame has, as it came and as it goes on.
 pub fn receive_code(store: &[u32], held: [u32; 8], f: Frame, words: usize, room: usize) -> u32
-    requires { (soundStore store.now ≡ true) × (held ≡ part store.now 3 8) × (frameOk (get_or store.now 0 0) (get_or store.now 2 0) f ≡ true) × (words ≡ length (frameWords f)) }
-    ensures { result ≡ receiveCode (officeOf store.now) f room }
+    requires { (sound_store store.now ≡ true) × (held ≡ part store.now 3 8) × (frame_ok (get_or store.now 0 0) (get_or store.now 2 0) f ≡ true) × (words ≡ length (frame_words f)) }
+    ensures { result ≡ receive_code (office_of store.now) f room }
 {
     let e = f.entry;
     let code = office::entries::entry_code(store, held, store[1], e);
@@ -45,8 +45,8 @@ pub fn receive_code(store: &[u32], held: [u32; 8], f: Frame, words: usize, room:
 
 // Reveals an id that is held.
 fn reveal_id(store: &mut [u32], k: usize)
-    requires { (soundStore store.old ≡ true) × (subsetOf (inserted zeros k) (part store.old 3 8) ≡ true) }
-    ensures { store.new ≡ sets store.old 11 (reveal (officeOf store.old) (inserted zeros k)).visible }
+    requires { (sound_store store.old ≡ true) × (subset_of (inserted zeros k) (part store.old 3 8) ≡ true) }
+    ensures { store.new ≡ sets store.old 11 (reveal (office_of store.old) (inserted zeros k)).visible }
 {
     let none = [0u32; 8];
     let seeds = causal::set::insert(none, k);
@@ -57,10 +57,10 @@ fn reveal_id(store: &mut [u32], k: usize)
 
 // A frame for this ring comes in, f, which was read from `frame`: held, hidden, if new; then revealed where none are still to hear, else sent on.
 fn taken(store: &mut [u32], frame: &[u32], f: Frame, out: &mut [u32]) -> Written
-    requires { (soundStore store.old ≡ true) × (frameOk (get_or store.old 0 0) (get_or store.old 2 0) f ≡ true) × (length f.entry.clock ≡ 8) × IdSet f.entry.deps × (f ≡ frame_of frame.now) × (frame.now ≡ frameWords f) }
-    ensures { (replyOf result ≡ record { code = (receiveOn (officeOf store.old) f out.old).code; words = (receiveOn (officeOf store.old) f out.old).count })
-        × (store.new ≡ stored (receiveOn (officeOf store.old) f out.old).code store.old (receiveOn (officeOf store.old) f out.old).store)
-        × (out.new ≡ (receiveOn (officeOf store.old) f out.old).row) }
+    requires { (sound_store store.old ≡ true) × (frame_ok (get_or store.old 0 0) (get_or store.old 2 0) f ≡ true) × (length f.entry.clock ≡ 8) × IdSet f.entry.deps × (f ≡ frame_of frame.now) × (frame.now ≡ frame_words f) }
+    ensures { (reply_of result ≡ record { code = (receive_on (office_of store.old) f out.old).code; words = (receive_on (office_of store.old) f out.old).count })
+        × (store.new ≡ stored (receive_on (office_of store.old) f out.old).code store.old (receive_on (office_of store.old) f out.old).store)
+        × (out.new ≡ (receive_on (office_of store.old) f out.old).row) }
 {
     let held = store::layout::set_at(&store[..], 3);
     let code = receive_code(&store[..], held, f, frame.len(), out.len());
@@ -79,7 +79,7 @@ fn taken(store: &mut [u32], frame: &[u32], f: Frame, out: &mut [u32]) -> Written
 
 // 01: hear a frame. A sound store has settings in range, so they are not asked again; words that are no frame are read as one of no offices.
 pub fn receive(store: &mut [u32], frame: &[u32], out: &mut [u32]) -> Written
-    ensures { ReceivePromise store.old frame.now out.old (replyOf result) store.new out.new }
+    ensures { ReceivePromise store.old frame.now out.old (reply_of result) store.new out.new }
 {
     if !store::sound::is_sound(store) {
         return Written::NotWritten(Refusal::Store);

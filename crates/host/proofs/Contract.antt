@@ -26,7 +26,7 @@ use Rattle.host.specs.declared.answer.WordsAnswer.{WordsAnswer}
 use Rattle.host.specs.declared.answer.WroteAnswer.{WroteAnswer}
 use Rattle.host.specs.declared.lent.PlotFound.{PlotFound}
 use Rattle.host.proofs.frames.burial_check_frame as check-frame
-use Rattle.host.proofs.frames.burial_read_frame as read-frame
+use Rattle.host.proofs.frames.burial_read_frame as read_frame_lem
 use Rattle.host.proofs.frames.burial_write_frame as write-frame
 use Rattle.host.proofs.lent.burial_lent_read_joint as lent-joint
 use Rattle.host.proofs.lent.burial_lent_read_plot as lent-read
@@ -46,150 +46,150 @@ use Rattle.host.proofs.version.burial_version as version
 
 module _ {M : Type 1} {𝓤 : Ura M} (𝓛 : Logic 𝓤) (mem : Memory → SProp 𝓤) (run : Routine → Fun 𝓤) where
   pub record HostContracts : Type 2 where
-    pub check-frame-met : check-frame.Statement.statement M
-    pub check-frame-is : (κs : One) (bytes : Row) (n p : ℕ) (r : ℕ) (bytes' : Row)
+    pub check_frame_met : check-frame.Statement.statement M
+    pub check_frame_is : (κs : One) (bytes : Row) (n p : ℕ) (r : ℕ) (bytes' : Row)
         → (check-frame.clauses 𝓛 mem run κs (bytes, (n, (p, tt)))).ensures tt r (bytes', (n, (p, tt)))
         ≡ fact 𝓤 (CheckPromise bytes.now n p r)
-    pub check-frame-asks : (κs : One) (bytes : Row) (n p : ℕ) → (check-frame.clauses 𝓛 mem run κs (bytes, (n, (p, tt)))).requires tt ≡ emp 𝓤
-    pub read-frame-met : read-frame.Statement.statement M
-    pub read-frame-is : (κs : One) (words : Row) (n p : ℕ) (r : FrameAnswer) (words' : Row)
-        → (read-frame.clauses 𝓛 mem run κs (words, (n, (p, tt)))).ensures tt r (words', (n, (p, tt)))
+    pub check_frame_asks : (κs : One) (bytes : Row) (n p : ℕ) → (check-frame.clauses 𝓛 mem run κs (bytes, (n, (p, tt)))).requires tt ≡ emp 𝓤
+    pub read_frame_met : read_frame_lem.Statement.statement M
+    pub read_frame_is : (κs : One) (words : Row) (n p : ℕ) (r : FrameAnswer) (words' : Row)
+        → (read_frame_lem.clauses 𝓛 mem run κs (words, (n, (p, tt)))).ensures tt r (words', (n, (p, tt)))
         ≡ fact 𝓤 (ReadFramePromise words.now n p r.refusal r.frame)
-    pub read-frame-asks : (κs : One) (words : Row) (n p : ℕ) → (read-frame.clauses 𝓛 mem run κs (words, (n, (p, tt)))).requires tt ≡ emp 𝓤
-    pub write-frame-met : write-frame.Statement.statement M
-    pub write-frame-is : (κs : One) (f : Frame) (row : Row) (r : WordsAnswer) (row' : Row)
+    pub read_frame_asks : (κs : One) (words : Row) (n p : ℕ) → (read_frame_lem.clauses 𝓛 mem run κs (words, (n, (p, tt)))).requires tt ≡ emp 𝓤
+    pub write_frame_met : write-frame.Statement.statement M
+    pub write_frame_is : (κs : One) (f : Frame) (row : Row) (r : WordsAnswer) (row' : Row)
         → (write-frame.clauses 𝓛 mem run κs (f, (row, tt))).ensures tt r (f, (row', tt))
         ≡ fact 𝓤 (WriteFramePromise f row.now (record { code = r.refusal; words = r.words }) row'.now)
-    pub write-frame-asks : (κs : One) (f : Frame) (row : Row) → (write-frame.clauses 𝓛 mem run κs (f, (row, tt))).requires tt ≡ emp 𝓤
-    pub read-token-met : read-token.Statement.statement M
-    pub read-token-is : (κs : One) (words : Row) (n p : ℕ) (r : SessionAnswer) (words' : Row)
+    pub write_frame_asks : (κs : One) (f : Frame) (row : Row) → (write-frame.clauses 𝓛 mem run κs (f, (row, tt))).requires tt ≡ emp 𝓤
+    pub read_token_met : read-token.Statement.statement M
+    pub read_token_is : (κs : One) (words : Row) (n p : ℕ) (r : SessionAnswer) (words' : Row)
         → (read-token.clauses 𝓛 mem run κs (words, (n, (p, tt)))).ensures tt r (words', (n, (p, tt)))
         ≡ fact 𝓤 (ReadTokenPromise words.now n p r.refusal r.session)
-    pub read-token-asks : (κs : One) (words : Row) (n p : ℕ) → (read-token.clauses 𝓛 mem run κs (words, (n, (p, tt)))).requires tt ≡ emp 𝓤
-    pub write-token-met : write-token.Statement.statement M
-    pub write-token-is : (κs : One) (s : Session) (row : Row) (r : WordsAnswer) (row' : Row)
+    pub read_token_asks : (κs : One) (words : Row) (n p : ℕ) → (read-token.clauses 𝓛 mem run κs (words, (n, (p, tt)))).requires tt ≡ emp 𝓤
+    pub write_token_met : write-token.Statement.statement M
+    pub write_token_is : (κs : One) (s : Session) (row : Row) (r : WordsAnswer) (row' : Row)
         → (write-token.clauses 𝓛 mem run κs (s, (row, tt))).ensures tt r (s, (row', tt))
         ≡ fact 𝓤 (WriteTokenPromise s row.now (record { code = r.refusal; words = r.words }) row'.now)
-    pub write-token-asks : (κs : One) (s : Session) (row : Row) → (write-token.clauses 𝓛 mem run κs (s, (row, tt))).requires tt ≡ emp 𝓤
-    pub need-met : need.Statement.statement M
-    pub need-is : (n o p : ℕ) (r : WordsAnswer)
+    pub write_token_asks : (κs : One) (s : Session) (row : Row) → (write-token.clauses 𝓛 mem run κs (s, (row, tt))).requires tt ≡ emp 𝓤
+    pub need_met : need.Statement.statement M
+    pub need_is : (n o p : ℕ) (r : WordsAnswer)
         → (need.clauses 𝓛 mem run tt (n, (o, (p, tt)))).ensures tt r (n, (o, (p, tt)))
         ≡ fact 𝓤 (NeedPromise n o p (record { code = r.refusal; words = r.words }))
-    pub need-asks : (n o p : ℕ) → (need.clauses 𝓛 mem run tt (n, (o, (p, tt)))).requires tt ≡ emp 𝓤
-    pub open-met : open-office.Statement.statement M
+    pub need_asks : (n o p : ℕ) → (need.clauses 𝓛 mem run tt (n, (o, (p, tt)))).requires tt ≡ emp 𝓤
+    pub open_met : open-office.Statement.statement M
     pub open_is : (κs : One) (n o p : ℕ) (ws : Row) (r : ℕ) (ws' : Row)
         → (open-office.clauses 𝓛 mem run κs (n, (o, (p, (ws, tt))))).ensures tt r (n, (o, (p, (ws', tt))))
         ≡ fact 𝓤 (OpenPromise n o p ws.now r ws'.now)
-    pub open-asks : (κs : One) (n o p : ℕ) (ws : Row) → (open-office.clauses 𝓛 mem run κs (n, (o, (p, (ws, tt))))).requires tt ≡ emp 𝓤
-    pub fresh-met : fresh.Statement.statement M
-    pub fresh-is : (n : ℕ) (r : SessionAnswer)
+    pub open_asks : (κs : One) (n o p : ℕ) (ws : Row) → (open-office.clauses 𝓛 mem run κs (n, (o, (p, (ws, tt))))).requires tt ≡ emp 𝓤
+    pub fresh_met : fresh.Statement.statement M
+    pub fresh_is : (n : ℕ) (r : SessionAnswer)
         → (fresh.clauses 𝓛 mem run tt (n, tt)).ensures tt r (n, tt)
         ≡ fact 𝓤 (FreshPromise n r.refusal r.session)
-    pub fresh-asks : (n : ℕ) → (fresh.clauses 𝓛 mem run tt (n, tt)).requires tt ≡ emp 𝓤
-    pub join-sessions-met : join-sessions.Statement.statement M
-    pub join-sessions-is : (n p : ℕ) (a b : Session) (r : SessionAnswer)
+    pub fresh_asks : (n : ℕ) → (fresh.clauses 𝓛 mem run tt (n, tt)).requires tt ≡ emp 𝓤
+    pub join_sessions_met : join-sessions.Statement.statement M
+    pub join_sessions_is : (n p : ℕ) (a b : Session) (r : SessionAnswer)
         → (join-sessions.clauses 𝓛 mem run tt (n, (p, (a, (b, tt))))).ensures tt r (n, (p, (a, (b, tt))))
         ≡ fact 𝓤 (JoinPromise n p a b r.refusal r.session)
-    pub join-sessions-asks : (n p : ℕ) (a b : Session) → (join-sessions.clauses 𝓛 mem run tt (n, (p, (a, (b, tt))))).requires tt ≡ emp 𝓤
-    pub settings-met : settings.Statement.statement M
-    pub settings-is : (κs : One) (ws : Row) (r : SettingsAnswer) (ws' : Row)
+    pub join_sessions_asks : (n p : ℕ) (a b : Session) → (join-sessions.clauses 𝓛 mem run tt (n, (p, (a, (b, tt))))).requires tt ≡ emp 𝓤
+    pub settings_met : settings.Statement.statement M
+    pub settings_is : (κs : One) (ws : Row) (r : SettingsAnswer) (ws' : Row)
         → (settings.clauses 𝓛 mem run κs (ws, tt)).ensures tt r (ws', tt)
         ≡ fact 𝓤 (SettingsPromise ws.now r.refusal r.offices r.own r.plots)
-    pub settings-asks : (κs : One) (ws : Row) → (settings.clauses 𝓛 mem run κs (ws, tt)).requires tt ≡ emp 𝓤
-    pub version-met : version.Statement.statement M
-    pub version-is : (r : ℕ) → (version.clauses 𝓛 mem run tt tt).ensures tt r tt ≡ fact 𝓤 (VersionPromise r)
-    pub version-asks : (version.clauses 𝓛 mem run tt tt).requires tt ≡ emp 𝓤
-    pub read-met : read.Statement.statement M
+    pub settings_asks : (κs : One) (ws : Row) → (settings.clauses 𝓛 mem run κs (ws, tt)).requires tt ≡ emp 𝓤
+    pub version_met : version.Statement.statement M
+    pub version_is : (r : ℕ) → (version.clauses 𝓛 mem run tt tt).ensures tt r tt ≡ fact 𝓤 (VersionPromise r)
+    pub version_asks : (version.clauses 𝓛 mem run tt tt).requires tt ≡ emp 𝓤
+    pub read_met : read.Statement.statement M
     pub read_is : (κs : One) (ws : Row) (s : Session) (plot : ℕ) (r : PlotAnswer) (ws' : Row)
         → (read.clauses 𝓛 mem run κs (ws, (s, (plot, tt)))).ensures tt r (ws', (s, (plot, tt)))
         ≡ fact 𝓤 ((r.found ≤ 1) × ReadPromise ws.now s plot r.refusal (is_set r.found) r.entry r.session ws'.now)
-    pub read-asks : (κs : One) (ws : Row) (s : Session) (plot : ℕ) → (read.clauses 𝓛 mem run κs (ws, (s, (plot, tt)))).requires tt ≡ emp 𝓤
-    pub joint-met : joint.Statement.statement M
-    pub joint-is : (κs : Three) (ws : Row) (s : Session) (plots row : Row) (r : SessionAnswer) (ws' plots' row' : Row)
+    pub read_asks : (κs : One) (ws : Row) (s : Session) (plot : ℕ) → (read.clauses 𝓛 mem run κs (ws, (s, (plot, tt)))).requires tt ≡ emp 𝓤
+    pub joint_met : joint.Statement.statement M
+    pub joint_is : (κs : Three) (ws : Row) (s : Session) (plots row : Row) (r : SessionAnswer) (ws' plots' row' : Row)
         → (joint.clauses 𝓛 mem run κs (ws, (s, (plots, (row, tt))))).ensures tt r (ws', (s, (plots', (row', tt))))
         ≡ fact 𝓤 (JointPromise ws.now s plots.now row.now r.refusal r.session ws'.now row'.now)
-    pub joint-asks : (κs : Three) (ws : Row) (s : Session) (plots row : Row) → (joint.clauses 𝓛 mem run κs (ws, (s, (plots, (row, tt))))).requires tt ≡ emp 𝓤
-    pub write-met : write.Statement.statement M
-    pub write-is : (κs : Two) (ws : Row) (s : Session) (plot value : ℕ) (row : Row) (r : WroteAnswer) (ws' row' : Row)
+    pub joint_asks : (κs : Three) (ws : Row) (s : Session) (plots row : Row) → (joint.clauses 𝓛 mem run κs (ws, (s, (plots, (row, tt))))).requires tt ≡ emp 𝓤
+    pub write_met : write.Statement.statement M
+    pub write_is : (κs : Two) (ws : Row) (s : Session) (plot value : ℕ) (row : Row) (r : WroteAnswer) (ws' row' : Row)
         → (write.clauses 𝓛 mem run κs (ws, (s, (plot, (value, (row, tt)))))).ensures tt r (ws', (s, (plot, (value, (row', tt)))))
         ≡ fact 𝓤 (WritePromise ws.now s plot value row.now (record { code = r.refusal; words = r.words }) r.session ws'.now row'.now)
-    pub write-asks : (κs : Two) (ws : Row) (s : Session) (plot value : ℕ) (row : Row) → (write.clauses 𝓛 mem run κs (ws, (s, (plot, (value, (row, tt)))))).requires tt ≡ emp 𝓤
-    pub receive-met : receive.Statement.statement M
-    pub receive-is : (κs : Three) (ws frame row : Row) (r : WordsAnswer) (ws' frame' row' : Row)
+    pub write_asks : (κs : Two) (ws : Row) (s : Session) (plot value : ℕ) (row : Row) → (write.clauses 𝓛 mem run κs (ws, (s, (plot, (value, (row, tt)))))).requires tt ≡ emp 𝓤
+    pub receive_met : receive.Statement.statement M
+    pub receive_is : (κs : Three) (ws frame row : Row) (r : WordsAnswer) (ws' frame' row' : Row)
         → (receive.clauses 𝓛 mem run κs (ws, (frame, (row, tt)))).ensures tt r (ws', (frame', (row', tt)))
         ≡ fact 𝓤 (ReceivePromise ws.now frame.now row.now (record { code = r.refusal; words = r.words }) ws'.now row'.now)
-    pub receive-asks : (κs : Three) (ws frame row : Row) → (receive.clauses 𝓛 mem run κs (ws, (frame, (row, tt)))).requires tt ≡ emp 𝓤
-    pub lent-read-met : lent-read.Statement.statement M
-    pub lent-read-is : (κs : Two) (ws : Row) (s : Lent) (plot : ℕ) (r : PlotFound) (ws' : Row) (s' : Lent)
+    pub receive_asks : (κs : Three) (ws frame row : Row) → (receive.clauses 𝓛 mem run κs (ws, (frame, (row, tt)))).requires tt ≡ emp 𝓤
+    pub lent_read_met : lent-read.Statement.statement M
+    pub lent_read_is : (κs : Two) (ws : Row) (s : Lent) (plot : ℕ) (r : PlotFound) (ws' : Row) (s' : Lent)
         → (lent-read.clauses 𝓛 mem run κs (ws, (s, (plot, tt)))).ensures tt r (ws', (s', (plot, tt)))
         ≡ fact 𝓤 ((r.found ≤ 1) × ReadPromise ws.now s.now plot r.refusal (is_set r.found) r.entry s'.now ws'.now)
-    pub lent-read-asks : (κs : Two) (ws : Row) (s : Lent) (plot : ℕ) → (lent-read.clauses 𝓛 mem run κs (ws, (s, (plot, tt)))).requires tt ≡ emp 𝓤
-    pub lent-joint-met : lent-joint.Statement.statement M
-    pub lent-joint-is : (κs : Four) (ws : Row) (s : Lent) (plots row : Row) (r : ℕ) (ws' : Row) (s' : Lent) (plots' row' : Row)
+    pub lent_read_asks : (κs : Two) (ws : Row) (s : Lent) (plot : ℕ) → (lent-read.clauses 𝓛 mem run κs (ws, (s, (plot, tt)))).requires tt ≡ emp 𝓤
+    pub lent_joint_met : lent-joint.Statement.statement M
+    pub lent_joint_is : (κs : Four) (ws : Row) (s : Lent) (plots row : Row) (r : ℕ) (ws' : Row) (s' : Lent) (plots' row' : Row)
         → (lent-joint.clauses 𝓛 mem run κs (ws, (s, (plots, (row, tt))))).ensures tt r (ws', (s', (plots', (row', tt))))
         ≡ fact 𝓤 (JointPromise ws.now s.now plots.now row.now r s'.now ws'.now row'.now)
-    pub lent-joint-asks : (κs : Four) (ws : Row) (s : Lent) (plots row : Row) → (lent-joint.clauses 𝓛 mem run κs (ws, (s, (plots, (row, tt))))).requires tt ≡ emp 𝓤
-    pub lent-write-met : lent-write.Statement.statement M
-    pub lent-write-is : (κs : Three) (ws : Row) (s : Lent) (plot value : ℕ) (row : Row) (r : WordsAnswer) (ws' : Row) (s' : Lent) (row' : Row)
+    pub lent_joint_asks : (κs : Four) (ws : Row) (s : Lent) (plots row : Row) → (lent-joint.clauses 𝓛 mem run κs (ws, (s, (plots, (row, tt))))).requires tt ≡ emp 𝓤
+    pub lent_write_met : lent-write.Statement.statement M
+    pub lent_write_is : (κs : Three) (ws : Row) (s : Lent) (plot value : ℕ) (row : Row) (r : WordsAnswer) (ws' : Row) (s' : Lent) (row' : Row)
         → (lent-write.clauses 𝓛 mem run κs (ws, (s, (plot, (value, (row, tt)))))).ensures tt r (ws', (s', (plot, (value, (row', tt)))))
         ≡ fact 𝓤 (WritePromise ws.now s.now plot value row.now (record { code = r.refusal; words = r.words }) s'.now ws'.now row'.now)
-    pub lent-write-asks : (κs : Three) (ws : Row) (s : Lent) (plot value : ℕ) (row : Row) → (lent-write.clauses 𝓛 mem run κs (ws, (s, (plot, (value, (row, tt)))))).requires tt ≡ emp 𝓤
+    pub lent_write_asks : (κs : Three) (ws : Row) (s : Lent) (plot value : ℕ) (row : Row) → (lent-write.clauses 𝓛 mem run κs (ws, (s, (plot, (value, (row, tt)))))).requires tt ≡ emp 𝓤
 
-  pub host-contracts : HostContracts
-  host-contracts =
+  pub host_contracts : HostContracts
+  host_contracts =
       record {
-        check-frame-met = check-frame.Met.met;
-        check-frame-is = λ κs bytes n p r bytes'. refl;
-        check-frame-asks = λ κs bytes n p. refl;
-        read-frame-met = read-frame.Met.met;
-        read-frame-is = λ κs words n p r words'. refl;
-        read-frame-asks = λ κs words n p. refl;
-        write-frame-met = write-frame.Met.met;
-        write-frame-is = λ κs f row r row'. refl;
-        write-frame-asks = λ κs f row. refl;
-        read-token-met = read-token.Met.met;
-        read-token-is = λ κs words n p r words'. refl;
-        read-token-asks = λ κs words n p. refl;
-        write-token-met = write-token.Met.met;
-        write-token-is = λ κs s row r row'. refl;
-        write-token-asks = λ κs s row. refl;
-        need-met = need.Met.met;
-        need-is = λ n o p r. refl;
-        need-asks = λ n o p. refl;
-        open-met = open-office.Met.met;
+        check_frame_met = check-frame.Met.met;
+        check_frame_is = λ κs bytes n p r bytes'. refl;
+        check_frame_asks = λ κs bytes n p. refl;
+        read_frame_met = read_frame_lem.Met.met;
+        read_frame_is = λ κs words n p r words'. refl;
+        read_frame_asks = λ κs words n p. refl;
+        write_frame_met = write-frame.Met.met;
+        write_frame_is = λ κs f row r row'. refl;
+        write_frame_asks = λ κs f row. refl;
+        read_token_met = read-token.Met.met;
+        read_token_is = λ κs words n p r words'. refl;
+        read_token_asks = λ κs words n p. refl;
+        write_token_met = write-token.Met.met;
+        write_token_is = λ κs s row r row'. refl;
+        write_token_asks = λ κs s row. refl;
+        need_met = need.Met.met;
+        need_is = λ n o p r. refl;
+        need_asks = λ n o p. refl;
+        open_met = open-office.Met.met;
         open_is = λ κs n o p ws r ws'. refl;
-        open-asks = λ κs n o p ws. refl;
-        fresh-met = fresh.Met.met;
-        fresh-is = λ n r. refl;
-        fresh-asks = λ n. refl;
-        join-sessions-met = join-sessions.Met.met;
-        join-sessions-is = λ n p a b r. refl;
-        join-sessions-asks = λ n p a b. refl;
-        settings-met = settings.Met.met;
-        settings-is = λ κs ws r ws'. refl;
-        settings-asks = λ κs ws. refl;
-        version-met = version.Met.met;
-        version-is = λ r. refl;
-        version-asks = refl;
-        read-met = read.Met.met;
+        open_asks = λ κs n o p ws. refl;
+        fresh_met = fresh.Met.met;
+        fresh_is = λ n r. refl;
+        fresh_asks = λ n. refl;
+        join_sessions_met = join-sessions.Met.met;
+        join_sessions_is = λ n p a b r. refl;
+        join_sessions_asks = λ n p a b. refl;
+        settings_met = settings.Met.met;
+        settings_is = λ κs ws r ws'. refl;
+        settings_asks = λ κs ws. refl;
+        version_met = version.Met.met;
+        version_is = λ r. refl;
+        version_asks = refl;
+        read_met = read.Met.met;
         read_is = λ κs ws s plot r ws'. refl;
-        read-asks = λ κs ws s plot. refl;
-        joint-met = joint.Met.met;
-        joint-is = λ κs ws s plots row r ws' plots' row'. refl;
-        joint-asks = λ κs ws s plots row. refl;
-        write-met = write.Met.met;
-        write-is = λ κs ws s plot value row r ws' row'. refl;
-        write-asks = λ κs ws s plot value row. refl;
-        receive-met = receive.Met.met;
-        receive-is = λ κs ws frame row r ws' frame' row'. refl;
-        receive-asks = λ κs ws frame row. refl;
-        lent-read-met = lent-read.Met.met;
-        lent-read-is = λ κs ws s plot r ws' s'. refl;
-        lent-read-asks = λ κs ws s plot. refl;
-        lent-joint-met = lent-joint.Met.met;
-        lent-joint-is = λ κs ws s plots row r ws' s' plots' row'. refl;
-        lent-joint-asks = λ κs ws s plots row. refl;
-        lent-write-met = lent-write.Met.met;
-        lent-write-is = λ κs ws s plot value row r ws' s' row'. refl;
-        lent-write-asks = λ κs ws s plot value row. refl;
+        read_asks = λ κs ws s plot. refl;
+        joint_met = joint.Met.met;
+        joint_is = λ κs ws s plots row r ws' plots' row'. refl;
+        joint_asks = λ κs ws s plots row. refl;
+        write_met = write.Met.met;
+        write_is = λ κs ws s plot value row r ws' row'. refl;
+        write_asks = λ κs ws s plot value row. refl;
+        receive_met = receive.Met.met;
+        receive_is = λ κs ws frame row r ws' frame' row'. refl;
+        receive_asks = λ κs ws frame row. refl;
+        lent_read_met = lent-read.Met.met;
+        lent_read_is = λ κs ws s plot r ws' s'. refl;
+        lent_read_asks = λ κs ws s plot. refl;
+        lent_joint_met = lent-joint.Met.met;
+        lent_joint_is = λ κs ws s plots row r ws' s' plots' row'. refl;
+        lent_joint_asks = λ κs ws s plots row. refl;
+        lent_write_met = lent-write.Met.met;
+        lent_write_is = λ κs ws s plot value row r ws' s' row'. refl;
+        lent_write_asks = λ κs ws s plot value row. refl;
       }

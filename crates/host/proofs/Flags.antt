@@ -3,17 +3,17 @@ use Prim.Native.Nat.{ℕ, ◌≤◌}
 use mathlib.Core.Bool.{Bool, false, true}
 use mathlib.Core.Path.{◌≡◌, refl}
 use native.Mathlib.Omega.{arith}
-use Rattle.host.specs.Flags.{flagOf, is_set}
+use Rattle.host.specs.Flags.{flag_of, is_set}
 
-pub flag-low : (b : Bool) (n : ℕ) → n ≡ flagOf b → n ≤ 1
-unfolding flagOf
-flag-low true n e = omega arith
-flag-low false n e = omega arith
+pub flag_low : (b : Bool) (n : ℕ) → n ≡ flag_of b → n ≤ 1
+unfolding flag_of
+flag_low true n e = omega arith
+flag_low false n e = omega arith
 
-flag-says : (b : Bool) → is_set (flagOf b) ≡ b
-unfolding flagOf is_set
-flag-says true = refl
-flag-says false = refl
+flag_says : (b : Bool) → is_set (flag_of b) ≡ b
+unfolding flag_of is_set
+flag_says true = refl
+flag_says false = refl
 
-pub flag-set : (b : Bool) (n : ℕ) → n ≡ flagOf b → is_set n ≡ b
-flag-set b n e = rw e (flag-says b)
+pub flag_set : (b : Bool) (n : ℕ) → n ≡ flag_of b → is_set n ≡ b
+flag_set b n e = rw e (flag_says b)

@@ -10,8 +10,8 @@ use Rattle.frame.specs.declared.refusal.Written.{Written}
 use Rattle.frame.specs.declared.refusal.Written.TheVariants.{NotWritten, Words}
 use Rattle.frame.specs.declared.session.Session.{Session}
 use Rattle.frame.specs.Sessions.{nobody}
-use Rattle.office.specs.Answers.{extended_by, withMade}
-use Rattle.host.specs.Left.{leftIn}
+use Rattle.office.specs.Answers.{extended_by, with_made}
+use Rattle.host.specs.Left.{left_in}
 
 set_first : (own : List Entry) → set own 0 (get_or own 0 nobody) ≡ own
 set_first [] = refl
@@ -19,15 +19,15 @@ set_first (e ∷ es) = refl
 
 module _ (s : Session) (w : Written) (e : Entry) (clock : List ℕ) (count : ℕ) (p : s.clock ≡ clock) (q : s.count ≡ count) where
   -- on a refusal all is as it was
-  pub left-same : (x : Refusal) → w ≡ NotWritten x → (first : Entry) → get_or s.own 0 nobody ≡ first → leftIn s clock count 0 first ≡ withMade s w e
-  unfolding withMade
-  left-same x h first f =
+  pub left_same : (x : Refusal) → w ≡ NotWritten x → (first : Entry) → get_or s.own 0 nobody ≡ first → left_in s clock count 0 first ≡ with_made s w e
+  unfolding with_made
+  left_same x h first f =
       (λ i. record { offices = s.offices; clock = sym p i; read = s.read; count = sym q i; own = (ap (set s.own 0) (sym f) ∙ set_first s.own) i })
-      ∙ ap (λ (v : Written). withMade s v e) (sym h)
+      ∙ ap (λ (v : Written). with_made s v e) (sym h)
 
   -- else the entry joins the own writes, and its clock the session's
-  pub left-more : (n : ℕ) → w ≡ Words n → (joined : List ℕ) → joined ≡ join clock e.clock → leftIn s joined (count + 1) count e ≡ withMade s w e
-  unfolding withMade extended_by
-  left-more n h joined j =
+  pub left_more : (n : ℕ) → w ≡ Words n → (joined : List ℕ) → joined ≡ join clock e.clock → left_in s joined (count + 1) count e ≡ with_made s w e
+  unfolding with_made extended_by
+  left_more n h joined j =
       (λ i. record { offices = s.offices; clock = (j ∙ ap (λ (c : List ℕ). join c e.clock) (sym p)) i; read = s.read; count = sym q i + 1; own = set s.own (sym q i) e })
-      ∙ ap (λ (v : Written). withMade s v e) (sym h)
+      ∙ ap (λ (v : Written). with_made s v e) (sym h)

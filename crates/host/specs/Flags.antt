@@ -2,9 +2,9 @@
 use Rattle.std.specs.Prelude.{ℕ, suc, zero, Bool, false, true}
 
 -- 1 for true
-unfoldable pub flagOf : Bool → ℕ
-flagOf true = 1
-flagOf false = 0
+unfoldable pub flag_of : Bool → ℕ
+flag_of true = 1
+flag_of false = 0
 
 -- what a number says of which a promise says that it is 0 or 1
 unfoldable pub is_set : ℕ → Bool

@@ -4,5 +4,5 @@ use Rattle.frame.specs.declared.entry.Entry.{Entry}
 use Rattle.frame.specs.declared.session.Session.{Session}
 
 -- the clock, the count and one entry of its row are written
-abbrev pub leftIn : Session → List ℕ → ℕ → ℕ → Entry → Session
-leftIn s clock count place entry = record { offices = s.offices; clock = clock; read = s.read; count = count; own = set s.own place entry }
+abbrev pub left_in : Session → List ℕ → ℕ → ℕ → Entry → Session
+left_in s clock count place entry = record { offices = s.offices; clock = clock; read = s.read; count = count; own = set s.own place entry }

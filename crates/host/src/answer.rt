@@ -1,6 +1,6 @@
 // Answers as C has them: a refusal number, 0 for none, and the values beside it.
 ghost use Rattle.std.specs.Prelude.{◌≡◌};
-ghost use Rattle.frame.specs.Refusals.{replyOf};
+ghost use Rattle.frame.specs.Refusals.{reply_of};
 
 #[repr(C)]
 #[derive(Drop)]
@@ -51,7 +51,7 @@ pub struct SettingsAnswer {
 
 // What a call that writes words answers.
 pub fn words_answer(written: frame::refusal::Written) -> WordsAnswer
-    ensures { record { code = result.refusal; words = result.words } ≡ replyOf written }
+    ensures { record { code = result.refusal; words = result.words } ≡ reply_of written }
 {
     match written {
         frame::refusal::Written::Words(words) => WordsAnswer { refusal: 0, words },

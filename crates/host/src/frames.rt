@@ -1,8 +1,8 @@
 // Frames for a host: as bytes, and as words.
 ghost use Rattle.std.specs.Prelude.{◌≡◌, ◌+◌, ◌*◌, ◌≤◌, length};
 ghost use Rattle.causal.specs.Lists.{tab};
-ghost use Rattle.frame.specs.Calls.{readFrameCode};
-ghost use Rattle.host.specs.Bytes.{wordAt, CheckPromise};
+ghost use Rattle.frame.specs.Calls.{read_frame_code};
+ghost use Rattle.host.specs.Bytes.{word_at, CheckPromise};
 ghost use Rattle.frame.specs.Promises.{ReadFramePromise, WriteFramePromise};
 
 use crate::answer::{FrameAnswer, WordsAnswer};
@@ -13,7 +13,7 @@ const MOST: usize = 267;
 // Word i of a row of bytes, lowest byte first.
 fn word_at(bytes: &[u8], i: usize) -> u32
     requires { 4 * i + 4 ≤ length bytes.now }
-    ensures { result ≡ wordAt bytes.now i }
+    ensures { result ≡ word_at bytes.now i }
 {
     let at = 4 * i;
     wide(bytes[at])
@@ -30,7 +30,7 @@ fn wide(b: u8) -> u32
 // The refusal number of the n words that the bytes make.
 fn check_words(bytes: &[u8], n: usize, offices: u32, plots: u32) -> u32
     requires { (n ≤ 267) × (4 * n ≤ length bytes.now) }
-    ensures { result ≡ readFrameCode offices plots (tab n (wordAt bytes.now)) }
+    ensures { result ≡ read_frame_code offices plots (tab n (word_at bytes.now)) }
 {
     let mut row = [0u32; MOST];
     for i in 0..n {

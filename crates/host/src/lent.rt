@@ -6,14 +6,14 @@ ghost use Rattle.std.specs.Prelude.{true, List, ◌≡◌, ℕ, ◌<◌, ◌≤�
 ghost use Rattle.frame.specs.declared.entry.Entry.{Entry};
 ghost use Rattle.frame.specs.declared.refusal.Written.TheVariants.{Words};
 ghost use Rattle.frame.specs.declared.session.Session.{Session};
-ghost use Rattle.frame.specs.Refusals.{code_of, replyOf};
+ghost use Rattle.frame.specs.Refusals.{code_of, reply_of};
 ghost use Rattle.frame.specs.Sessions.{nobody};
-ghost use Rattle.office.specs.Answers.{withMade};
-ghost use Rattle.office.specs.Decide.{alone, withSeen};
+ghost use Rattle.office.specs.Answers.{with_made};
+ghost use Rattle.office.specs.Decide.{alone, with_seen};
 ghost use Rattle.office.specs.Promises.{JointPromise, ReadPromise, WritePromise};
 ghost use Rattle.host.specs.Flags.{is_set};
-ghost use Rattle.host.specs.Left.{leftIn};
-ghost use Rattle.reading.specs.Releases.{withRest};
+ghost use Rattle.host.specs.Left.{left_in};
+ghost use Rattle.reading.specs.Releases.{with_rest};
 
 use crate::answer::WordsAnswer;
 use frame::entry::Entry;
@@ -84,7 +84,7 @@ fn moved_session(
     gone: [bool; 16],
 ) -> Session
     requires { s.count ≤ 16 }
-    ensures { result ≡ withRest s (record { clock = clock; read = read }) (record { gone = gone; left = count; moved = true }) }
+    ensures { result ≡ with_rest s (record { clock = clock; read = read }) (record { gone = gone; left = count; moved = true }) }
 {
     let seen = office::note::Seen { clock, read };
     reading::release::with_moved(s, seen, gone, count)
@@ -116,7 +116,7 @@ fn plot_done(done: reading::read::PlotSeen) -> PlotDone
 
 // burial_read_plot, with what it changes of the session in place of the session.
 fn plot_by_value(store: &mut [u32], s: Session, plot: u32) -> PlotLeft
-    ensures { (result.answer.found ≤ 1) × (result.moved ≡ true → s.count ≤ 16) × ReadPromise store.old s plot result.answer.refusal (is_set result.answer.found) result.answer.entry (withRest s (record { clock = result.clock; read = result.read }) (record { gone = result.gone; left = result.count; moved = result.moved })) store.new }
+    ensures { (result.answer.found ≤ 1) × (result.moved ≡ true → s.count ≤ 16) × ReadPromise store.old s plot result.answer.refusal (is_set result.answer.found) result.answer.entry (with_rest s (record { clock = result.clock; read = result.read }) (record { gone = result.gone; left = result.count; moved = result.moved })) store.new }
 {
     let left = reading::read::see_plot(store, s, plot);
     let seen = left.done;
@@ -144,7 +144,7 @@ fn plot_alone(
     read: [u32; 8],
     plot: u32,
 ) -> PlotDone
-    ensures { (result.answer.found ≤ 1) × ((own : List Entry) → ReadPromise store.old (alone offices clock read own) plot result.answer.refusal (is_set result.answer.found) result.answer.entry (withSeen (alone offices clock read own) (record { clock = result.clock; read = result.read })) store.new) }
+    ensures { (result.answer.found ≤ 1) × ((own : List Entry) → ReadPromise store.old (alone offices clock read own) plot result.answer.refusal (is_set result.answer.found) result.answer.entry (with_seen (alone offices clock read own) (record { clock = result.clock; read = result.read })) store.new) }
 {
     let done = reading::read::see_alone(store, offices, clock, read, plot);
     plot_done(done)
@@ -191,7 +191,7 @@ fn joint_done(done: reading::joint::JointSeen) -> JointDone
 
 // burial_read_joint, with what it changes of the session in place of the session.
 fn joint_by_value(store: &mut [u32], s: Session, plots: &[u32], answer: &mut [u32]) -> JointLeft
-    ensures { (result.moved ≡ true → s.count ≤ 16) × JointPromise store.old s plots.now answer.old result.refusal (withRest s (record { clock = result.clock; read = result.read }) (record { gone = result.gone; left = result.count; moved = result.moved })) store.new answer.new }
+    ensures { (result.moved ≡ true → s.count ≤ 16) × JointPromise store.old s plots.now answer.old result.refusal (with_rest s (record { clock = result.clock; read = result.read }) (record { gone = result.gone; left = result.count; moved = result.moved })) store.new answer.new }
 {
     let left = reading::joint::see_joint(store, s, plots, answer);
     let seen = left.done;
@@ -219,7 +219,7 @@ fn joint_alone(
     plots: &[u32],
     answer: &mut [u32],
 ) -> JointDone
-    ensures { (own : List Entry) → JointPromise store.old (alone offices clock read own) plots.now answer.old result.refusal (withSeen (alone offices clock read own) (record { clock = result.clock; read = result.read })) store.new answer.new }
+    ensures { (own : List Entry) → JointPromise store.old (alone offices clock read own) plots.now answer.old result.refusal (with_seen (alone offices clock read own) (record { clock = result.clock; read = result.read })) store.new answer.new }
 {
     let done = reading::joint::see_joint_alone(store, offices, clock, read, plots, answer);
     joint_done(done)
@@ -257,8 +257,8 @@ pub extern "C" fn burial_lent_read_joint(
 // What a write that made this leaves, by the clock and the count as they were and the first entry of the row.
 fn write_done(made: writing::write::Made, clock: [u32; 8], count: usize, first: Entry) -> WriteDone
     requires { (n : ℕ) → made.written ≡ Words n → count < 16 }
-    ensures { (result.place < 16) × (record { code = result.answer.refusal; words = result.answer.words } ≡ replyOf made.written)
-        × ((s : Session) → s.clock ≡ clock → s.count ≡ count → get_or s.own 0 nobody ≡ first → leftIn s result.clock result.count result.place result.entry ≡ withMade s made.written made.entry) }
+    ensures { (result.place < 16) × (record { code = result.answer.refusal; words = result.answer.words } ≡ reply_of made.written)
+        × ((s : Session) → s.clock ≡ clock → s.count ≡ count → get_or s.own 0 nobody ≡ first → left_in s result.clock result.count result.place result.entry ≡ with_made s made.written made.entry) }
 {
     let written = made.written;
     let answer = crate::answer::words_answer(written);
@@ -293,7 +293,7 @@ fn write_by_value(
     value: u32,
     out: &mut [u32],
 ) -> WriteDone
-    ensures { (result.place < 16) × WritePromise store.old s plot value out.old (record { code = result.answer.refusal; words = result.answer.words }) (leftIn s result.clock result.count result.place result.entry) store.new out.new }
+    ensures { (result.place < 16) × WritePromise store.old s plot value out.old (record { code = result.answer.refusal; words = result.answer.words }) (left_in s result.clock result.count result.place result.entry) store.new out.new }
 {
     let made = writing::write::make(store, s, plot, value, out);
     let clock = s.clock;
@@ -312,7 +312,7 @@ fn write_alone(
     value: u32,
     out: &mut [u32],
 ) -> WriteDone
-    ensures { (result.place < 16) × ((own : List Entry) → get_or own 0 nobody ≡ first → WritePromise store.old (alone offices clock read own) plot value out.old (record { code = result.answer.refusal; words = result.answer.words }) (leftIn (alone offices clock read own) result.clock result.count result.place result.entry) store.new out.new) }
+    ensures { (result.place < 16) × ((own : List Entry) → get_or own 0 nobody ≡ first → WritePromise store.old (alone offices clock read own) plot value out.old (record { code = result.answer.refusal; words = result.answer.words }) (left_in (alone offices clock read own) result.clock result.count result.place result.entry) store.new out.new) }
 {
     let made = writing::write::make_alone(store, offices, clock, read, plot, value, out);
     write_done(made, clock, 0, first)

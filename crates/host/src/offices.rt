@@ -1,7 +1,7 @@
 // The calls of an office for a host. Sessions go in and come back by value.
 ghost use Rattle.std.specs.Prelude.{◌≡◌, ◌≤◌};
 ghost use Rattle.office.specs.Promises.{FreshPromise, JointPromise, NeedPromise, OpenPromise, ReadPromise, ReceivePromise, SettingsPromise, WritePromise};
-ghost use Rattle.host.specs.Flags.{flagOf, is_set};
+ghost use Rattle.host.specs.Flags.{flag_of, is_set};
 
 use crate::answer::{PlotAnswer, SessionAnswer, SettingsAnswer, WordsAnswer, WroteAnswer};
 use frame::session::Session;
@@ -54,7 +54,7 @@ pub extern "C" fn burial_fresh_session(offices: u32) -> SessionAnswer
 
 // 1 for true, as C has it.
 pub fn flag(b: bool) -> u32
-    ensures { result ≡ flagOf b }
+    ensures { result ≡ flag_of b }
 {
     if b {
         return 1;

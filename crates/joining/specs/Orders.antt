@@ -7,8 +7,8 @@ use Rattle.frame.specs.declared.entry.Entry.{Entry}
 
 -- m is l in some order: it has the first of l somewhere, and without it it is the rest of l in some order
 pub data Permuted {A : Type 0} : List A → List A → Type 0 where
-  permuted-nil : Permuted [] []
-  permuted-cons : {x : A} {l m : List A} (bef aft : List A) → m ≡ bef ++ x ∷ aft → Permuted l (bef ++ aft) → Permuted (x ∷ l) m
+  permuted_nil : Permuted [] []
+  permuted_cons : {x : A} {l m : List A} (bef aft : List A) → m ≡ bef ++ x ∷ aft → Permuted l (bef ++ aft) → Permuted (x ∷ l) m
 
 -- "may change the carrying order only"
 pub record Reordered (s t : Content) : Type 0 where

@@ -2,10 +2,10 @@
 -- What stands in the slots beyond the count of the two given changes nothing, and in those of the joined one there are blanks. The two come by
 -- value: they stay as they are. Assumes nothing.
 use Rattle.std.specs.Prelude.{ℕ, ◌≡◌}
-use Rattle.frame.specs.Sessions.{contentOf, sessionOf}
+use Rattle.frame.specs.Sessions.{content_of, session_of}
 use Rattle.frame.specs.declared.session.Session.{Session}
-use Rattle.joining.specs.Joins.{joinCode, joinSessions}
+use Rattle.joining.specs.Joins.{join_code, join_sessions}
 
 abbrev pub JoinPromise : ℕ → ℕ → Session → Session → ℕ → Session → Type 0
 JoinPromise n p a b code s =
-    (code ≡ joinCode n p (contentOf a) (contentOf b)) × (s ≡ sessionOf (joinSessions n p (contentOf a) (contentOf b)))
+    (code ≡ join_code n p (content_of a) (content_of b)) × (s ≡ session_of (join_sessions n p (content_of a) (content_of b)))

@@ -1,19 +1,19 @@
 // Has one name two contents?
 ghost use Rattle.std.specs.Prelude.{true, ◌≡◌, ◌<◌, ◌≤◌, eqb, get_or};
 ghost use mathlib.Core.List.{Memᴰ};
-ghost use Rattle.causal.specs.Lists.{eqWords, tab};
-ghost use Rattle.causal.specs.Sets.{isIn};
+ghost use Rattle.causal.specs.Lists.{eq_words, tab};
+ghost use Rattle.causal.specs.Sets.{is_in};
 ghost use Rattle.causal.specs.Tests.{all_below, both};
-ghost use Rattle.frame.specs.Entries.{id_of, sameContent};
+ghost use Rattle.frame.specs.Entries.{id_of, same_content};
 ghost use Rattle.frame.specs.Sessions.{ids_of, nobody};
 ghost use Rattle.frame.specs.declared.entry.Entry.{Entry};
-ghost use Rattle.joining.specs.Joins.{alike as alikeOf, allAlike, each};
+ghost use Rattle.joining.specs.Joins.{alike as alikeOf, all_alike, each};
 
 use frame::entry::Entry;
 
 // Are eight words the same?
 fn same_words(a: [u32; 8], b: [u32; 8]) -> bool
-    ensures { result ≡ eqWords a b }
+    ensures { result ≡ eq_words a b }
 {
     for j in 0..8 {
         if a[j] != b[j] {
@@ -25,7 +25,7 @@ fn same_words(a: [u32; 8], b: [u32; 8]) -> bool
 
 // Have two entries the same content?
 fn same_content(e: Entry, f: Entry) -> bool
-    ensures { result ≡ sameContent e f }
+    ensures { result ≡ same_content e f }
 {
     if e.plot != f.plot {
         return false;
@@ -55,7 +55,7 @@ fn alike(e: Entry, f: Entry) -> bool
 
 // Have two entries one name and one content?
 fn same_entry(e: Entry, f: Entry) -> bool
-    ensures { result ≡ both (eqb (id_of e) (id_of f)) (sameContent e f) }
+    ensures { result ≡ both (eqb (id_of e) (id_of f)) (same_content e f) }
 {
     if frame::entry::id_of(e) != frame::entry::id_of(f) {
         return false;
@@ -66,7 +66,7 @@ fn same_entry(e: Entry, f: Entry) -> bool
 // For how many places do the two begin with the same entries? Copies of one session do, and nothing more is asked of those.
 pub fn same_front(first: [Entry; 16], n: usize, second: [Entry; 16], m: usize) -> usize
     requires { (n ≤ 16) × (m ≤ 16) }
-    ensures { (result ≤ n) × (result ≤ m) × (all_below result (λ j. both (eqb (id_of (get_or second j nobody)) (id_of (get_or first j nobody))) (sameContent (get_or second j nobody) (get_or first j nobody))) ≡ true) }
+    ensures { (result ≤ n) × (result ≤ m) × (all_below result (λ j. both (eqb (id_of (get_or second j nobody)) (id_of (get_or first j nobody))) (same_content (get_or second j nobody) (get_or first j nobody))) ≡ true) }
 {
     let mut least = n;
     if m < n {
@@ -84,7 +84,7 @@ pub fn same_front(first: [Entry; 16], n: usize, second: [Entry; 16], m: usize) -
 
 // Is the id of e in the set?
 pub fn among(e: Entry, ids: [u32; 8]) -> bool
-    ensures { result ≡ isIn ids (id_of e) }
+    ensures { result ≡ is_in ids (id_of e) }
 {
     let id = frame::entry::id_of(e);
     causal::set::contains(ids, id)
@@ -116,7 +116,7 @@ fn alike_known(e: Entry, ids: [u32; 8], own: [Entry; 16], count: usize) -> bool
 }
 
 // Has each name that both carry one content? `ids` are those of the first; the front of the second is known to be alike.
-pub fn all_alike(
+pub fn all_alike_lem(
     second: [Entry; 16],
     front: usize,
     m: usize,
@@ -124,8 +124,8 @@ pub fn all_alike(
     first: [Entry; 16],
     n: usize,
 ) -> bool
-    requires { (front ≤ m) × (m ≤ 16) × (n ≤ 16) × ((f : Entry) → Memᴰ f (tab n (λ i. get_or first i nobody)) → id_of f < 256) × (ids ≡ ids_of (tab n (λ i. get_or first i nobody))) × (allAlike (tab front (λ i. get_or second i nobody)) (tab n (λ i. get_or first i nobody)) ≡ true) }
-    ensures { result ≡ allAlike (tab m (λ i. get_or second i nobody)) (tab n (λ i. get_or first i nobody)) }
+    requires { (front ≤ m) × (m ≤ 16) × (n ≤ 16) × ((f : Entry) → Memᴰ f (tab n (λ i. get_or first i nobody)) → id_of f < 256) × (ids ≡ ids_of (tab n (λ i. get_or first i nobody))) × (all_alike (tab front (λ i. get_or second i nobody)) (tab n (λ i. get_or first i nobody)) ≡ true) }
+    ensures { result ≡ all_alike (tab m (λ i. get_or second i nobody)) (tab n (λ i. get_or first i nobody)) }
 {
     for i in front..m {
         let e = second[i];

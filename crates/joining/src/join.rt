@@ -2,12 +2,12 @@
 ghost use Rattle.std.specs.Prelude.{true, [], ◌++◌, ◌≡◌, ◌+◌, ◌≤◌, eqb, get_or, length};
 ghost use Rattle.causal.specs.Clocks.{join};
 ghost use Rattle.causal.specs.Lists.{tab};
-ghost use Rattle.causal.specs.Sets.{isIn, unite};
+ghost use Rattle.causal.specs.Sets.{is_in, unite};
 ghost use Rattle.causal.specs.Tests.{all_below, both};
-ghost use Rattle.frame.specs.Entries.{id_of, sameContent};
-ghost use Rattle.frame.specs.Frames.{ringOk};
+ghost use Rattle.frame.specs.Entries.{id_of, same_content};
+ghost use Rattle.frame.specs.Frames.{ring_ok};
 ghost use Rattle.frame.specs.Refusals.{code_of, number_of};
-ghost use Rattle.frame.specs.Sessions.{contentOf, filled, freshContent, leaveOut, nobody, sessionOf, sessionOk};
+ghost use Rattle.frame.specs.Sessions.{content_of, filled, fresh_content, leave_out, nobody, session_of, session_ok};
 ghost use Rattle.joining.specs.Promises.{JoinPromise};
 
 use frame::entry::Entry;
@@ -28,7 +28,7 @@ struct OwnOfBoth {
 }
 
 fn refused(refusal: Refusal) -> SessionsJoined
-    ensures { (code_of result.status ≡ number_of refusal) × (result.session ≡ sessionOf (freshContent 0)) }
+    ensures { (code_of result.status ≡ number_of refusal) × (result.session ≡ session_of (fresh_content 0)) }
 {
     let session = frame::session::blank_session();
     SessionsJoined {
@@ -54,7 +54,7 @@ fn with_blanks(own: [Entry; 16], count: usize) -> [Entry; 16]
 // The own writes of a session, and blanks behind them. They are taken out only where there are any: they are 1,280 bytes.
 fn own_row(s: Session) -> [Entry; 16]
     requires { s.count ≤ 16 }
-    ensures { result ≡ filled (contentOf s).own }
+    ensures { result ≡ filled (content_of s).own }
 {
     let count = s.count;
     if count == 0 {
@@ -76,8 +76,8 @@ fn both_own(
     front: usize,
     m: usize,
 ) -> OwnOfBoth
-    requires { (n ≤ 16) × (front ≤ m) × (m ≤ 16) × (leaveOut (λ e. isIn ids (id_of e)) (tab front (λ i. get_or second i nobody)) ≡ []) }
-    ensures { (result.count ≡ n + length (leaveOut (λ e. isIn ids (id_of e)) (tab m (λ i. get_or second i nobody)))) × (result.count ≤ 16 → result.own ≡ filled (tab n (λ i. get_or first i nobody) ++ leaveOut (λ e. isIn ids (id_of e)) (tab m (λ i. get_or second i nobody)))) }
+    requires { (n ≤ 16) × (front ≤ m) × (m ≤ 16) × (leave_out (λ e. is_in ids (id_of e)) (tab front (λ i. get_or second i nobody)) ≡ []) }
+    ensures { (result.count ≡ n + length (leave_out (λ e. is_in ids (id_of e)) (tab m (λ i. get_or second i nobody)))) × (result.count ≤ 16 → result.own ≡ filled (tab n (λ i. get_or first i nobody) ++ leave_out (λ e. is_in ids (id_of e)) (tab m (λ i. get_or second i nobody)))) }
 {
     let mut own = with_blanks(first, n);
     let mut count = n;
@@ -96,7 +96,7 @@ fn both_own(
 // With how many of the same own writes do two sessions begin? They are taken out only where both have any.
 fn front_of(first: Session, second: Session) -> usize
     requires { (first.count ≤ 16) × (second.count ≤ 16) }
-    ensures { (result ≤ first.count) × (result ≤ second.count) × (all_below result (λ j. both (eqb (id_of (get_or second.own j nobody)) (id_of (get_or first.own j nobody))) (sameContent (get_or second.own j nobody) (get_or first.own j nobody))) ≡ true) }
+    ensures { (result ≤ first.count) × (result ≤ second.count) × (all_below result (λ j. both (eqb (id_of (get_or second.own j nobody)) (id_of (get_or first.own j nobody))) (same_content (get_or second.own j nobody) (get_or first.own j nobody))) ≡ true) }
 {
     let n = first.count;
     let m = second.count;
@@ -136,7 +136,7 @@ fn accepted(first: Session, second: Session, count: usize, own: [Entry; 16]) -> 
 
 // The join of two sound sessions.
 fn join_sound(offices: u32, plots: u32, first: Session, second: Session) -> SessionsJoined
-    requires { (ringOk offices plots ≡ true) × (sessionOk offices plots (contentOf first) ≡ true) × (sessionOk offices plots (contentOf second) ≡ true) }
+    requires { (ring_ok offices plots ≡ true) × (session_ok offices plots (content_of first) ≡ true) × (session_ok offices plots (content_of second) ≡ true) }
     ensures { JoinPromise offices plots first second (code_of result.status) result.session }
 {
     let n = first.count;
@@ -164,7 +164,7 @@ fn join_sound(offices: u32, plots: u32, first: Session, second: Session) -> Sess
 
 // Is a session sound? frame::session::session_ok with callers here would be compiled into none of them: the writing of a token would be slower.
 fn sound(s: Session, offices: u32, plots: u32) -> bool
-    ensures { result ≡ sessionOk offices plots (contentOf s) }
+    ensures { result ≡ session_ok offices plots (content_of s) }
 {
     let count = s.count;
     let clock = s.clock;

@@ -8,7 +8,7 @@ use types.Logic.{Logic}
 use seplogic.Ra.Ura.{Ura}
 use prog.Memory.{Memory}
 use prog.Routine.{Routine}
-use Rattle.frame.specs.Refusals.{code_of, replyOf}
+use Rattle.frame.specs.Refusals.{code_of, reply_of}
 use Rattle.frame.specs.declared.refusal.Status.{Status}
 use Rattle.frame.specs.declared.refusal.Written.{Written}
 use Rattle.frame.proofs.Contract.{Four, Lent, Row, Three, Two}
@@ -20,32 +20,32 @@ use Rattle.lent.proofs.calls.write as write
 
 module _ {M : Type 1} {𝓤 : Ura M} (𝓛 : Logic 𝓤) (mem : Memory → SProp 𝓤) (run : Routine → Fun 𝓤) where
   pub record LentContracts : Type 2 where
-    pub read-met : read-plot.Statement.statement M
+    pub read_met : read-plot.Statement.statement M
     pub read_is : (κs : Two) (ws : Row) (s : Lent) (plot : ℕ) (r : PlotAnswer) (ws' : Row) (s' : Lent)
         → (read-plot.clauses 𝓛 mem run κs (ws, (s, (plot, tt)))).ensures tt r (ws', (s', (plot, tt)))
         ≡ fact 𝓤 (ReadPromise ws.now s.now plot (code_of r.status) r.found r.entry s'.now ws'.now)
-    pub read-asks : (κs : Two) (ws : Row) (s : Lent) (plot : ℕ) → (read-plot.clauses 𝓛 mem run κs (ws, (s, (plot, tt)))).requires tt ≡ emp 𝓤
-    pub joint-met : read-joint.Statement.statement M
-    pub joint-is : (κs : Four) (ws : Row) (s : Lent) (plots row : Row) (r : Status) (ws' : Row) (s' : Lent) (plots' row' : Row)
+    pub read_asks : (κs : Two) (ws : Row) (s : Lent) (plot : ℕ) → (read-plot.clauses 𝓛 mem run κs (ws, (s, (plot, tt)))).requires tt ≡ emp 𝓤
+    pub joint_met : read-joint.Statement.statement M
+    pub joint_is : (κs : Four) (ws : Row) (s : Lent) (plots row : Row) (r : Status) (ws' : Row) (s' : Lent) (plots' row' : Row)
         → (read-joint.clauses 𝓛 mem run κs (ws, (s, (plots, (row, tt))))).ensures tt r (ws', (s', (plots', (row', tt))))
         ≡ fact 𝓤 (JointPromise ws.now s.now plots.now row.now (code_of r) s'.now ws'.now row'.now)
-    pub joint-asks : (κs : Four) (ws : Row) (s : Lent) (plots row : Row) → (read-joint.clauses 𝓛 mem run κs (ws, (s, (plots, (row, tt))))).requires tt ≡ emp 𝓤
-    pub write-met : write.Statement.statement M
-    pub write-is : (κs : Three) (ws : Row) (s : Lent) (plot value : ℕ) (row : Row) (r : Written) (ws' : Row) (s' : Lent) (row' : Row)
+    pub joint_asks : (κs : Four) (ws : Row) (s : Lent) (plots row : Row) → (read-joint.clauses 𝓛 mem run κs (ws, (s, (plots, (row, tt))))).requires tt ≡ emp 𝓤
+    pub write_met : write.Statement.statement M
+    pub write_is : (κs : Three) (ws : Row) (s : Lent) (plot value : ℕ) (row : Row) (r : Written) (ws' : Row) (s' : Lent) (row' : Row)
         → (write.clauses 𝓛 mem run κs (ws, (s, (plot, (value, (row, tt)))))).ensures tt r (ws', (s', (plot, (value, (row', tt)))))
-        ≡ fact 𝓤 (WritePromise ws.now s.now plot value row.now (replyOf r) s'.now ws'.now row'.now)
-    pub write-asks : (κs : Three) (ws : Row) (s : Lent) (plot value : ℕ) (row : Row) → (write.clauses 𝓛 mem run κs (ws, (s, (plot, (value, (row, tt)))))).requires tt ≡ emp 𝓤
+        ≡ fact 𝓤 (WritePromise ws.now s.now plot value row.now (reply_of r) s'.now ws'.now row'.now)
+    pub write_asks : (κs : Three) (ws : Row) (s : Lent) (plot value : ℕ) (row : Row) → (write.clauses 𝓛 mem run κs (ws, (s, (plot, (value, (row, tt)))))).requires tt ≡ emp 𝓤
 
-  pub lent-contracts : LentContracts
-  lent-contracts =
+  pub lent_contracts : LentContracts
+  lent_contracts =
       record {
-        read-met = read-plot.Met.met;
+        read_met = read-plot.Met.met;
         read_is = λ κs ws s plot r ws' s'. refl;
-        read-asks = λ κs ws s plot. refl;
-        joint-met = read-joint.Met.met;
-        joint-is = λ κs ws s plots row r ws' s' plots' row'. refl;
-        joint-asks = λ κs ws s plots row. refl;
-        write-met = write.Met.met;
-        write-is = λ κs ws s plot value row r ws' s' row'. refl;
-        write-asks = λ κs ws s plot value row. refl;
+        read_asks = λ κs ws s plot. refl;
+        joint_met = read-joint.Met.met;
+        joint_is = λ κs ws s plots row r ws' s' plots' row'. refl;
+        joint_asks = λ κs ws s plots row. refl;
+        write_met = write.Met.met;
+        write_is = λ κs ws s plot value row r ws' s' row'. refl;
+        write_asks = λ κs ws s plot value row. refl;
       }

@@ -1,5 +1,5 @@
 // To read and to write with the session lent: it comes as `s` and is left as the call leaves it. The rest is as where it is given by value.
-ghost use Rattle.frame.specs.Refusals.{code_of, replyOf};
+ghost use Rattle.frame.specs.Refusals.{code_of, reply_of};
 ghost use Rattle.office.specs.Promises.{JointPromise, ReadPromise, WritePromise};
 
 use crate::core::PlotAnswer;
@@ -26,7 +26,7 @@ pub fn read_joint(store: &mut [u32], s: &mut Session, plots: &[u32], answer: &mu
 
 // 01: write.
 pub fn write(store: &mut [u32], s: &mut Session, plot: u32, value: u32, out: &mut [u32]) -> Written
-    ensures { WritePromise store.old s.old plot value out.old (replyOf result) s.new store.new out.new }
+    ensures { WritePromise store.old s.old plot value out.old (reply_of result) s.new store.new out.new }
 {
     let done = writing::write::write(store, *s, plot, value, out);
     *s = done.session;

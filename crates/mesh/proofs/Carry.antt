@@ -6,19 +6,19 @@ use mathlib.Core.Path.{◌≡◌}
 use native.Mathlib.Omega.{arith}
 use Rattle.mesh.specs.Ring.{Shape, iter}
 use Rattle.mesh.specs.World.{Cov, Fresh, Inv, Reach, World, ahead, beyond, has, self, via}
-use Rattle.mesh.proofs.Lists.{mem-of}
+use Rattle.mesh.proofs.Lists.{mem_of}
 
 module _ (S : Shape) where
   -- what holds x, and all that its ids depend on, holds what is reached from x
-  pub reached-held : (W : World) → ((o x d : ℕ) → W.held o x → S.deps x d → W.held o d) →
+  pub reached_held : (W : World) → ((o x d : ℕ) → W.held o x → S.deps x d → W.held o d) →
       (o x z : ℕ) → Reach S x z → W.held o x → W.held o z
-  reached-held W down o x z (self) h = h
-  reached-held W down o x z (via {y = y} {d = d} r m) h = down o y d (reached-held W down o x y r h) m
+  reached_held W down o x z (self) h = h
+  reached_held W down o x z (via {y = y} {d = d} r m) h = down o y d (reached_held W down o x y r h) m
 
   -- no receive is ever refused: what Y is about to receive depends only on what Y holds
-  pub receive-ready : (W : World) → Inv S W → (Y x t : ℕ) (rest : List (ℕ × ℕ)) → W.line Y ≡ (x, t) ∷ rest →
+  pub receive_ready : (W : World) → Inv S W → (Y x t : ℕ) (rest : List (ℕ × ℕ)) → W.line Y ≡ (x, t) ∷ rest →
       (d : ℕ) → S.deps x d → W.held Y d
-  receive-ready W I Y x t rest e d m = go (I.order Y [] x t rest e d m 0 (omega arith))
+  receive_ready W I Y x t rest e d m = go (I.order Y [] x t rest e d m 0 (omega arith))
     where
       go : Cov S W [] Y 0 d → W.held Y d
       go (has h) = h
@@ -47,19 +47,19 @@ module _ (S : Shape) where
   pub line_made : (W : World) → Inv S W → (Y x t : ℕ) → Memᴰ (x, t) (W.line Y) → W.made x
   line_made W I Y x t m =
       let lo : t ≤ S.top = I.low Y x t m in
-      I.held-made (iter S (suc S.top) Y) x (I.behind Y x t (suc S.top) m (omega arith) (omega arith))
+      I.held_made (iter S (suc S.top) Y) x (I.behind Y x t (suc S.top) m (omega arith) (omega arith))
 
-  pub fresh-inv : (W : World) → Fresh S W → Inv S W
-  fresh-inv W F =
+  pub fresh_inv : (W : World) → Fresh S W → Inv S W
+  fresh_inv W F =
       record {
-        visible-held = λ o x p h s. absurd (F.no-visible o x s);
-        visible-down = λ o x d s m. absurd (F.no-visible o x s);
-        held_down = λ o x d h m. absurd (F.no-held o x h);
-        held-made = λ o x h. absurd (F.no-held o x h);
+        visible_held = λ o x p h s. absurd (F.no_visible o x s);
+        visible_down = λ o x d s m. absurd (F.no_visible o x s);
+        held_down = λ o x d h m. absurd (F.no_held o x h);
+        held_made = λ o x h. absurd (F.no_held o x h);
         low = λ Y x t m. absurd (none Y x t m);
         behind = λ Y x t k m a b. absurd (none Y x t m);
-        order = λ Y bef x t aft e d m j le. absurd (none Y x t (mem-of bef (x, t) aft e));
-        cover = λ C d j h le. absurd (F.no-held C d h);
+        order = λ Y bef x t aft e d m j le. absurd (none Y x t (mem_of bef (x, t) aft e));
+        cover = λ C d j h le. absurd (F.no_held C d h);
       }
     where
       none : (Y x t : ℕ) → Memᴰ (x, t) (W.line Y) → ⊥

@@ -8,19 +8,19 @@ use native.Mathlib.Decide.{ℕ_discrete, dec_le}
 use native.Mathlib.Omega.{arith}
 use Rattle.mesh.specs.Ring.{Shape, iter}
 use Rattle.mesh.specs.World.{Cov, Inv, Reach, Receive, World, ahead, beyond, has, passes, via}
-use Rattle.mesh.proofs.Carry.{carry, line_made, reached-held, receive-ready, shift}
-use Rattle.mesh.proofs.Iter.{iter-next, iter-onto, iter-period}
-use Rattle.mesh.proofs.Lists.{Side, left, nil-split, one_split, right, side}
+use Rattle.mesh.proofs.Carry.{carry, line_made, reached_held, receive_ready, shift}
+use Rattle.mesh.proofs.Iter.{iter_next, iter_onto, iter_period}
+use Rattle.mesh.proofs.Lists.{Side, left, nil_split, one_split, right, side}
 
 -- a member of `passes x t`
-on-mem : (x t z s : ℕ) → Memᴰ (z, s) (passes x t) → (z ≡ x) × (suc s ≡ t)
-on-mem x zero z s m = absurd (Memᴰ.not-nil m)
-on-mem x (suc u) z s m = let e = Memᴰ.eq_of_singleton m in (ap (λ (p : ℕ × ℕ). p.0) e, ap (λ (p : ℕ × ℕ). suc p.1) e)
+on_mem : (x t z s : ℕ) → Memᴰ (z, s) (passes x t) → (z ≡ x) × (suc s ≡ t)
+on_mem x zero z s m = absurd (Memᴰ.not-nil m)
+on_mem x (suc u) z s m = let e = Memᴰ.eq_of_singleton m in (ap (λ (p : ℕ × ℕ). p.0) e, ap (λ (p : ℕ × ℕ). suc p.1) e)
 
-on-split : (x t : ℕ) (bef : List (ℕ × ℕ)) (z s : ℕ) (aft : List (ℕ × ℕ)) → passes x t ≡ bef ++ (z, s) ∷ aft →
+on_split : (x t : ℕ) (bef : List (ℕ × ℕ)) (z s : ℕ) (aft : List (ℕ × ℕ)) → passes x t ≡ bef ++ (z, s) ∷ aft →
     (bef ≡ []) × (z ≡ x) × (suc s ≡ t)
-on-split x zero bef z s aft e = absurd (nil-split bef (z, s) aft e)
-on-split x (suc u) bef z s aft e =
+on_split x zero bef z s aft e = absurd (nil_split bef (z, s) aft e)
+on_split x (suc u) bef z s aft e =
     let r = one_split (x, u) bef (z, s) aft e in (r.0, ap (λ (p : ℕ × ℕ). p.0) r.1, ap (λ (p : ℕ × ℕ). suc p.1) r.1)
 
 on_in : (x t u : ℕ) → t ≡ suc u → Memᴰ (x, u) (passes x t)
@@ -32,7 +32,7 @@ module _ (S : Shape) (W W' : World) (I : Inv S W) (Y x t : ℕ) (rest : List (�
 
   -- a frame that waited still waits, or is the one received
   still : (o z s : ℕ) → Memᴰ (z, s) (W.line o) → Memᴰ (z, s) (W'.line o) ⊎ ((o ≡ Y) × (z ≡ x) × (s ≡ t))
-  still o z s m = at-Y (ℕ_discrete o Y)
+  still o z s m = at_Y (ℕ_discrete o Y)
     where
       split : o ≡ Y → ◌≡◌ {A = ℕ × ℕ} (z, s) (x, t) ⊎ Memᴰ (z, s) rest → Memᴰ (z, s) (W'.line o) ⊎ ((o ≡ Y) × (z ≡ x) × (s ≡ t))
       split e (inl p) = inr (e, ap (λ (q : ℕ × ℕ). q.0) p, ap (λ (q : ℕ × ℕ). q.1) p)
@@ -42,26 +42,26 @@ module _ (S : Shape) (W W' : World) (I : Inv S W) (Y x t : ℕ) (rest : List (�
       at_next ne (yes e) = inl (rw (e, R.passed) (Memᴰ.append_left (passes x t) (rw e at m)))
       at_next ne (no nx) = inl (rw (R.others o ne nx) m)
 
-      at-Y : Dec (o ≡ Y) → Memᴰ (z, s) (W'.line o) ⊎ ((o ≡ Y) × (z ≡ x) × (s ≡ t))
-      at-Y (yes e) = split e (Memᴰ.cases_cons (rw (e, R.first) at m))
-      at-Y (no ne) = at_next ne (ℕ_discrete o (S.next Y))
+      at_Y : Dec (o ≡ Y) → Memᴰ (z, s) (W'.line o) ⊎ ((o ≡ Y) × (z ≡ x) × (s ≡ t))
+      at_Y (yes e) = split e (Memᴰ.cases_cons (rw (e, R.first) at m))
+      at_Y (no ne) = at_next ne (ℕ_discrete o (S.next Y))
 
   -- a frame that waits waited before, or is the one passed on
   came : (o z s : ℕ) → Memᴰ (z, s) (W'.line o) → Memᴰ (z, s) (W.line o) ⊎ ((o ≡ S.next Y) × (z ≡ x) × (suc s ≡ t))
-  came o z s m = at-Y (ℕ_discrete o Y)
+  came o z s m = at_Y (ℕ_discrete o Y)
     where
       split : o ≡ S.next Y → Memᴰ (z, s) (W.line (S.next Y)) ⊎ Memᴰ (z, s) (passes x t)
           → Memᴰ (z, s) (W.line o) ⊎ ((o ≡ S.next Y) × (z ≡ x) × (suc s ≡ t))
       split e (inl m') = inl (rw e m')
-      split e (inr m') = let r = on-mem x t z s m' in inr (e, r.0, r.1)
+      split e (inr m') = let r = on_mem x t z s m' in inr (e, r.0, r.1)
 
       at_next : o ≢ Y → Dec (o ≡ S.next Y) → Memᴰ (z, s) (W.line o) ⊎ ((o ≡ S.next Y) × (z ≡ x) × (suc s ≡ t))
       at_next ne (yes e) = split e (Memᴰ.append_cases (W.line (S.next Y)) (rw (e, R.passed) at m))
       at_next ne (no nx) = inl (rw (R.others o ne nx) at m)
 
-      at-Y : Dec (o ≡ Y) → Memᴰ (z, s) (W.line o) ⊎ ((o ≡ S.next Y) × (z ≡ x) × (suc s ≡ t))
-      at-Y (yes e) = inl (rw (e, R.first) (Memᴰ.tail (rw (e, R.popped) at m)))
-      at-Y (no ne) = at_next ne (ℕ_discrete o (S.next Y))
+      at_Y : Dec (o ≡ Y) → Memᴰ (z, s) (W.line o) ⊎ ((o ≡ S.next Y) × (z ≡ x) × (suc s ≡ t))
+      at_Y (yes e) = inl (rw (e, R.first) (Memᴰ.tail (rw (e, R.popped) at m)))
+      at_Y (no ne) = at_next ne (ℕ_discrete o (S.next Y))
 
   -- the frame received, seen from i steps before Y: it has arrived at Y, or is on its way in the next line
   moved : (bef : List (ℕ × ℕ)) (Z i j : ℕ) → iter S i Z ≡ Y → i ≤ j → j ≤ i + t → Cov S W' bef Z j x
@@ -69,7 +69,7 @@ module _ (S : Shape) (W W' : World) (I : Inv S W) (Y x t : ℕ) (rest : List (�
     where
       on : (u : ℕ) → t ≡ suc u → j ≢ i → Cov S W' bef Z j x
       on u q ne =
-          let p : iter S (suc i) Z ≡ S.next Y = iter-next S i Z ∙ ap S.next e in
+          let p : iter S (suc i) Z ≡ S.next Y = iter_next S i Z ∙ ap S.next e in
           beyond i u (rw (p, R.passed) (Memᴰ.append_right (W.line (S.next Y)) (on_in x t u q))) (omega arith) (omega arith)
 
       go : Dec (j ≡ i) → Cov S W' bef Z j x
@@ -90,41 +90,41 @@ module _ (S : Shape) (W W' : World) (I : Inv S W) (Y x t : ℕ) (rest : List (�
   same : (bef : List (ℕ × ℕ)) (Z j d : ℕ) → Cov S W bef Z j d → Cov S W' bef Z j d
   same bef Z j d c = kept bef bef Z j d (λ s m le. ahead s m le) c
 
-  held-down' : (o z d : ℕ) → W'.held o z → S.deps z d → W'.held o d
-  held-down' o z d h m = go (R.held-from o z h)
+  held_down' : (o z d : ℕ) → W'.held o z → S.deps z d → W'.held o d
+  held_down' o z d h m = go (R.held_from o z h)
     where
       go : W.held o z ⊎ ((o ≡ Y) × (z ≡ x)) → W'.held o d
       go (inl h') = R.held_to o d (I.held_down o z d h' m)
-      go (inr r) = rw r.0 (R.held_to Y d (receive-ready S W I Y x t rest R.first d (rw r.1 at m)))
+      go (inr r) = rw r.0 (R.held_to Y d (receive_ready S W I Y x t rest R.first d (rw r.1 at m)))
 
-  held-made' : (o z : ℕ) → W'.held o z → W'.made z
-  held-made' o z h = go (R.held-from o z h)
+  held_made' : (o z : ℕ) → W'.held o z → W'.made z
+  held_made' o z h = go (R.held_from o z h)
     where
       go : W.held o z ⊎ ((o ≡ Y) × (z ≡ x)) → W'.made z
-      go (inl h') = R.made-to z (I.held-made o z h')
-      go (inr r) = rw r.1 (R.made-to x (line_made S W I Y x t top_frame))
+      go (inl h') = R.made_to z (I.held_made o z h')
+      go (inr r) = rw r.1 (R.made_to x (line_made S W I Y x t top_frame))
 
   -- every office holds an id whose last frame was received
   all_hold : t ≡ 0 → (p : ℕ) → p < S.n → W'.held p x
-  all_hold e p h = let k = iter-onto S Y p R.in-ring h in go k.0 k.1 k.2
+  all_hold e p h = let k = iter_onto S Y p R.in_ring h in go k.0 k.1 k.2
     where
       go : (k : ℕ) → k < S.n → iter S k Y ≡ p → W'.held p x
       go zero a q = rw (← q) R.held_new
       go (suc k) a q = rw q at (R.held_to (iter S (suc k) Y) x (I.behind Y x t (suc k) top_frame (omega arith) a))
 
-  visible-held' : (o z p : ℕ) → p < S.n → W'.visible o z → W'.held p z
-  visible-held' o z p h s = go (R.visible-from o z s)
+  visible_held' : (o z p : ℕ) → p < S.n → W'.visible o z → W'.held p z
+  visible_held' o z p h s = go (R.visible_from o z s)
     where
       go : W.visible o z ⊎ ((o ≡ Y) × (t ≡ 0) × Reach S x z) → W'.held p z
-      go (inl s') = R.held_to p z (I.visible-held o z p h s')
-      go (inr r) = reached-held S W' held-down' p x z r.2 (all_hold r.1 p h)
+      go (inl s') = R.held_to p z (I.visible_held o z p h s')
+      go (inr r) = reached_held S W' held_down' p x z r.2 (all_hold r.1 p h)
 
-  visible-down' : (o z d : ℕ) → W'.visible o z → S.deps z d → W'.visible o d
-  visible-down' o z d s m = go (R.visible-from o z s)
+  visible_down' : (o z d : ℕ) → W'.visible o z → S.deps z d → W'.visible o d
+  visible_down' o z d s m = go (R.visible_from o z s)
     where
       go : W.visible o z ⊎ ((o ≡ Y) × (t ≡ 0) × Reach S x z) → W'.visible o d
-      go (inl s') = R.visible-to o d (I.visible-down o z d s' m)
-      go (inr r) = rw r.0 (R.visible-new d r.1 (via r.2 m))
+      go (inl s') = R.visible_to o d (I.visible_down o z d s' m)
+      go (inr r) = rw r.0 (R.visible_new d r.1 (via r.2 m))
 
   low' : (Z z s : ℕ) → Memᴰ (z, s) (W'.line Z) → s ≤ S.top
   low' Z z s m = go (came Z z s m)
@@ -138,7 +138,7 @@ module _ (S : Shape) (W W' : World) (I : Inv S W) (Y x t : ℕ) (rest : List (�
     where
       last : Dec (suc k ≡ S.n) → suc s ≡ t → W'.held (iter S (suc k) Y) x
       last (yes e) q =
-          let p : iter S (suc k) Y ≡ Y = ap (λ (i : ℕ). iter S i Y) e ∙ iter-period S Y R.in-ring in
+          let p : iter S (suc k) Y ≡ Y = ap (λ (i : ℕ). iter S i Y) e ∙ iter_period S Y R.in_ring in
           rw p R.held_new
       last (no ne) q = R.held_to (iter S (suc k) Y) x (I.behind Y x t (suc k) top_frame (omega arith) (omega arith))
 
@@ -148,16 +148,16 @@ module _ (S : Shape) (W W' : World) (I : Inv S W) (Y x t : ℕ) (rest : List (�
 
   order' : (Z : ℕ) (bef : List (ℕ × ℕ)) (z s : ℕ) (aft : List (ℕ × ℕ)) → W'.line Z ≡ bef ++ (z, s) ∷ aft →
       (d : ℕ) → S.deps z d → (j : ℕ) → j ≤ s → Cov S W' bef Z j d
-  order' Z bef z s aft e d m j le = at-Y (ℕ_discrete Z Y)
+  order' Z bef z s aft e d m j le = at_Y (ℕ_discrete Z Y)
     where
       -- in Y's line: what stood before it has lost the frame received
       here : W'.line Y ≡ bef ++ (z, s) ∷ aft → Cov S W' bef Y j d
       here q =
-          kept ((x, t) ∷ bef) bef Y j d first-gone
+          kept ((x, t) ∷ bef) bef Y j d first_gone
           (I.order Y ((x, t) ∷ bef) z s aft (R.first ∙ ap (λ (l : List (ℕ × ℕ)). (x, t) ∷ l) (sym R.popped ∙ q)) d m j le)
         where
-          first-gone : (u : ℕ) → Memᴰ (d, u) ((x, t) ∷ bef) → j ≤ u → Cov S W' bef Y j d
-          first-gone u m' l = go (Memᴰ.cases_cons m')
+          first_gone : (u : ℕ) → Memᴰ (d, u) ((x, t) ∷ bef) → j ≤ u → Cov S W' bef Y j d
+          first_gone u m' l = go (Memᴰ.cases_cons m')
             where
               go : ◌≡◌ {A = ℕ × ℕ} (d, u) (x, t) ⊎ Memᴰ (d, u) bef → Cov S W' bef Y j d
               go (inl p) =
@@ -173,7 +173,7 @@ module _ (S : Shape) (W W' : World) (I : Inv S W) (Y x t : ℕ) (rest : List (�
           go : Side (W.line (S.next Y)) (passes x t) bef (z, s) aft → Cov S W' bef (S.next Y) j d
           go (left aft' p) = same bef (S.next Y) j d (I.order (S.next Y) bef z s aft' p d m j le)
           go (right bef' p p') =
-              let r = on-split x t bef' z s aft p' in
+              let r = on_split x t bef' z s aft p' in
               let all : bef ≡ W.line (S.next Y) = p ∙ rw r.0 (append-nil (W.line (S.next Y))) in
               rw all
               (same (W.line (S.next Y)) (S.next Y) j d
@@ -183,12 +183,12 @@ module _ (S : Shape) (W W' : World) (I : Inv S W) (Y x t : ℕ) (rest : List (�
       at_next ne (yes q) = rw q (there (rw q at e))
       at_next ne (no nx) = same bef Z j d (I.order Z bef z s aft (sym (R.others Z ne nx) ∙ e) d m j le)
 
-      at-Y : Dec (Z ≡ Y) → Cov S W' bef Z j d
-      at-Y (yes q) = rw q (here (rw q at e))
-      at-Y (no ne) = at_next ne (ℕ_discrete Z (S.next Y))
+      at_Y : Dec (Z ≡ Y) → Cov S W' bef Z j d
+      at_Y (yes q) = rw q (here (rw q at e))
+      at_Y (no ne) = at_next ne (ℕ_discrete Z (S.next Y))
 
   cover' : (C d j : ℕ) → W'.held C d → j < S.n → Cov S W' [] C j d
-  cover' C d j h le = go (R.held-from C d h)
+  cover' C d j h le = go (R.held_from C d h)
     where
       new : Dec (j ≤ t) → Cov S W' [] Y j x
       new (yes a) = moved [] Y 0 j refl (omega arith) (omega arith)
@@ -198,13 +198,13 @@ module _ (S : Shape) (W W' : World) (I : Inv S W) (Y x t : ℕ) (rest : List (�
       go (inl h') = same [] C j d (I.cover C d j h' le)
       go (inr r) = rw (r.0, r.1) (new (dec_le j t))
 
-  pub receive-inv : Inv S W'
-  receive-inv =
+  pub receive_inv : Inv S W'
+  receive_inv =
       record {
-        visible-held = visible-held';
-        visible-down = visible-down';
-        held_down = held-down';
-        held-made = held-made';
+        visible_held = visible_held';
+        visible_down = visible_down';
+        held_down = held_down';
+        held_made = held_made';
         low = low';
         behind = behind';
         order = order';

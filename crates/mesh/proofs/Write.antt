@@ -9,8 +9,8 @@ use native.Mathlib.Omega.{arith}
 use Rattle.mesh.specs.Ring.{Shape, iter}
 use Rattle.mesh.specs.World.{Cov, Inv, World, Write, ahead, beyond, frames, has}
 use Rattle.mesh.proofs.Carry.{carry, shift}
-use Rattle.mesh.proofs.Iter.{iter-period}
-use Rattle.mesh.proofs.Lists.{Side, left, map-split, mem-split, right, side}
+use Rattle.mesh.proofs.Iter.{iter_period}
+use Rattle.mesh.proofs.Lists.{Side, left, map_split, mem_split, right, side}
 
 module _ (S : Shape) (W W' : World) (I : Inv S W) (C : ℕ) (ds : List ℕ) (e : ℕ) (R : Write S W W' C ds e) where
   abbrev ys : List ℕ
@@ -53,11 +53,11 @@ module _ (S : Shape) (W W' : World) (I : Inv S W) (C : ℕ) (ds : List ℕ) (e :
   made_all y m = go (Memᴰ.append_cases ds m)
     where
       go : Memᴰ y ds ⊎ Memᴰ y (e ∷ []) → W'.made y
-      go (inl m') = R.does.made-to y (R.carried y m')
-      go (inr m') = rw (Memᴰ.eq_of_singleton m') R.does.made-new
+      go (inl m') = R.does.made_to y (R.carried y m')
+      go (inr m') = rw (Memᴰ.eq_of_singleton m') R.does.made_new
 
-  held-down' : (o z d : ℕ) → W'.held o z → S.deps z d → W'.held o d
-  held-down' o z d h m = go (R.does.held-from o z h)
+  held_down' : (o z d : ℕ) → W'.held o z → S.deps z d → W'.held o d
+  held_down' o z d h m = go (R.does.held_from o z h)
     where
       new : (bef aft : List ℕ) → ys ≡ bef ++ z ∷ aft → W.held C d ⊎ Memᴰ d bef → W'.held C d
       new bef aft q (inl h') = R.does.held_to C d h'
@@ -65,13 +65,13 @@ module _ (S : Shape) (W W' : World) (I : Inv S W) (C : ℕ) (ds : List ℕ) (e :
 
       go : W.held o z ⊎ ((o ≡ C) × Memᴰ z ys) → W'.held o d
       go (inl h') = R.does.held_to o d (I.held_down o z d h' m)
-      go (inr r) = let s = mem-split r.1 in rw r.0 (new s.0 s.1 s.2 (R.ready s.0 z s.1 s.2 d m))
+      go (inr r) = let s = mem_split r.1 in rw r.0 (new s.0 s.1 s.2 (R.ready s.0 z s.1 s.2 d m))
 
-  held-made' : (o z : ℕ) → W'.held o z → W'.made z
-  held-made' o z h = go (R.does.held-from o z h)
+  held_made' : (o z : ℕ) → W'.held o z → W'.made z
+  held_made' o z h = go (R.does.held_from o z h)
     where
       go : W.held o z ⊎ ((o ≡ C) × Memᴰ z ys) → W'.made z
-      go (inl h') = R.does.made-to z (I.held-made o z h')
+      go (inl h') = R.does.made_to z (I.held_made o z h')
       go (inr r) = made_all z r.1
 
   low' : (Z z s : ℕ) → Memᴰ (z, s) (W'.line Z) → s ≤ S.top
@@ -88,7 +88,7 @@ module _ (S : Shape) (W W' : World) (I : Inv S W) (C : ℕ) (ds : List ℕ) (e :
       go (inl m') = R.does.held_to (iter S k Z) z (I.behind Z z s k m' a b)
       go (inr r) =
           let l : suc k ≡ S.n = omega arith in
-          let p : iter S (suc k) C ≡ C = ap (λ (i : ℕ). iter S i C) l ∙ iter-period S C R.in-ring in
+          let p : iter S (suc k) C ≡ C = ap (λ (i : ℕ). iter S i C) l ∙ iter_period S C R.in_ring in
           rw (r.0, p) (R.does.held_new z r.1)
 
   order' : (Z : ℕ) (bef : List (ℕ × ℕ)) (z s : ℕ) (aft : List (ℕ × ℕ)) → W'.line Z ≡ bef ++ (z, s) ∷ aft →
@@ -109,7 +109,7 @@ module _ (S : Shape) (W W' : World) (I : Inv S W) (C : ℕ) (ds : List ℕ) (e :
           go : Side (W.line (S.next C)) (frames S.top ys) bef (z, s) aft → Cov S W' bef (S.next C) j d
           go (left aft' l) = same bef (S.next C) j d (I.order (S.next C) bef z s aft' l d m j le)
           go (right bef' l l') =
-              let r = map-split (λ (y : ℕ). (y, S.top)) ys bef' (z, s) aft l' in
+              let r = map_split (λ (y : ℕ). (y, S.top)) ys bef' (z, s) aft l' in
               let ez : z ≡ r.1 = ap (λ (f : ℕ × ℕ). f.0) r.5 in
               rw (l, r.4)
               (new r.0 r.2 r.1 r.3 ez (ap (λ (f : ℕ × ℕ). f.1) r.5) (R.ready r.0 r.1 r.2 r.3 d (rw ez at m)))
@@ -119,7 +119,7 @@ module _ (S : Shape) (W W' : World) (I : Inv S W) (C : ℕ) (ds : List ℕ) (e :
       at_next (no nx) = same bef Z j d (I.order Z bef z s aft (sym (R.does.others Z nx) ∙ q) d m j le)
 
   cover' : (O d j : ℕ) → W'.held O d → j < S.n → Cov S W' [] O j d
-  cover' O d j h le = go (R.does.held-from O d h)
+  cover' O d j h le = go (R.does.held_from O d h)
     where
       new : Memᴰ d ys → (i : ℕ) → i < S.n → Cov S W' [] C i d
       new m zero l = has (R.does.held_new d m)
@@ -131,13 +131,13 @@ module _ (S : Shape) (W W' : World) (I : Inv S W) (C : ℕ) (ds : List ℕ) (e :
       go (inl h') = same [] O j d (I.cover O d j h' le)
       go (inr r) = rw r.0 (new r.1 j le)
 
-  pub write-inv : Inv S W'
-  write-inv =
+  pub write_inv : Inv S W'
+  write_inv =
       record {
-        visible-held = λ o z p h s. R.does.held_to p z (I.visible-held o z p h (R.does.visible-from o z s));
-        visible-down = λ o z d s m. R.does.visible-to o d (I.visible-down o z d (R.does.visible-from o z s) m);
-        held_down = held-down';
-        held-made = held-made';
+        visible_held = λ o z p h s. R.does.held_to p z (I.visible_held o z p h (R.does.visible_from o z s));
+        visible_down = λ o z d s m. R.does.visible_to o d (I.visible_down o z d (R.does.visible_from o z s) m);
+        held_down = held_down';
+        held_made = held_made';
         low = low';
         behind = behind';
         order = order';

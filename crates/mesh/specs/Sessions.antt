@@ -12,9 +12,9 @@ pub record IdSession : Type 1 where
 
 -- m has the ids of l, in order, but for some of Q
 pub data Without (Q : ℕ → Type 0) : List ℕ → List ℕ → Type 0 where
-  without-nil : Without Q [] []
-  without-keep : {y : ℕ} {l m : List ℕ} → Without Q l m → Without Q (y ∷ l) (y ∷ m)
-  without-drop : {y : ℕ} {l m : List ℕ} → Q y → Without Q l m → Without Q (y ∷ l) m
+  without_nil : Without Q [] []
+  without_keep : {y : ℕ} {l m : List ℕ} → Without Q l m → Without Q (y ∷ l) (y ∷ m)
+  without_drop : {y : ℕ} {l m : List ℕ} → Q y → Without Q l m → Without Q (y ∷ l) m
 
 -- ds are the ids of own, in order, that C need not hold
 abbrev pub Picked : World → ℕ → List ℕ → List ℕ → Type 0
@@ -23,12 +23,12 @@ Picked W C own ds = Without (W.held C) own ds
 -- s is the join of a and b: it has read what either has read, carries what a wrote, then what b wrote but for some that a wrote (rest), and has no
 -- past but theirs
 pub record Joins (a b s : IdSession) (rest : List ℕ) : Type 0 where
-  pub reads-from : (r : ℕ) → s.reads r → a.reads r ⊎ b.reads r
+  pub reads_from : (r : ℕ) → s.reads r → a.reads r ⊎ b.reads r
   pub reads_first : (r : ℕ) → a.reads r → s.reads r
   pub reads_second : (r : ℕ) → b.reads r → s.reads r
   pub left_out : Without (λ (y : ℕ). Memᴰ y a.own) b.own rest
-  pub own-are : s.own ≡ a.own ++ rest
-  pub past-from : (q : ℕ) → s.past q → a.past q ⊎ b.past q
+  pub own_are : s.own ≡ a.own ++ rest
+  pub past_from : (q : ℕ) → s.past q → a.past q ⊎ b.past q
 
 module _ (S : Shape) (wpast : ℕ → ℕ → Type 0) where
   -- the past of who wrote e is reached from what e depends on
@@ -36,32 +36,32 @@ module _ (S : Shape) (wpast : ℕ → ℕ → Type 0) where
   Law W = (e q : ℕ) → W.made e → wpast e q → (d : ℕ) × S.deps e d × Reach S d q
 
   pub record SoundSession (W : World) (s : IdSession) : Type 0 where
-    pub reads-visible : (r : ℕ) → s.reads r → (o : ℕ) × W.visible o r
-    pub own-made : (y : ℕ) → Memᴰ y s.own → W.made y
-    pub own-deps : (bef : List ℕ) (y : ℕ) (aft : List ℕ) → s.own ≡ bef ++ y ∷ aft →
+    pub reads_visible : (r : ℕ) → s.reads r → (o : ℕ) × W.visible o r
+    pub own_made : (y : ℕ) → Memᴰ y s.own → W.made y
+    pub own_deps : (bef : List ℕ) (y : ℕ) (aft : List ℕ) → s.own ≡ bef ++ y ∷ aft →
         (d : ℕ) → S.deps y d → s.reads d ⊎ Memᴰ d bef
-    pub past-from : (q : ℕ) → s.past q → (a : ℕ) × (s.reads a ⊎ Memᴰ a s.own) × Reach S a q
+    pub past_from : (q : ℕ) → s.past q → (a : ℕ) × (s.reads a ⊎ Memᴰ a s.own) × Reach S a q
 
   -- a reading at O: the ids R, all visible at O, join what s has read, and own writes that it no longer carries are of R; each id of H, one of R or
   -- its own, joins the past with its writer's past
   pub record TakesIn (W : World) (s s' : IdSession) (O : ℕ) (R H : ℕ → Type 0) : Type 0 where
     pub visible : (x : ℕ) → R x → W.visible O x
     pub handed : (x : ℕ) → H x → R x ⊎ Memᴰ x s.own
-    pub reads-from : (r : ℕ) → s'.reads r → R r ⊎ s.reads r
-    pub reads-to : (r : ℕ) → s.reads r → s'.reads r
-    pub reads-new : (r : ℕ) → R r → s'.reads r
-    pub own-left : Without R s.own s'.own
-    pub past-are : (q : ℕ) → s'.past q → s.past q ⊎ ((x : ℕ) × H x × ((q ≡ x) ⊎ wpast x q))
+    pub reads_from : (r : ℕ) → s'.reads r → R r ⊎ s.reads r
+    pub reads_to : (r : ℕ) → s.reads r → s'.reads r
+    pub reads_new : (r : ℕ) → R r → s'.reads r
+    pub own_left : Without R s.own s'.own
+    pub past_are : (q : ℕ) → s'.past q → s.past q ⊎ ((x : ℕ) × H x × ((q ≡ x) ⊎ wpast x q))
 
   -- a write of e at C by a session: e depends on all that the session read and wrote; it carries those own writes that C need not hold
   pub record Writes (W W' : World) (s s' : IdSession) (C : ℕ) (ds : List ℕ) (e : ℕ) : Type 0 where
-    pub in-ring : C < S.n
+    pub in_ring : C < S.n
     pub picked : Picked W C s.own ds
-    pub deps-in : (d : ℕ) → S.deps e d → s.reads d ⊎ Memᴰ d s.own
-    pub deps-all : (d : ℕ) → s.reads d ⊎ Memᴰ d s.own → S.deps e d
-    pub wpast-is : (q : ℕ) → wpast e q → s.past q
+    pub deps_in : (d : ℕ) → S.deps e d → s.reads d ⊎ Memᴰ d s.own
+    pub deps_all : (d : ℕ) → s.reads d ⊎ Memᴰ d s.own → S.deps e d
+    pub wpast_is : (q : ℕ) → wpast e q → s.past q
     pub does : Written S W W' C ds e
-    pub reads-from : (r : ℕ) → s'.reads r → s.reads r
-    pub reads-to : (r : ℕ) → s.reads r → s'.reads r
-    pub own-are : s'.own ≡ s.own ++ e ∷ []
-    pub past-are : (q : ℕ) → s'.past q → s.past q ⊎ (q ≡ e)
+    pub reads_from : (r : ℕ) → s'.reads r → s.reads r
+    pub reads_to : (r : ℕ) → s.reads r → s'.reads r
+    pub own_are : s'.own ≡ s.own ++ e ∷ []
+    pub past_are : (q : ℕ) → s'.past q → s.past q ⊎ (q ≡ e)

@@ -32,10 +32,10 @@ module _ (S : Shape) where
     beyond : (i s : ℕ) → Memᴰ (d, s) (W.line (iter S (suc i) Y)) → suc i ≤ j → j ≤ suc i + s → Cov W bef Y j d
 
   pub record Inv (W : World) : Type 0 where
-    pub visible-held : (o x p : ℕ) → p < S.n → W.visible o x → W.held p x
-    pub visible-down : (o x d : ℕ) → W.visible o x → S.deps x d → W.visible o d
+    pub visible_held : (o x p : ℕ) → p < S.n → W.visible o x → W.held p x
+    pub visible_down : (o x d : ℕ) → W.visible o x → S.deps x d → W.visible o d
     pub held_down : (o x d : ℕ) → W.held o x → S.deps x d → W.held o d
-    pub held-made : (o x : ℕ) → W.held o x → W.made x
+    pub held_made : (o x : ℕ) → W.held o x → W.made x
     pub low : (Y x t : ℕ) → Memᴰ (x, t) (W.line Y) → t ≤ S.top
     pub behind : (Y x t k : ℕ) → Memᴰ (x, t) (W.line Y) → t < k → k < S.n → W.held (iter S k Y) x
     pub order : (Y : ℕ) (bef : List (ℕ × ℕ)) (x t : ℕ) (aft : List (ℕ × ℕ)) → W.line Y ≡ bef ++ (x, t) ∷ aft →
@@ -44,27 +44,27 @@ module _ (S : Shape) where
 
   -- the start: nothing is made, held or visible, and nothing waits
   pub record Fresh (W : World) : Type 0 where
-    pub no-made : (x : ℕ) → ¬ (W.made x)
-    pub no-held : (o x : ℕ) → ¬ (W.held o x)
-    pub no-visible : (o x : ℕ) → ¬ (W.visible o x)
+    pub no_made : (x : ℕ) → ¬ (W.made x)
+    pub no_held : (o x : ℕ) → ¬ (W.held o x)
+    pub no_visible : (o x : ℕ) → ¬ (W.visible o x)
     pub no_line : (o : ℕ) → W.line o ≡ []
 
   -- what a write at C does: C holds the ids ds and e from now on, sends them on in this order, and e is made
   pub record Written (W W' : World) (C : ℕ) (ds : List ℕ) (e : ℕ) : Type 0 where
-    pub made-to : (x : ℕ) → W.made x → W'.made x
-    pub made-new : W'.made e
-    pub made-from : (x : ℕ) → W'.made x → W.made x ⊎ (x ≡ e)
+    pub made_to : (x : ℕ) → W.made x → W'.made x
+    pub made_new : W'.made e
+    pub made_from : (x : ℕ) → W'.made x → W.made x ⊎ (x ≡ e)
     pub held_to : (o x : ℕ) → W.held o x → W'.held o x
     pub held_new : (y : ℕ) → Memᴰ y (ds ++ e ∷ []) → W'.held C y
-    pub held-from : (o x : ℕ) → W'.held o x → W.held o x ⊎ ((o ≡ C) × Memᴰ x (ds ++ e ∷ []))
-    pub visible-to : (o x : ℕ) → W.visible o x → W'.visible o x
-    pub visible-from : (o x : ℕ) → W'.visible o x → W.visible o x
+    pub held_from : (o x : ℕ) → W'.held o x → W.held o x ⊎ ((o ≡ C) × Memᴰ x (ds ++ e ∷ []))
+    pub visible_to : (o x : ℕ) → W.visible o x → W'.visible o x
+    pub visible_from : (o x : ℕ) → W'.visible o x → W.visible o x
     pub sent : W'.line (S.next C) ≡ W.line (S.next C) ++ frames S.top (ds ++ e ∷ [])
     pub others : (o : ℕ) → o ≢ S.next C → W'.line o ≡ W.line o
 
   -- a write: the ids that it carries are made, and each id depends on what C holds or on earlier ids of the write
   pub record Write (W W' : World) (C : ℕ) (ds : List ℕ) (e : ℕ) : Type 0 where
-    pub in-ring : C < S.n
+    pub in_ring : C < S.n
     pub carried : (d : ℕ) → Memᴰ d ds → W.made d
     pub ready : (bef : List ℕ) (y : ℕ) (aft : List ℕ) → ds ++ e ∷ [] ≡ bef ++ y ∷ aft →
         (d : ℕ) → S.deps y d → W.held C d ⊎ Memᴰ d bef
@@ -72,16 +72,16 @@ module _ (S : Shape) where
 
   -- Y receives the oldest frame that waits for it, (x, t)
   pub record Receive (W W' : World) (Y x t : ℕ) (rest : List (ℕ × ℕ)) : Type 0 where
-    pub in-ring : Y < S.n
+    pub in_ring : Y < S.n
     pub first : W.line Y ≡ (x, t) ∷ rest
-    pub made-to : (z : ℕ) → W.made z → W'.made z
-    pub made-from : (z : ℕ) → W'.made z → W.made z
+    pub made_to : (z : ℕ) → W.made z → W'.made z
+    pub made_from : (z : ℕ) → W'.made z → W.made z
     pub held_to : (o z : ℕ) → W.held o z → W'.held o z
     pub held_new : W'.held Y x
-    pub held-from : (o z : ℕ) → W'.held o z → W.held o z ⊎ ((o ≡ Y) × (z ≡ x))
-    pub visible-to : (o z : ℕ) → W.visible o z → W'.visible o z
-    pub visible-new : (z : ℕ) → t ≡ 0 → Reach x z → W'.visible Y z
-    pub visible-from : (o z : ℕ) → W'.visible o z → W.visible o z ⊎ ((o ≡ Y) × (t ≡ 0) × Reach x z)
+    pub held_from : (o z : ℕ) → W'.held o z → W.held o z ⊎ ((o ≡ Y) × (z ≡ x))
+    pub visible_to : (o z : ℕ) → W.visible o z → W'.visible o z
+    pub visible_new : (z : ℕ) → t ≡ 0 → Reach x z → W'.visible Y z
+    pub visible_from : (o z : ℕ) → W'.visible o z → W.visible o z ⊎ ((o ≡ Y) × (t ≡ 0) × Reach x z)
     pub popped : W'.line Y ≡ rest
     pub passed : W'.line (S.next Y) ≡ W.line (S.next Y) ++ passes x t
     pub others : (o : ℕ) → o ≢ Y → o ≢ S.next Y → W'.line o ≡ W.line o
@@ -89,11 +89,11 @@ module _ (S : Shape) where
   -- O reveals the ids R, each visible at some office, with all that is reached from them
   pub record Reveal (W W' : World) (O : ℕ) (R : ℕ → Type 0) : Type 0 where
     pub seen : (r : ℕ) → R r → (o : ℕ) × W.visible o r
-    pub made-to : (z : ℕ) → W.made z → W'.made z
-    pub made-from : (z : ℕ) → W'.made z → W.made z
+    pub made_to : (z : ℕ) → W.made z → W'.made z
+    pub made_from : (z : ℕ) → W'.made z → W.made z
     pub held_to : (o z : ℕ) → W.held o z → W'.held o z
-    pub held-from : (o z : ℕ) → W'.held o z → W.held o z
-    pub visible-to : (o z : ℕ) → W.visible o z → W'.visible o z
-    pub visible-new : (r z : ℕ) → R r → Reach r z → W'.visible O z
-    pub visible-from : (o z : ℕ) → W'.visible o z → W.visible o z ⊎ ((o ≡ O) × ((r : ℕ) × R r × Reach r z))
+    pub held_from : (o z : ℕ) → W'.held o z → W.held o z
+    pub visible_to : (o z : ℕ) → W.visible o z → W'.visible o z
+    pub visible_new : (r z : ℕ) → R r → Reach r z → W'.visible O z
+    pub visible_from : (o z : ℕ) → W'.visible o z → W.visible o z ⊎ ((o ≡ O) × ((r : ℕ) × R r × Reach r z))
     pub others : (o : ℕ) → W'.line o ≡ W.line o

@@ -1,5 +1,5 @@
 -- The own entries of a session, one after another: those that an office does not hold are held, and the office stays sound.
--- A loop over them has `Along` for its invariant: `start-along`, `along-held`, `along-takes`, `along-new`. Assumes nothing.
+-- A loop over them has `Along` for its invariant: `start_along`, `along_held`, `along_takes`, `along_new`. Assumes nothing.
 use Prim.Native.Nat.{ℕ, ◌*◌, ◌+◌, ◌<◌}
 use mathlib.Core.Bool.{Bool, cond, false, true}
 use mathlib.Core.List.{List, Memᴰ, [], ◌++◌, ◌∷◌}
@@ -7,17 +7,17 @@ use mathlib.Core.Logic.{◌⊎◌, inl, inr, ⊎_elim}
 use mathlib.Core.Path.{◌∙◌, ◌≡◌, ap, refl, sym}
 use native.Mathlib.Omega.{arith}
 use Rattle.causal.specs.Lists.{zeros}
-use Rattle.causal.specs.Sets.{IdSet, Within, has, inserted, isIn, unite}
-use Rattle.causal.proofs.Sets.{has-zeros, ids-inserted, ids-unite, ids-zeros, in-inserted, in_is, in-or-out, in-unite, inserted-old, out-is, subset-within}
-use Rattle.frame.specs.Entries.{entryOk, id_of}
-use Rattle.frame.specs.Sessions.{SaneEntry, leaveOut, ownOk}
+use Rattle.causal.specs.Sets.{IdSet, Within, has, inserted, is_in, unite}
+use Rattle.causal.proofs.Sets.{has_zeros, ids_inserted, ids_unite, ids_zeros, in_inserted, in_is, in_or_out, in_unite, inserted_old, out_is, subset_within}
+use Rattle.frame.specs.Entries.{entry_ok, id_of}
+use Rattle.frame.specs.Sessions.{SaneEntry, leave_out, own_ok}
 use Rattle.frame.specs.declared.entry.Entry.{Entry}
-use Rattle.frame.proofs.Entries.{EntryFacts, entry-facts}
+use Rattle.frame.proofs.Entries.{EntryFacts, entry_facts}
 use Rattle.frame.proofs.Ids.{id_range, inserted_new}
-use Rattle.frame.proofs.Sessions.{OwnFacts, idsWith, own-facts}
+use Rattle.frame.proofs.Sessions.{OwnFacts, ids_with, own_facts}
 use Rattle.store.specs.Offices.{Office, hold}
-use Rattle.store.proofs.Keep.{Sound, Takes, hold-sound}
-use Rattle.office.specs.Calls.{holdAll, missing}
+use Rattle.store.proofs.Keep.{Sound, Takes, hold_sound}
+use Rattle.office.specs.Calls.{hold_all, missing}
 use Rattle.office.proofs.KeepCalls.{Known, away}
 
 -- Oi is O with the missing ones among the entries seen
@@ -28,42 +28,42 @@ pub record Along (O Oi : Office) (seen : List ℕ) : Type 0 where
   pub plots : Oi.plots ≡ O.plots
   pub set : IdSet seen
   pub to : (k : ℕ) → has O.held k ≡ 1 → has Oi.held k ≡ 1
-  pub seen-held : (k : ℕ) → has seen k ≡ 1 → has Oi.held k ≡ 1
+  pub seen_held : (k : ℕ) → has seen k ≡ 1 → has Oi.held k ≡ 1
   pub from : (k : ℕ) → has Oi.held k ≡ 1 → (has O.held k ≡ 1) ⊎ (has seen k ≡ 1)
 
-held-along : {O : Office} (Oi : Office) (seen : List ℕ) (e : Entry) → Along O Oi seen → id_of e < 256 → Sound (hold Oi e)
+held_along : {O : Office} (Oi : Office) (seen : List ℕ) (e : Entry) → Along O Oi seen → id_of e < 256 → Sound (hold Oi e)
     → Along O (hold Oi e) (inserted seen (id_of e))
 unfolding hold
-held-along {O} Oi seen e A x8 H =
+held_along {O} Oi seen e A x8 H =
     record {
       sound = H;
       offices = A.offices;
       own = A.own;
       plots = A.plots;
-      set = ids-inserted seen (id_of e) A.set;
-      to = λ k m. inserted-old Oi.held (id_of e) x8 A.sound.held-set k (A.to k m);
-      seen-held =
+      set = ids_inserted seen (id_of e) A.set;
+      to = λ k m. inserted_old Oi.held (id_of e) x8 A.sound.held_set k (A.to k m);
+      seen_held =
           λ k m.
-          ⊎_elim (λ (q : k ≡ id_of e). rw q (inserted_new Oi.held (id_of e) x8 A.sound.held-set))
-          (λ i. inserted-old Oi.held (id_of e) x8 A.sound.held-set k (A.seen-held k i)) (in-inserted seen (id_of e) k x8 A.set m);
+          ⊎_elim (λ (q : k ≡ id_of e). rw q (inserted_new Oi.held (id_of e) x8 A.sound.held_set))
+          (λ i. inserted_old Oi.held (id_of e) x8 A.sound.held_set k (A.seen_held k i)) (in_inserted seen (id_of e) k x8 A.set m);
       from =
           λ k m.
           ⊎_elim (λ (q : k ≡ id_of e). inr (rw q (inserted_new seen (id_of e) x8 A.set)))
-          (λ i. ⊎_elim (λ j. inl j) (λ j. inr (inserted-old seen (id_of e) x8 A.set k j)) (A.from k i))
-          (in-inserted Oi.held (id_of e) k x8 A.sound.held-set m);
+          (λ i. ⊎_elim (λ j. inl j) (λ j. inr (inserted_old seen (id_of e) x8 A.set k j)) (A.from k i))
+          (in_inserted Oi.held (id_of e) k x8 A.sound.held_set m);
     }
 
 module _ (O : Office) (S : Sound O) (read : List ℕ) (read_set : IdSet read) (read_held : Within read O.held) where
-  pub start-along : Along O O zeros
-  start-along =
+  pub start_along : Along O O zeros
+  start_along =
       record {
         sound = S;
         offices = refl;
         own = refl;
         plots = refl;
-        set = ids-zeros;
+        set = ids_zeros;
         to = λ k m. m;
-        seen-held = λ k (m : has zeros k ≡ 1). absurd (omega (arith, has-zeros k));
+        seen_held = λ k (m : has zeros k ≡ 1). absurd (omega (arith, has_zeros k));
         from = λ k m. inl m;
       }
 
@@ -71,70 +71,70 @@ module _ (O : Office) (S : Sound O) (read : List ℕ) (read_set : IdSet read) (r
   module _ (Oi : Office) (seen : List ℕ) (A : Along O Oi seen) (e : Entry) (es : List Entry)
       (F : OwnFacts O.offices O.plots read seen e es) where
     rules : EntryFacts O.offices O.plots e
-    rules = entry-facts O.offices O.plots e F.ok
+    rules = entry_facts O.offices O.plots e F.ok
 
     small : id_of e < 256
     small = omega (arith, id_range O.offices O.plots e rules, S.few)
 
     -- it is held: nothing changes
-    pub along-held : has O.held (id_of e) ≡ 1 → Along O Oi (inserted seen (id_of e))
-    along-held h =
+    pub along_held : has O.held (id_of e) ≡ 1 → Along O Oi (inserted seen (id_of e))
+    along_held h =
         record {
           sound = A.sound;
           offices = A.offices;
           own = A.own;
           plots = A.plots;
-          set = ids-inserted seen (id_of e) A.set;
+          set = ids_inserted seen (id_of e) A.set;
           to = A.to;
-          seen-held =
+          seen_held =
               λ k m.
-              ⊎_elim (λ (q : k ≡ id_of e). rw q (A.to (id_of e) h)) (λ i. A.seen-held k i) (in-inserted seen (id_of e) k small A.set m);
-          from = λ k m. ⊎_elim (λ i. inl i) (λ i. inr (inserted-old seen (id_of e) small A.set k i)) (A.from k m);
+              ⊎_elim (λ (q : k ≡ id_of e). rw q (A.to (id_of e) h)) (λ i. A.seen_held k i) (in_inserted seen (id_of e) k small A.set m);
+          from = λ k m. ⊎_elim (λ i. inl i) (λ i. inr (inserted_old seen (id_of e) small A.set k i)) (A.from k m);
         }
 
     -- it is not: it may be held
-    pub along-takes : has O.held (id_of e) ≡ 0 → SaneEntry e → Known O e → Takes Oi e
-    along-takes z sane known =
+    pub along_takes : has O.held (id_of e) ≡ 0 → SaneEntry e → Known O e → Takes Oi e
+    along_takes z sane known =
         record {
-          ok = ap (λ (x : ℕ). entryOk x Oi.plots e) A.offices ∙ ap (λ (x : ℕ). entryOk O.offices x e) A.plots ∙ F.ok;
+          ok = ap (λ (x : ℕ). entry_ok x Oi.plots e) A.offices ∙ ap (λ (x : ℕ). entry_ok O.offices x e) A.plots ∙ F.ok;
           clock8 = sane.clock8;
-          deps-set = sane.deps-set;
+          deps_set = sane.deps_set;
           new =
               ⊎_elim
               (λ (h : has Oi.held (id_of e) ≡ 1).
               absurd
               (⊎_elim (λ (i : has O.held (id_of e) ≡ 1). omega arith) (λ (i : has seen (id_of e) ≡ 1). omega (arith, F.new)) (A.from (id_of e) h)))
-              (λ h. h) (in-or-out Oi.held (id_of e));
-          deps-held =
+              (λ h. h) (in_or_out Oi.held (id_of e));
+          deps_held =
               λ d m.
-              ⊎_elim (λ i. A.to d (read_held d i)) (λ i. A.seen-held d i)
-              (in-unite read seen d (ids-unite read seen read_set A.set)
-              (subset-within e.deps (unite read seen) sane.deps-set F.deps d m));
+              ⊎_elim (λ i. A.to d (read_held d i)) (λ i. A.seen_held d i)
+              (in_unite read seen d (ids_unite read seen read_set A.set)
+              (subset_within e.deps (unite read seen) sane.deps_set F.deps d m));
           next = λ s l q. absurd (away O e O.offices O.plots rules known z s l (ap (λ (x : ℕ). 32 * x + (s + 1)) (sym A.own) ∙ q));
         }
 
-    pub along-new : Takes Oi e → Along O (hold Oi e) (inserted seen (id_of e))
-    along-new T = held-along Oi seen e A small (hold-sound Oi A.sound e T)
+    pub along_new : Takes Oi e → Along O (hold Oi e) (inserted seen (id_of e))
+    along_new T = held_along Oi seen e A small (hold_sound Oi A.sound e T)
 
   -- all of them
-  pub along-own : (es : List Entry) (Oi : Office) (seen : List ℕ) → Along O Oi seen → ownOk O.offices O.plots read seen es ≡ true
-      → ((e : Entry) → Memᴰ e es → SaneEntry e × Known O e) → Along O (holdAll Oi (missing O es)) (idsWith seen es)
-  unfolding holdAll leaveOut
-  along-own [] Oi seen A h sane = A
-  along-own (e ∷ es) Oi seen A h sane =
-      go (isIn O.held (id_of e)) refl (own-facts O.offices O.plots read seen e es h) (sane e (Memᴰ.head refl))
-      (λ Oj B g. along-own es Oj (inserted seen (id_of e)) B g (λ f m. sane f (Memᴰ.tail m)))
+  pub along_own : (es : List Entry) (Oi : Office) (seen : List ℕ) → Along O Oi seen → own_ok O.offices O.plots read seen es ≡ true
+      → ((e : Entry) → Memᴰ e es → SaneEntry e × Known O e) → Along O (hold_all Oi (missing O es)) (ids_with seen es)
+  unfolding hold_all leave_out
+  along_own [] Oi seen A h sane = A
+  along_own (e ∷ es) Oi seen A h sane =
+      go (is_in O.held (id_of e)) refl (own_facts O.offices O.plots read seen e es h) (sane e (Memᴰ.head refl))
+      (λ Oj B g. along_own es Oj (inserted seen (id_of e)) B g (λ f m. sane f (Memᴰ.tail m)))
     where
-      go : (t : Bool) → isIn O.held (id_of e) ≡ t → OwnFacts O.offices O.plots read seen e es → SaneEntry e × Known O e
-          → ((Oj : Office) → Along O Oj (inserted seen (id_of e)) → ownOk O.offices O.plots read (inserted seen (id_of e)) es ≡ true
-          → Along O (holdAll Oj (missing O es)) (idsWith (inserted seen (id_of e)) es))
-          → Along O (holdAll Oi (cond t (missing O es) (e ∷ missing O es))) (idsWith (inserted seen (id_of e)) es)
-      go true t F sk next = next Oi (along-held Oi seen A e es F (in_is O.held (id_of e) t)) F.rest
+      go : (t : Bool) → is_in O.held (id_of e) ≡ t → OwnFacts O.offices O.plots read seen e es → SaneEntry e × Known O e
+          → ((Oj : Office) → Along O Oj (inserted seen (id_of e)) → own_ok O.offices O.plots read (inserted seen (id_of e)) es ≡ true
+          → Along O (hold_all Oj (missing O es)) (ids_with (inserted seen (id_of e)) es))
+          → Along O (hold_all Oi (cond t (missing O es) (e ∷ missing O es))) (ids_with (inserted seen (id_of e)) es)
+      go true t F sk next = next Oi (along_held Oi seen A e es F (in_is O.held (id_of e) t)) F.rest
       go false t F sk next =
-          next (hold Oi e) (along-new Oi seen A e es F (along-takes Oi seen A e es F (out-is O.held (id_of e) t) sk.0 sk.1)) F.rest
+          next (hold Oi e) (along_new Oi seen A e es F (along_takes Oi seen A e es F (out_is O.held (id_of e) t) sk.0 sk.1)) F.rest
 
 -- one entry more
-pub hold-end : (O : Office) (es : List Entry) (e : Entry) → holdAll O (es ++ (e ∷ [])) ≡ hold (holdAll O es) e
-unfolding holdAll
-hold-end O [] e = refl
-hold-end O (x ∷ es) e = hold-end (hold O x) es e
+pub hold_end : (O : Office) (es : List Entry) (e : Entry) → hold_all O (es ++ (e ∷ [])) ≡ hold (hold_all O es) e
+unfolding hold_all
+hold_end O [] e = refl
+hold_end O (x ∷ es) e = hold_end (hold O x) es e

@@ -7,140 +7,140 @@ use lib.Count.{count_trailing_zeros}
 use lib.ListN.{replicate}
 use Rattle.causal.specs.Clocks.{join}
 use Rattle.causal.specs.Codes.{check, or_else}
-use Rattle.causal.specs.Lists.{eqWords, part, sumBelow, tab, zeros}
-use Rattle.causal.specs.Rank.{higher, ranksAbove}
-use Rattle.causal.specs.Sets.{bit, has, inserted, isIn, lowestIn, lowestOf, minus, subsetOf, unite, word_in}
+use Rattle.causal.specs.Lists.{eq_words, part, sum_below, tab, zeros}
+use Rattle.causal.specs.Rank.{higher, ranks_above}
+use Rattle.causal.specs.Sets.{bit, has, inserted, is_in, lowest_in, lowest_of, minus, subset_of, unite, word_in}
 use Rattle.causal.specs.Tests.{all_below, both, either, implies}
 use Rattle.frame.specs.Calls.{laid}
-use Rattle.frame.specs.Entries.{boundsOk, clockOk, clockPlaceOk, entryOk, idsOk, idsPlaceOk, outranks, sameContent}
-use Rattle.frame.specs.Frames.{accepts, bodyWords, frame_of, frameOk, frameWords, framed, ringOk}
-use Rattle.frame.specs.Sessions.{Content, freshContent, ids_of, leaveOut, ownOk, sessionOk}
+use Rattle.frame.specs.Entries.{bounds_ok, clock_ok, clock_place_ok, entry_ok, ids_ok, ids_place_ok, outranks, same_content}
+use Rattle.frame.specs.Frames.{accepts, body_words, frame_of, frame_ok, frame_words, framed, ring_ok}
+use Rattle.frame.specs.Sessions.{Content, fresh_content, ids_of, leave_out, own_ok, session_ok}
 use Rattle.frame.specs.Tokens.{rows_of}
-use Rattle.frame.specs.Words.{clockFrom, clockWords, idWordIf, idWords, idWordsTo, idsFrom, summed, total}
+use Rattle.frame.specs.Words.{clock_from, clock_words, id_word_if, id_words, id_words_to, ids_from, summed, total}
 use Rattle.frame.specs.declared.entry.Entry.{Entry}
 use Rattle.frame.specs.declared.entry.Frame.{Frame}
-use Rattle.frame.proofs.Cases.{entryA, entryB}
-use Rattle.store.specs.Offices.{None, Office, Some, bestOwn, bestTo, better, clockOf, consider, current, emptyOffice, hold, made, maxTo, reveal, settingsOk}
+use Rattle.frame.proofs.Cases.{entry_a, entry_b}
+use Rattle.store.specs.Offices.{None, Office, Some, best_own, best_to, better, clock_of, consider, current, empty_office, hold, made, max_to, reveal, settings_ok}
 use Rattle.store.specs.Reveal.{revealed, steps}
-use Rattle.office.specs.Calls.{answerWords, entryCode, freshCode, handed, holdAll, holdNew, jointCode, jointOn, newEntry, noted, notedAll, openOffice, ownCode, plotsOk, read_code, read_on, readOut, receiveCode, receiveOn, receiveSends, receivedBy, released, sentOf, showsOwn, storeNeed, threeWords, writeCode, writeOn, wroteSession}
+use Rattle.office.specs.Calls.{answer_words, entry_code, fresh_code, handed, hold_all, hold_new, joint_code, joint_on, new_entry, noted, noted_all, open_office, own_code, plots_ok, read_code, read_on, read_out, receive_code, receive_on, receive_sends, received_by, released, sent_of, shows_own, store_need, three_words, write_code, write_on, wrote_session}
 
 abbrev row : List ℕ
 row = replicate 20 0
 
 -- an office of the ring, that holds nothing; after it received A with t hops to go; after it received A and then B
 abbrev pub before : Office
-before = emptyOffice 3 2 64
+before = empty_office 3 2 64
 
-abbrev pub gotA : ℕ → Office
-gotA t = (receiveOn before (framed 3 t entryA) row).store
+abbrev pub got_a : ℕ → Office
+got_a t = (receive_on before (framed 3 t entry_a) row).store
 
-abbrev pub gotB : Office
-gotB = (receiveOn (gotA 1) (framed 3 1 entryB) row).store
+abbrev pub got_b : Office
+got_b = (receive_on (got_a 1) (framed 3 1 entry_b) row).store
 
 -- a session that has read B elsewhere; one that carries A
-abbrev pub readB : Content
-readB = record { offices = 3; clock = 1 ∷ 1 ∷ 0 ∷ 0 ∷ 0 ∷ 0 ∷ 0 ∷ 0 ∷ []; read = 0 ∷ 1 ∷ 0 ∷ 0 ∷ 0 ∷ 0 ∷ 0 ∷ 0 ∷ []; own = [] }
+abbrev pub read_b : Content
+read_b = record { offices = 3; clock = 1 ∷ 1 ∷ 0 ∷ 0 ∷ 0 ∷ 0 ∷ 0 ∷ 0 ∷ []; read = 0 ∷ 1 ∷ 0 ∷ 0 ∷ 0 ∷ 0 ∷ 0 ∷ 0 ∷ []; own = [] }
 
-abbrev pub carriesA : Content
-carriesA = record { offices = 3; clock = 1 ∷ 0 ∷ 0 ∷ 0 ∷ 0 ∷ 0 ∷ 0 ∷ 0 ∷ []; read = zeros; own = entryA ∷ [] }
+abbrev pub carries_a : Content
+carries_a = record { offices = 3; clock = 1 ∷ 0 ∷ 0 ∷ 0 ∷ 0 ∷ 0 ∷ 0 ∷ 0 ∷ []; read = zeros; own = entry_a ∷ [] }
 
 -- the same once it is released
 abbrev pub read_a : Content
 read_a = record { offices = 3; clock = 1 ∷ 0 ∷ 0 ∷ 0 ∷ 0 ∷ 0 ∷ 0 ∷ 0 ∷ []; read = 1 ∷ 0 ∷ 0 ∷ 0 ∷ 0 ∷ 0 ∷ 0 ∷ 0 ∷ []; own = [] }
 
 -- one with its name and another value
-abbrev otherA : Entry
-otherA =
+abbrev other_a : Entry
+other_a =
     record {
-      office = entryA.office;
-      serial = entryA.serial;
-      plot = entryA.plot;
-      value = entryA.value + 1;
-      clock = entryA.clock;
-      deps = entryA.deps;
+      office = entry_a.office;
+      serial = entry_a.serial;
+      plot = entry_a.plot;
+      value = entry_a.value + 1;
+      clock = entry_a.clock;
+      deps = entry_a.deps;
     }
 
-abbrev pub carriesOther : Content
-carriesOther = record { offices = 3; clock = carriesA.clock; read = zeros; own = otherA ∷ [] }
+abbrev pub carries_other : Content
+carries_other = record { offices = 3; clock = carries_a.clock; read = zeros; own = other_a ∷ [] }
 
 pub record Cases : Type 0 where
   -- the last office to receive it shows it; an office in the middle does not, and sends it on, also if it holds it already
-  pub last-shows : (gotA 0).visible ≡ 1 ∷ 0 ∷ 0 ∷ 0 ∷ 0 ∷ 0 ∷ 0 ∷ 0 ∷ []
-  pub middle-hides : (gotA 1).visible ≡ zeros
-  pub middle-sends : (receiveOn before (framed 3 1 entryA) row).sent ≡ framed 3 0 entryA ∷ []
-  pub again-sends : (receiveOn (gotA 1) (framed 3 1 entryA) row).sent ≡ framed 3 0 entryA ∷ []
-  pub again-shows : (receiveOn (gotA 1) (framed 3 0 entryA) row).store.visible ≡ 1 ∷ 0 ∷ 0 ∷ 0 ∷ 0 ∷ 0 ∷ 0 ∷ 0 ∷ []
+  pub last_shows : (got_a 0).visible ≡ 1 ∷ 0 ∷ 0 ∷ 0 ∷ 0 ∷ 0 ∷ 0 ∷ 0 ∷ []
+  pub middle_hides : (got_a 1).visible ≡ zeros
+  pub middle_sends : (receive_on before (framed 3 1 entry_a) row).sent ≡ framed 3 0 entry_a ∷ []
+  pub again_sends : (receive_on (got_a 1) (framed 3 1 entry_a) row).sent ≡ framed 3 0 entry_a ∷ []
+  pub again_shows : (receive_on (got_a 1) (framed 3 0 entry_a) row).store.visible ≡ 1 ∷ 0 ∷ 0 ∷ 0 ∷ 0 ∷ 0 ∷ 0 ∷ 0 ∷ []
   -- a reading reveals what was read, with what it depends on, and hands it back; a joint one likewise
-  pub reading-shows : (read_on gotB readB 6).store.visible ≡ 1 ∷ 1 ∷ 0 ∷ 0 ∷ 0 ∷ 0 ∷ 0 ∷ 0 ∷ []
-  pub reading-hands : (read_on gotB readB 6).found ≡ Some entryB ∷ []
-  pub joint-hands : (jointOn gotB readB (6 ∷ 7 ∷ []) row).found ≡ Some entryB ∷ None ∷ []
-  pub joint-row : (jointOn gotB readB (6 ∷ 7 ∷ []) (9 ∷ 9 ∷ 9 ∷ 9 ∷ 9 ∷ 9 ∷ 9 ∷ [])).row ≡ 1 ∷ 1 ∷ 257 ∷ 0 ∷ 0 ∷ 0 ∷ 9 ∷ []
-  pub joint-own : (jointOn before carriesA (5 ∷ 6 ∷ []) row).found ≡ Some entryA ∷ None ∷ []
-  pub joint-own-unread : (jointOn before carriesA (5 ∷ 6 ∷ []) row).session ≡ carriesA
+  pub reading_shows : (read_on got_b read_b 6).store.visible ≡ 1 ∷ 1 ∷ 0 ∷ 0 ∷ 0 ∷ 0 ∷ 0 ∷ 0 ∷ []
+  pub reading_hands : (read_on got_b read_b 6).found ≡ Some entry_b ∷ []
+  pub joint_hands : (joint_on got_b read_b (6 ∷ 7 ∷ []) row).found ≡ Some entry_b ∷ None ∷ []
+  pub joint_row : (joint_on got_b read_b (6 ∷ 7 ∷ []) (9 ∷ 9 ∷ 9 ∷ 9 ∷ 9 ∷ 9 ∷ 9 ∷ [])).row ≡ 1 ∷ 1 ∷ 257 ∷ 0 ∷ 0 ∷ 0 ∷ 9 ∷ []
+  pub joint_own : (joint_on before carries_a (5 ∷ 6 ∷ []) row).found ≡ Some entry_a ∷ None ∷ []
+  pub joint_own_unread : (joint_on before carries_a (5 ∷ 6 ∷ []) row).session ≡ carries_a
   -- 02, (v): an own write that the office shows is released and read, also by a joint reading of no plots, and the reply has it; one that it holds
   -- hidden, or with other content, is carried on
-  pub shown-goes : (read_on (gotA 0) carriesA 6).session ≡ read_a
-  pub shown-replied : (read_on (gotA 0) carriesA 5).found ≡ Some entryA ∷ []
-  pub empty-releases : (jointOn (gotA 0) carriesA [] []).session ≡ read_a
-  pub hidden-stays : (read_on (gotA 1) carriesA 6).session ≡ carriesA
-  pub other-stays : (read_on (gotA 0) carriesOther 6).session ≡ carriesOther
-  pub other-refused : (writeOn (gotA 0) carriesOther 6 1 row).code ≡ 11
+  pub shown_goes : (read_on (got_a 0) carries_a 6).session ≡ read_a
+  pub shown_replied : (read_on (got_a 0) carries_a 5).found ≡ Some entry_a ∷ []
+  pub empty_releases : (joint_on (got_a 0) carries_a [] []).session ≡ read_a
+  pub hidden_stays : (read_on (got_a 1) carries_a 6).session ≡ carries_a
+  pub other_stays : (read_on (got_a 0) carries_other 6).session ≡ carries_other
+  pub other_refused : (write_on (got_a 0) carries_other 6 1 row).code ≡ 11
   -- what is released is no more carried, and is known: a write sends the new entry alone, and that depends on it
-  pub released-sent : map (λ (f : Frame). f.entry.deps) (writeOn (gotA 0) read_a 6 1 row).sent ≡ (1 ∷ 0 ∷ 0 ∷ 0 ∷ 0 ∷ 0 ∷ 0 ∷ 0 ∷ []) ∷ []
+  pub released_sent : map (λ (f : Frame). f.entry.deps) (write_on (got_a 0) read_a 6 1 row).sent ≡ (1 ∷ 0 ∷ 0 ∷ 0 ∷ 0 ∷ 0 ∷ 0 ∷ 0 ∷ []) ∷ []
   -- a write on an office that made nothing is accepted, is framed in seven words, and is held
-  pub write-code : (writeOn before (freshContent 3) 5 709 row).code ≡ 0
-  pub write-count : (writeOn before (freshContent 3) 5 709 row).count ≡ 7
-  pub write-held : (writeOn before (freshContent 3) 5 709 row).store.held ≡ 0 ∷ 0 ∷ 1 ∷ 0 ∷ 0 ∷ 0 ∷ 0 ∷ 0 ∷ []
+  pub write_code_lem : (write_on before (fresh_content 3) 5 709 row).code ≡ 0
+  pub write_count : (write_on before (fresh_content 3) 5 709 row).count ≡ 7
+  pub write_held : (write_on before (fresh_content 3) 5 709 row).store.held ≡ 0 ∷ 0 ∷ 1 ∷ 0 ∷ 0 ∷ 0 ∷ 0 ∷ 0 ∷ []
   -- carried entries go ahead of the new one
-  pub carried_first : map (λ (f : Frame). f.entry.serial + 100 * f.entry.office) (writeOn before carriesA 6 1 row).sent ≡ 1 ∷ 201 ∷ []
+  pub carried_first : map (λ (f : Frame). f.entry.serial + 100 * f.entry.office) (write_on before carries_a 6 1 row).sent ≡ 1 ∷ 201 ∷ []
   -- what was read and is not held here: 12
-  pub write-misses : (writeOn before readB 6 2 row).code ≡ 12
+  pub write_misses : (write_on before read_b 6 2 row).code ≡ 12
   -- a write joins the session's clock: the correction outranks what was read
-  pub correction : map (λ (f : Frame). outranks f.entry entryB) (writeOn gotB readB 6 2 row).sent ≡ true ∷ []
+  pub correction : map (λ (f : Frame). outranks f.entry entry_b) (write_on got_b read_b 6 2 row).sent ≡ true ∷ []
   -- "value 2^28 − 1 written, 2^28 refused 5; out row one word short, 8; ring of 9, refused 1"
-  pub value-top : (writeOn before (freshContent 3) 5 268435455 row).code ≡ 0
-  pub value-over : (writeOn before (freshContent 3) 5 268435456 row).code ≡ 5
-  pub row-enough : (writeOn before (freshContent 3) 5 709 (replicate 7 0)).code ≡ 0
-  pub row-short : (writeOn before (freshContent 3) 5 709 (replicate 6 0)).code ≡ 8
-  pub ring-of-9 : freshCode 9 ≡ 1
-  pub office-of-9 : openOffice 9 0 64 [] ≡ (1, [])
-  pub need-of-9 : storeNeed 9 0 64 ≡ (1, 0)
-  pub need-of-3 : storeNeed 3 2 64 ≡ (0, 1747)
+  pub value_top : (write_on before (fresh_content 3) 5 268435455 row).code ≡ 0
+  pub value_over : (write_on before (fresh_content 3) 5 268435456 row).code ≡ 5
+  pub row_enough : (write_on before (fresh_content 3) 5 709 (replicate 7 0)).code ≡ 0
+  pub row_short : (write_on before (fresh_content 3) 5 709 (replicate 6 0)).code ≡ 8
+  pub ring_of_9 : fresh_code 9 ≡ 1
+  pub office_of_9 : open_office 9 0 64 [] ≡ (1, [])
+  pub need_of_9 : store_need 9 0 64 ≡ (1, 0)
+  pub need_of_3 : store_need 3 2 64 ≡ (0, 1747)
 
 pub cases : Cases
-unfolding count_trailing_zeros both either implies all_below check or_else part tab sumBelow eqWords bit has isIn unite minus inserted word_in subsetOf lowestIn lowestOf join higher ranksAbove outranks clockWords clockFrom idWordIf idWordsTo idWords idsFrom total summed clockPlaceOk clockOk idsPlaceOk idsOk boundsOk entryOk sameContent ringOk bodyWords frameWords frameOk frame_of accepts laid ids_of ownOk sessionOk rows_of steps revealed settingsOk made maxTo clockOf reveal hold better consider bestTo current bestOwn entryCode ownCode noted readOut showsOwn released read_code handed plotsOk jointCode notedAll threeWords answerWords newEntry leaveOut sentOf writeCode holdAll wroteSession receiveCode holdNew receivedBy receiveSends read_on jointOn writeOn receiveOn freshCode openOffice storeNeed
+unfolding count_trailing_zeros both either implies all_below check or_else part tab sum_below eq_words bit has is_in unite minus inserted word_in subset_of lowest_in lowest_of join higher ranks_above outranks clock_words clock_from id_word_if id_words_to id_words ids_from total summed clock_place_ok clock_ok ids_place_ok ids_ok bounds_ok entry_ok same_content ring_ok body_words frame_words frame_ok frame_of accepts laid ids_of own_ok session_ok rows_of steps revealed settings_ok made max_to clock_of reveal hold better consider best_to current best_own entry_code own_code noted read_out shows_own released read_code handed plots_ok joint_code noted_all three_words answer_words new_entry leave_out sent_of write_code hold_all wrote_session receive_code hold_new received_by receive_sends read_on joint_on write_on receive_on fresh_code open_office store_need
 cases =
     record {
-      last-shows = refl;
-      middle-hides = refl;
-      middle-sends = refl;
-      again-sends = refl;
-      again-shows = refl;
-      reading-shows = refl;
-      reading-hands = refl;
-      joint-hands = refl;
-      joint-row = refl;
-      joint-own = refl;
-      joint-own-unread = refl;
-      shown-goes = refl;
-      shown-replied = refl;
-      empty-releases = refl;
-      hidden-stays = refl;
-      other-stays = refl;
-      other-refused = refl;
-      released-sent = refl;
-      write-code = refl;
-      write-count = refl;
-      write-held = refl;
+      last_shows = refl;
+      middle_hides = refl;
+      middle_sends = refl;
+      again_sends = refl;
+      again_shows = refl;
+      reading_shows = refl;
+      reading_hands = refl;
+      joint_hands = refl;
+      joint_row = refl;
+      joint_own = refl;
+      joint_own_unread = refl;
+      shown_goes = refl;
+      shown_replied = refl;
+      empty_releases = refl;
+      hidden_stays = refl;
+      other_stays = refl;
+      other_refused = refl;
+      released_sent = refl;
+      write_code_lem = refl;
+      write_count = refl;
+      write_held = refl;
       carried_first = refl;
-      write-misses = refl;
+      write_misses = refl;
       correction = refl;
-      value-top = refl;
-      value-over = refl;
-      row-enough = refl;
-      row-short = refl;
-      ring-of-9 = refl;
-      office-of-9 = refl;
-      need-of-9 = refl;
-      need-of-3 = refl;
+      value_top = refl;
+      value_over = refl;
+      row_enough = refl;
+      row_short = refl;
+      ring_of_9 = refl;
+      office_of_9 = refl;
+      need_of_9 = refl;
+      need_of_3 = refl;
     }

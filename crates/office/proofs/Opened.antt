@@ -13,63 +13,63 @@ use Rattle.causal.specs.Lists.{zeros}
 use Rattle.causal.specs.Codes.{check}
 use Rattle.causal.specs.Sets.{has}
 use Rattle.causal.specs.Tests.{both}
-use Rattle.causal.proofs.Sets.{has-zeros, ids-zeros}
+use Rattle.causal.proofs.Sets.{has_zeros, ids_zeros}
 use Rattle.causal.proofs.Tests.{both_true}
-use Rattle.frame.specs.Frames.{ringOk}
-use Rattle.frame.proofs.Entries.{ring-facts}
-use Rattle.store.specs.Offices.{settingsOk, emptyOffice, need, soundStore, store_words}
-use Rattle.store.proofs.Keep.{Sound, sound-store}
-use Rattle.office.specs.Calls.{freshCode, openOffice}
+use Rattle.frame.specs.Frames.{ring_ok}
+use Rattle.frame.proofs.Entries.{ring_facts}
+use Rattle.store.specs.Offices.{settings_ok, empty_office, need, sound_store, store_words}
+use Rattle.store.proofs.Keep.{Sound, sound_store_lem}
+use Rattle.office.specs.Calls.{fresh_code, open_office}
 
 -- nothing is in the empty set
 no : {A : Type 0} (k : ℕ) → has zeros k ≡ 1 → A
-no k h = absurd (omega (arith, has-zeros k))
+no k h = absurd (omega (arith, has_zeros k))
 
-empty-sound : (n o p : ℕ) → settingsOk n o p ≡ true → Sound (emptyOffice n o p)
-unfolding settingsOk
-empty-sound n o p h =
-    let a = both_true (ringOk n p) (ltb o n) h in
-    let R = ring-facts n p a.0 in
+empty_sound : (n o p : ℕ) → settings_ok n o p ≡ true → Sound (empty_office n o p)
+unfolding settings_ok
+empty_sound n o p h =
+    let a = both_true (ring_ok n p) (ltb o n) h in
+    let R = ring_facts n p a.0 in
     record {
       settings = h;
-      own-low = ltb-true o n a.1;
+      own_low = ltb-true o n a.1;
       few = R.high;
-      held-set = ids-zeros;
-      visible-set = ids-zeros;
+      held_set = ids_zeros;
+      visible_set = ids_zeros;
       range = λ k m. no k m;
       ok = λ k m. no k m;
       none = λ k m. refl;
       office = λ k m. no k m;
       serial = λ k m. no k m;
       clock8 = λ k m. no k m;
-      deps-set = λ k m. no k m;
-      held-closed = λ k m. no k m;
-      visible-held = λ k m. m;
-      visible-closed = λ k m. no k m;
+      deps_set = λ k m. no k m;
+      held_closed = λ k m. no k m;
+      visible_held = λ k m. m;
+      visible_closed = λ k m. no k m;
       gap = λ s l m. no _ m;
     }
 
-pub open-left : (n o p : ℕ) (ws : List ℕ) → (openOffice n o p ws).0 ≡ 0 → soundStore (openOffice n o p ws).1 ≡ true
-unfolding openOffice
-open-left n o p ws = go (settingsOk n o p) refl (leb (need n) (length ws)) refl
+pub open_left : (n o p : ℕ) (ws : List ℕ) → (open_office n o p ws).0 ≡ 0 → sound_store (open_office n o p ws).1 ≡ true
+unfolding open_office
+open_left n o p ws = go (settings_ok n o p) refl (leb (need n) (length ws)) refl
   where
     R : Bool → Bool → ℕ × List ℕ
-    R t u = cond t (cond u (0, store_words ws (emptyOffice n o p)) (2, ws)) (1, ws)
+    R t u = cond t (cond u (0, store_words ws (empty_office n o p)) (2, ws)) (1, ws)
 
-    go : (t : Bool) → settingsOk n o p ≡ t → (u : Bool) → leb (need n) (length ws) ≡ u → (R t u).0 ≡ 0 → soundStore (R t u).1 ≡ true
-    go true x true y h = sound-store ws (emptyOffice n o p) (empty-sound n o p x) (leb-true (need n) (length ws) y)
+    go : (t : Bool) → settings_ok n o p ≡ t → (u : Bool) → leb (need n) (length ws) ≡ u → (R t u).0 ≡ 0 → sound_store (R t u).1 ≡ true
+    go true x true y h = sound_store_lem ws (empty_office n o p) (empty_sound n o p x) (leb-true (need n) (length ws) y)
     go true x false y h = absurd (omega arith)
     go false x u y h = absurd (omega arith)
 
 -- ---- fresh sessions
 
-pub fresh-given : (n : ℕ) → 2 ≤ n → n ≤ 8 → freshCode n ≡ 0
-unfolding freshCode both check
-fresh-given n low high = rw (le-leb 2 n low, le-leb n 8 high) refl
+pub fresh_given : (n : ℕ) → 2 ≤ n → n ≤ 8 → fresh_code n ≡ 0
+unfolding fresh_code both check
+fresh_given n low high = rw (le-leb 2 n low, le-leb n 8 high) refl
 
-pub fresh-refused : (n : ℕ) → (n < 2) ⊎ (8 < n) → freshCode n ≡ 1
-unfolding freshCode both check
-fresh-refused n h = go (leb 2 n) refl (leb n 8) refl
+pub fresh_refused : (n : ℕ) → (n < 2) ⊎ (8 < n) → fresh_code n ≡ 1
+unfolding fresh_code both check
+fresh_refused n h = go (leb 2 n) refl (leb n 8) refl
   where
     go : (t : Bool) → leb 2 n ≡ t → (u : Bool) → leb n 8 ≡ u → check (both t u) 1 0 ≡ 1
     go true x true y =

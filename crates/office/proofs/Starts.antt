@@ -9,12 +9,12 @@ use Rattle.causal.specs.Codes.{check, or_else}
 use Rattle.causal.specs.Lists.{tab, zeros}
 use Rattle.causal.specs.Tests.{both}
 use Rattle.frame.specs.declared.session.Session.{Session}
-use Rattle.frame.specs.Entries.{clockOk, idsOk}
-use Rattle.frame.specs.Sessions.{contentOf, headOk, ownOk}
+use Rattle.frame.specs.Entries.{clock_ok, ids_ok}
+use Rattle.frame.specs.Sessions.{content_of, head_ok, own_ok}
 use Rattle.frame.proofs.OwnTurns as T
-use Rattle.store.specs.Offices.{soundStore}
-use Rattle.office.specs.Decide.{bare, startCode}
-use Rattle.office.proofs.Alone.{bare-head}
+use Rattle.store.specs.Offices.{sound_store}
+use Rattle.office.specs.Decide.{bare, start_code}
+use Rattle.office.proofs.Alone.{bare_head}
 
 -- a: the store; n: the offices; m: the count; c, d: clock and read ids; r: the own writes
 parts : (a n m c d r : Bool) → or_else (check a 2 (check (both n (both true (both c d))) 3 0)) (check m 3 (check r 3 0)) ≡ check a 2 (check (both (both n (both m (both c d))) r) 3 0)
@@ -36,11 +36,11 @@ module _ (ws : List ℕ) (s : Session) where
   p = get_or ws 2 0
 
   abbrev Owns : Bool
-  Owns = ownOk n p s.read zeros (tab s.count (T.ownsOf s.own))
+  Owns = own_ok n p s.read zeros (tab s.count (T.owns_of s.own))
 
-  pub start-parts : or_else (startCode ws (bare s.offices s.clock s.read)) (check (leb s.count 16) 3 (check Owns 3 0)) ≡ startCode ws (contentOf s)
-  unfolding startCode headOk
-  start-parts =
-      ap (λ (b : Bool). or_else (check (soundStore ws) 2 (check b 3 0)) (check (leb s.count 16) 3 (check Owns 3 0))) (bare-head n p s.offices s.clock s.read)
-      ∙ parts (soundStore ws) (eqb s.offices n) (leb s.count 16) (clockOk n s.clock) (idsOk n s.read) Owns
-      ∙ ap (λ (b : Bool). check (soundStore ws) 2 (check b 3 0)) (T.session-parts n p s)
+  pub start_parts : or_else (start_code ws (bare s.offices s.clock s.read)) (check (leb s.count 16) 3 (check Owns 3 0)) ≡ start_code ws (content_of s)
+  unfolding start_code head_ok
+  start_parts =
+      ap (λ (b : Bool). or_else (check (sound_store ws) 2 (check b 3 0)) (check (leb s.count 16) 3 (check Owns 3 0))) (bare_head n p s.offices s.clock s.read)
+      ∙ parts (sound_store ws) (eqb s.offices n) (leb s.count 16) (clock_ok n s.clock) (ids_ok n s.read) Owns
+      ∙ ap (λ (b : Bool). check (sound_store ws) 2 (check b 3 0)) (T.session_parts n p s)

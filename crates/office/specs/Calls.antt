@@ -4,27 +4,27 @@ use Rattle.std.specs.Prelude.{ℕ, zero, suc, ◌+◌, ◌-◌, ◌*◌, Bool, t
 use Rattle.causal.specs.Tests.{both, either, implies}
 use Rattle.causal.specs.Codes.{check, or_else}
 use Rattle.causal.specs.Lists.{zeros}
-use Rattle.causal.specs.Sets.{isIn, unite, inserted, subsetOf}
+use Rattle.causal.specs.Sets.{is_in, unite, inserted, subset_of}
 use Rattle.causal.specs.Clocks.{join}
 use Rattle.frame.specs.declared.entry.Entry.{Entry}
 use Rattle.frame.specs.declared.entry.Frame.{Frame}
-use Rattle.frame.specs.Entries.{id_of, name_of, sameContent}
-use Rattle.frame.specs.Frames.{framed, frameWords, frame_of, accepts}
+use Rattle.frame.specs.Entries.{id_of, name_of, same_content}
+use Rattle.frame.specs.Frames.{framed, frame_words, frame_of, accepts}
 use Rattle.frame.specs.Calls.{laid}
-use Rattle.frame.specs.Sessions.{Content, sessionOk, freshContent, ids_of, leaveOut}
+use Rattle.frame.specs.Sessions.{Content, session_ok, fresh_content, ids_of, leave_out}
 use Rattle.frame.specs.Tokens.{rows_of}
-use Rattle.store.specs.Offices.{Office, emptyOffice, need, officeOf, store_words, settingsOk, soundStore, made, clockOf, reveal, hold, Found, None, Some, current, bestOwn}
+use Rattle.store.specs.Offices.{Office, empty_office, need, office_of, store_words, settings_ok, sound_store, made, clock_of, reveal, hold, Found, None, Some, current, best_own}
 
 -- "it names this office and was not made here" (10); "it is held with other content" (11)
-unfoldable pub entryCode : Office → Entry → ℕ
-entryCode O e =
-    check (implies (eqb e.office O.own) (isIn O.held (id_of e))) 10
-    (check (implies (isIn O.held (id_of e)) (sameContent e (O.entry (id_of e)))) 11 0)
+unfoldable pub entry_code : Office → Entry → ℕ
+entry_code O e =
+    check (implies (eqb e.office O.own) (is_in O.held (id_of e))) 10
+    (check (implies (is_in O.held (id_of e)) (same_content e (O.entry (id_of e)))) 11 0)
 
 -- "for each own entry in order"
-unfoldable pub ownCode : Office → List Entry → ℕ
-ownCode O [] = 0
-ownCode O (e ∷ es) = or_else (entryCode O e) (ownCode O es)
+unfoldable pub own_code : Office → List Entry → ℕ
+own_code O [] = 0
+own_code O (e ∷ es) = or_else (entry_code O e) (own_code O es)
 
 -- ---- Readings of one plot and of several
 
@@ -32,7 +32,7 @@ ownCode O (e ∷ es) = or_else (entryCode O e) (ownCode O es)
 -- presented one is handed back"; paper 02, (i): a joint reading "hands back, per plot, the higher-ranked of the presented entry and her own, as a
 -- single reading does"
 unfoldable pub handed : Office → Content → ℕ → Found
-handed O s plot = bestOwn plot (current O plot) s.own
+handed O s plot = best_own plot (current O plot) s.own
 
 -- what the presented entry adds to the session: "add the presented entry's name to the read names and join its clock into the errand's"; 02, (i): "The
 -- errand's read names still take the presented entries"
@@ -40,101 +40,101 @@ unfoldable pub noted : Found → Content → Content
 noted None s = s
 noted (Some e) s = record { offices = s.offices; clock = join s.clock e.clock; read = inserted s.read (id_of e); own = s.own }
 
-unfoldable pub notedAll : Office → List ℕ → Content → Content
-notedAll O [] s = s
-notedAll O (q ∷ qs) s = notedAll O qs (noted (current O q) s)
+unfoldable pub noted_all : Office → List ℕ → Content → Content
+noted_all O [] s = s
+noted_all O (q ∷ qs) s = noted_all O qs (noted (current O q) s)
 
 -- ---- Own entries that a reading releases (02, (v)): O is the office "once the read names are brought out"
 
 -- "own entries that the office shows, with equal content"
-unfoldable pub showsOwn : Office → Entry → Bool
-showsOwn O e = both (isIn O.visible (id_of e)) (sameContent e (O.entry (id_of e)))
+unfoldable pub shows_own : Office → Entry → Bool
+shows_own O e = both (is_in O.visible (id_of e)) (same_content e (O.entry (id_of e)))
 
 -- those that a test takes out "become read names"
-unfoldable pub readOut : (Entry → Bool) → List ℕ → List Entry → List ℕ
-readOut t read [] = read
-readOut t read (e ∷ es) = readOut t (cond (t e) (inserted read (id_of e)) read) es
+unfoldable pub read_out : (Entry → Bool) → List ℕ → List Entry → List ℕ
+read_out t read [] = read
+read_out t read (e ∷ es) = read_out t (cond (t e) (inserted read (id_of e)) read) es
 
 -- they "leave the carried list and become read names": names alone, the clock stays
 unfoldable pub released : Office → Content → Content
 released O s =
-    record { offices = s.offices; clock = s.clock; read = readOut (showsOwn O) s.read s.own; own = leaveOut (showsOwn O) s.own }
+    record { offices = s.offices; clock = s.clock; read = read_out (shows_own O) s.read s.own; own = leave_out (shows_own O) s.own }
 
 -- ---- Read one plot
 
 unfoldable pub read_code : Office → Content → ℕ → ℕ
 read_code O s plot =
-    check (sessionOk O.offices O.plots s) 3 (check (ltb plot O.plots) 4 (check (subsetOf s.read O.held) 12 0))
+    check (session_ok O.offices O.plots s) 3 (check (ltb plot O.plots) 4 (check (subset_of s.read O.held) 12 0))
 
 -- ---- Read jointly
 
-unfoldable pub plotsOk : ℕ → List ℕ → Bool
-plotsOk p [] = true
-plotsOk p (q ∷ qs) = both (ltb q p) (plotsOk p qs)
+unfoldable pub plots_ok : ℕ → List ℕ → Bool
+plots_ok p [] = true
+plots_ok p (q ∷ qs) = both (ltb q p) (plots_ok p qs)
 
 -- "Refusal 13 then never occurs" (02, (i))
-unfoldable pub jointCode : Office → Content → List ℕ → ℕ → ℕ
-jointCode O s plots room =
-    check (sessionOk O.offices O.plots s) 3
-    (check (both (leb (length plots) 16) (plotsOk O.plots plots)) 4
-    (check (leb (3 * length plots) room) 8 (check (subsetOf s.read O.held) 12 0)))
+unfoldable pub joint_code : Office → Content → List ℕ → ℕ → ℕ
+joint_code O s plots room =
+    check (session_ok O.offices O.plots s) 3
+    (check (both (leb (length plots) 16) (plots_ok O.plots plots)) 4
+    (check (leb (3 * length plots) room) 8 (check (subset_of s.read O.held) 12 0)))
 
 -- "three words each: 1, value, name payload; or 0, 0, 0"
-unfoldable pub threeWords : Found → List ℕ
-threeWords None = 0 ∷ 0 ∷ 0 ∷ []
-threeWords (Some e) = 1 ∷ e.value ∷ name_of e ∷ []
+unfoldable pub three_words : Found → List ℕ
+three_words None = 0 ∷ 0 ∷ 0 ∷ []
+three_words (Some e) = 1 ∷ e.value ∷ name_of e ∷ []
 
-unfoldable pub answerWords : List Found → List ℕ
-answerWords [] = []
-answerWords (f ∷ fs) = threeWords f ++ answerWords fs
+unfoldable pub answer_words : List Found → List ℕ
+answer_words [] = []
+answer_words (f ∷ fs) = three_words f ++ answer_words fs
 
 -- ---- Write
 
 -- "serial one up, clock the join of office and errand clocks with that serial at its own place, dependencies all read names and own entries"
-unfoldable pub newEntry : Office → Content → ℕ → ℕ → Entry
-newEntry O s plot value =
+unfoldable pub new_entry : Office → Content → ℕ → ℕ → Entry
+new_entry O s plot value =
     record {
       office = O.own;
       serial = made O + 1;
       plot = plot;
       value = value;
-      clock = set (join (clockOf O) s.clock) O.own (made O + 1);
+      clock = set (join (clock_of O) s.clock) O.own (made O + 1);
       deps = unite s.read (ids_of s.own);
     }
 
 -- the own entries that are not held, in order
 abbrev pub missing : Office → List Entry → List Entry
-missing O es = leaveOut (λ (e : Entry). isIn O.held (id_of e)) es
+missing O es = leave_out (λ (e : Entry). is_in O.held (id_of e)) es
 
 -- "each own entry not held is held hidden and framed with offices − 2 to hear; .. Last comes the new entry, hidden"
-unfoldable pub sentOf : Office → Content → ℕ → ℕ → List Entry
-sentOf O s plot value = missing O s.own ++ (newEntry O s plot value ∷ [])
+unfoldable pub sent_of : Office → Content → ℕ → ℕ → List Entry
+sent_of O s plot value = missing O s.own ++ (new_entry O s plot value ∷ [])
 
-abbrev pub writeSends : Office → Content → ℕ → ℕ → List Frame
-writeSends O s plot value = map (framed O.offices (O.offices - 2)) (sentOf O s plot value)
+abbrev pub write_sends : Office → Content → ℕ → ℕ → List Frame
+write_sends O s plot value = map (framed O.offices (O.offices - 2)) (sent_of O s plot value)
 
-unfoldable pub writeCode : Office → Content → ℕ → ℕ → ℕ → ℕ
-writeCode O s plot value room =
-    check (sessionOk O.offices O.plots s) 3
+unfoldable pub write_code : Office → Content → ℕ → ℕ → ℕ → ℕ
+write_code O s plot value room =
+    check (session_ok O.offices O.plots s) 3
     (check (ltb plot O.plots) 4
     (check (ltb value 268435456) 5
     (check (ltb (length s.own) 16) 7
     (check (ltb (made O) 32) 6
-    (check (subsetOf s.read O.held) 12
-    (or_else (ownCode O s.own) (check (leb (length (rows_of (writeSends O s plot value))) room) 8 0)))))))
+    (check (subset_of s.read O.held) 12
+    (or_else (own_code O s.own) (check (leb (length (rows_of (write_sends O s plot value))) room) 8 0)))))))
 
-unfoldable pub holdAll : Office → List Entry → Office
-holdAll O [] = O
-holdAll O (e ∷ es) = holdAll (hold O e) es
+unfoldable pub hold_all : Office → List Entry → Office
+hold_all O [] = O
+hold_all O (e ∷ es) = hold_all (hold O e) es
 
 -- "It joins the errand's own entries and clock"
-unfoldable pub wroteSession : Office → Content → ℕ → ℕ → Content
-wroteSession O s plot value =
+unfoldable pub wrote_session : Office → Content → ℕ → ℕ → Content
+wrote_session O s plot value =
     record {
       offices = s.offices;
-      clock = join s.clock (newEntry O s plot value).clock;
+      clock = join s.clock (new_entry O s plot value).clock;
       read = s.read;
-      own = s.own ++ (newEntry O s plot value ∷ []);
+      own = s.own ++ (new_entry O s plot value ∷ []);
     }
 
 -- ---- Hear a frame
@@ -143,22 +143,22 @@ wroteSession O s plot value =
 abbrev pub onward : Frame → Frame
 onward f = framed f.offices (f.hops - 1) f.entry
 
-unfoldable pub receiveCode : Office → Frame → ℕ → ℕ
-receiveCode O f room =
-    or_else (entryCode O f.entry)
-    (check (subsetOf f.entry.deps O.held) 12 (check (either (eqb f.hops 0) (leb (length (frameWords (onward f))) room)) 8 0))
+unfoldable pub receive_code : Office → Frame → ℕ → ℕ
+receive_code O f room =
+    or_else (entry_code O f.entry)
+    (check (subset_of f.entry.deps O.held) 12 (check (either (eqb f.hops 0) (leb (length (frame_words (onward f))) room)) 8 0))
 
 -- "hold it, hidden, if new"
-unfoldable pub holdNew : Office → Entry → Office
-holdNew O e = cond (isIn O.held (id_of e)) O (hold O e)
+unfoldable pub hold_new : Office → Entry → Office
+hold_new O e = cond (is_in O.held (id_of e)) O (hold O e)
 
 -- "If none are still to hear, bring it out"
-unfoldable pub receivedBy : Office → Frame → Office
-receivedBy O f = cond (eqb f.hops 0) (reveal (holdNew O f.entry) (inserted zeros (id_of f.entry))) (holdNew O f.entry)
+unfoldable pub received_by : Office → Frame → Office
+received_by O f = cond (eqb f.hops 0) (reveal (hold_new O f.entry) (inserted zeros (id_of f.entry))) (hold_new O f.entry)
 
 -- "otherwise write it on with one fewer"
-unfoldable pub receiveSends : Frame → List Frame
-receiveSends f = cond (eqb f.hops 0) [] (onward f ∷ [])
+unfoldable pub receive_sends : Frame → List Frame
+receive_sends f = cond (eqb f.hops 0) [] (onward f ∷ [])
 
 -- ==== the calls
 
@@ -185,8 +185,8 @@ given (suc c) a s row r = refusal (suc c) a s row
 -- ---- on contents
 
 -- what a reading hands back on each plot, once the read names are brought out
-abbrev pub handedAll : Office → Content → List ℕ → List Found
-handedAll O s plots = map (handed (reveal O s.read) s) plots
+abbrev pub handed_all : Office → Content → List ℕ → List Found
+handed_all O s plots = map (handed (reveal O s.read) s) plots
 
 -- an accepted reading of plots, one or several; row: the lent row as it leaves it. What is released leaves "before the presented entry is added,
 -- and the reply still counts the entries just released" (02, (v))
@@ -195,9 +195,9 @@ read_all O s plots row =
     record {
       code = 0;
       count = 0;
-      found = handedAll O s plots;
+      found = handed_all O s plots;
       store = reveal O s.read;
-      session = notedAll (reveal O s.read) plots (released (reveal O s.read) s);
+      session = noted_all (reveal O s.read) plots (released (reveal O s.read) s);
       row = row;
       sent = [];
     }
@@ -205,35 +205,35 @@ read_all O s plots row =
 unfoldable pub read_on : Office → Content → ℕ → Result Office Frame
 read_on O s plot = given (read_code O s plot) O s [] (read_all O s (plot ∷ []) [])
 
-unfoldable pub jointOn : Office → Content → List ℕ → List ℕ → Result Office Frame
-jointOn O s plots row = given (jointCode O s plots (length row)) O s row (read_all O s plots (laid (answerWords (handedAll O s plots)) row))
+unfoldable pub joint_on : Office → Content → List ℕ → List ℕ → Result Office Frame
+joint_on O s plots row = given (joint_code O s plots (length row)) O s row (read_all O s plots (laid (answer_words (handed_all O s plots)) row))
 
 -- "The number of words written is returned"
-unfoldable pub writeOn : Office → Content → ℕ → ℕ → List ℕ → Result Office Frame
-writeOn O s plot value row =
-    given (writeCode O s plot value (length row)) O s row
+unfoldable pub write_on : Office → Content → ℕ → ℕ → List ℕ → Result Office Frame
+write_on O s plot value row =
+    given (write_code O s plot value (length row)) O s row
     (record {
       code = 0;
-      count = length (rows_of (writeSends O s plot value));
+      count = length (rows_of (write_sends O s plot value));
       found = [];
-      store = holdAll O (sentOf O s plot value);
-      session = wroteSession O s plot value;
-      row = laid (rows_of (writeSends O s plot value)) row;
-      sent = writeSends O s plot value;
+      store = hold_all O (sent_of O s plot value);
+      session = wrote_session O s plot value;
+      row = laid (rows_of (write_sends O s plot value)) row;
+      sent = write_sends O s plot value;
     })
 
 -- a hearing has no session: that field is a fixed blank
-unfoldable pub receiveOn : Office → Frame → List ℕ → Result Office Frame
-receiveOn O f row =
-    given (receiveCode O f (length row)) O (freshContent 0) row
+unfoldable pub receive_on : Office → Frame → List ℕ → Result Office Frame
+receive_on O f row =
+    given (receive_code O f (length row)) O (fresh_content 0) row
     (record {
       code = 0;
-      count = length (rows_of (receiveSends f));
+      count = length (rows_of (receive_sends f));
       found = [];
-      store = receivedBy O f;
-      session = freshContent 0;
-      row = laid (rows_of (receiveSends f)) row;
-      sent = receiveSends f;
+      store = received_by O f;
+      session = fresh_content 0;
+      row = laid (rows_of (receive_sends f)) row;
+      sent = receive_sends f;
     })
 
 -- ---- on words
@@ -245,16 +245,16 @@ stored (suc c) ws O = ws
 
 abbrev pub worded : Bool → List ℕ → Content → List ℕ → Result Office Frame → Result (List ℕ) (List ℕ)
 worded true ws s row r =
-    record { code = r.code; count = r.count; found = r.found; store = stored r.code ws r.store; session = r.session; row = r.row; sent = map frameWords r.sent }
+    record { code = r.code; count = r.count; found = r.found; store = stored r.code ws r.store; session = r.session; row = r.row; sent = map frame_words r.sent }
 worded false ws s row r = refusal 2 ws s row
 
 -- "The call that gives the store's need refuses such settings with 1 too": code, words
-unfoldable pub storeNeed : ℕ → ℕ → ℕ → ℕ × ℕ
-storeNeed n o p = cond (settingsOk n o p) (0, need n) (1, 0)
+unfoldable pub store_need : ℕ → ℕ → ℕ → ℕ × ℕ
+store_need n o p = cond (settings_ok n o p) (0, need n) (1, 0)
 
 -- "Open an office. 1: settings out of range, or own number not below ring size. 2: store too short. Else an office holding nothing": code, store
-unfoldable pub openOffice : ℕ → ℕ → ℕ → List ℕ → ℕ × List ℕ
-openOffice n o p ws = cond (settingsOk n o p) (cond (leb (need n) (length ws)) (0, store_words ws (emptyOffice n o p)) (2, ws)) (1, ws)
+unfoldable pub open_office : ℕ → ℕ → ℕ → List ℕ → ℕ × List ℕ
+open_office n o p ws = cond (settings_ok n o p) (cond (leb (need n) (length ws)) (0, store_words ws (empty_office n o p)) (2, ws)) (1, ws)
 
 -- what a store was opened with, for a host that finds it in a file (no call of paper 01; DECISIONS 28). "2: store unsound"
 pub record StoreSettings : Type 0 where
@@ -263,30 +263,30 @@ pub record StoreSettings : Type 0 where
   pub own : ℕ
   pub plots : ℕ
 
-unfoldable pub storeSettings : List ℕ → StoreSettings
-storeSettings ws =
-    cond (soundStore ws) (record { code = 0; offices = (officeOf ws).offices; own = (officeOf ws).own; plots = (officeOf ws).plots })
+unfoldable pub store_settings : List ℕ → StoreSettings
+store_settings ws =
+    cond (sound_store ws) (record { code = 0; offices = (office_of ws).offices; own = (office_of ws).own; plots = (office_of ws).plots })
     (record { code = 2; offices = 0; own = 0; plots = 0 })
 
 -- "A fresh errand needs a ring size of 2 to 8, else 1"
-unfoldable pub freshCode : ℕ → ℕ
-freshCode n = check (both (leb 2 n) (leb n 8)) 1 0
+unfoldable pub fresh_code : ℕ → ℕ
+fresh_code n = check (both (leb 2 n) (leb n 8)) 1 0
 
-unfoldable pub readPlot : List ℕ → Content → ℕ → Result (List ℕ) (List ℕ)
-readPlot ws s plot = worded (soundStore ws) ws s [] (read_on (officeOf ws) s plot)
+unfoldable pub read_plot : List ℕ → Content → ℕ → Result (List ℕ) (List ℕ)
+read_plot ws s plot = worded (sound_store ws) ws s [] (read_on (office_of ws) s plot)
 
-unfoldable pub readJoint : List ℕ → Content → List ℕ → List ℕ → Result (List ℕ) (List ℕ)
-readJoint ws s plots row = worded (soundStore ws) ws s row (jointOn (officeOf ws) s plots row)
+unfoldable pub read_joint : List ℕ → Content → List ℕ → List ℕ → Result (List ℕ) (List ℕ)
+read_joint ws s plots row = worded (sound_store ws) ws s row (joint_on (office_of ws) s plots row)
 
 unfoldable pub write : List ℕ → Content → ℕ → ℕ → List ℕ → Result (List ℕ) (List ℕ)
-write ws s plot value row = worded (soundStore ws) ws s row (writeOn (officeOf ws) s plot value row)
+write ws s plot value row = worded (sound_store ws) ws s row (write_on (office_of ws) s plot value row)
 
 -- "9: not a frame for this ring and plots"
 abbrev pub parsed : Bool → Office → List ℕ → Result Office Frame → Result Office Frame
 parsed true O row r = r
-parsed false O row r = refusal 9 O (freshContent 0) row
+parsed false O row r = refusal 9 O (fresh_content 0) row
 
 unfoldable pub receive : List ℕ → List ℕ → List ℕ → Result (List ℕ) (List ℕ)
 receive ws frame row =
-    worded (soundStore ws) ws (freshContent 0) row
-    (parsed (accepts (officeOf ws).offices (officeOf ws).plots frame) (officeOf ws) row (receiveOn (officeOf ws) (frame_of frame) row))
+    worded (sound_store ws) ws (fresh_content 0) row
+    (parsed (accepts (office_of ws).offices (office_of ws).plots frame) (office_of ws) row (receive_on (office_of ws) (frame_of frame) row))

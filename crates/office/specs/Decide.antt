@@ -7,8 +7,8 @@ use Rattle.causal.specs.Clocks.{join}
 use Rattle.frame.specs.declared.entry.Entry.{Entry}
 use Rattle.frame.specs.declared.session.Session.{Session}
 use Rattle.frame.specs.Entries.{id_of}
-use Rattle.frame.specs.Sessions.{Content, sessionOk}
-use Rattle.store.specs.Offices.{slot_at, entry_at, soundStore, Found, None, Some}
+use Rattle.frame.specs.Sessions.{Content, session_ok}
+use Rattle.store.specs.Offices.{slot_at, entry_at, sound_store, Found, None, Some}
 use Rattle.store.specs.declared.current.Place.{Place}
 use Rattle.store.specs.declared.current.Place.TheVariants.{At, Nowhere}
 use Rattle.office.specs.declared.note.Seen.{Seen}
@@ -24,17 +24,17 @@ bare n clock read = record { offices = n; clock = clock; read = read; own = [] }
 
 -- ---- refusals
 
-unfoldable pub startCode : List ℕ → Content → ℕ
-startCode ws s = check (soundStore ws) 2 (check (sessionOk (get_or ws 0 0) (get_or ws 2 0) s) 3 0)
+unfoldable pub start_code : List ℕ → Content → ℕ
+start_code ws s = check (sound_store ws) 2 (check (session_ok (get_or ws 0 0) (get_or ws 2 0) s) 3 0)
 
 -- ---- what is current, as a number: its id, or 256 for none
 
-unfoldable pub placeNumber : Place → ℕ
-placeNumber (At k) = k
-placeNumber Nowhere = 256
+unfoldable pub place_number : Place → ℕ
+place_number (At k) = k
+place_number Nowhere = 256
 
-unfoldable pub foundIn : List ℕ → ℕ → Found
-foundIn ws k = cond (ltb k 256) (Some (entry_at ws k)) None
+unfoldable pub found_in : List ℕ → ℕ → Found
+found_in ws k = cond (ltb k 256) (Some (entry_at ws k)) None
 
 -- its slot lies in a store of m words
 abbrev pub Reaches : ℕ → ℕ → Type 0
@@ -42,12 +42,12 @@ Reaches m k = k < 256 → slot_at k + 18 ≤ m
 
 -- ---- the session
 
-unfoldable pub notedSeen : Found → Seen → Seen
-notedSeen None x = x
-notedSeen (Some e) x = record { clock = join x.clock e.clock; read = inserted x.read (id_of e) }
+unfoldable pub noted_seen : Found → Seen → Seen
+noted_seen None x = x
+noted_seen (Some e) x = record { clock = join x.clock e.clock; read = inserted x.read (id_of e) }
 
-unfoldable pub withSeen : Session → Seen → Session
-withSeen s x = record { offices = s.offices; clock = x.clock; read = x.read; count = s.count; own = s.own }
+unfoldable pub with_seen : Session → Seen → Session
+with_seen s x = record { offices = s.offices; clock = x.clock; read = x.read; count = s.count; own = s.own }
 
-abbrev pub seenOf : Session → Seen
-seenOf s = record { clock = s.clock; read = s.read }
+abbrev pub seen_of : Session → Seen
+seen_of s = record { clock = s.clock; read = s.read }

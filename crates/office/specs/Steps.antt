@@ -1,30 +1,30 @@
 -- Own writes in a row of entries, and to hold entries that are new, on words. proofs/Holds.antt: it is what Calls says. Assumes nothing.
 use Rattle.std.specs.Prelude.{ℕ, ◌+◌, ◌<◌, ◌≤◌, Bool, true, false, List, [], ◌∷◌, get_or}
 use Rattle.causal.specs.Lists.{tab}
-use Rattle.causal.specs.Sets.{isIn}
+use Rattle.causal.specs.Sets.{is_in}
 use Rattle.frame.specs.declared.entry.Entry.{Entry}
 use Rattle.frame.specs.Entries.{id_of}
 use Rattle.frame.specs.Sessions.{nobody}
 use Rattle.store.specs.Offices.{slot_at}
-use Rattle.store.specs.Slots.{holdWords}
+use Rattle.store.specs.Slots.{hold_words}
 
 -- the first own writes of a row
 abbrev pub field_own : List Entry → ℕ → Entry
 field_own own i = get_or own i nobody
 
-abbrev pub ownTo : List Entry → ℕ → List Entry
-ownTo own count = tab count (λ i. get_or own i nobody)
+abbrev pub own_to : List Entry → ℕ → List Entry
+own_to own count = tab count (λ i. get_or own i nobody)
 
 -- ---- the holds
 
-abbrev pub holdIf : Bool → List ℕ → Entry → List ℕ
-holdIf true ws e = ws
-holdIf false ws e = holdWords ws e
+abbrev pub hold_if : Bool → List ℕ → Entry → List ℕ
+hold_if true ws e = ws
+hold_if false ws e = hold_words ws e
 
 -- the store with those entries that a set has not
-unfoldable pub holdsIn : List ℕ → List ℕ → List Entry → List ℕ
-holdsIn held ws [] = ws
-holdsIn held ws (e ∷ es) = holdsIn held (holdIf (isIn held (id_of e)) ws e) es
+unfoldable pub holds_in : List ℕ → List ℕ → List Entry → List ℕ
+holds_in held ws [] = ws
+holds_in held ws (e ∷ es) = holds_in held (hold_if (is_in held (id_of e)) ws e) es
 
 -- the slots of the first own writes lie in a store of m words
 abbrev pub Slots : List Entry → ℕ → ℕ → Type 0

@@ -1,11 +1,11 @@
 // Refusals as numbers, 0 for none: what a call decides before it changes anything.
 ghost use Rattle.std.specs.Prelude.{◌≡◌, true, ◌≤◌};
 ghost use Rattle.causal.specs.Lists.{part};
-ghost use Rattle.causal.specs.Sets.{subsetOf};
+ghost use Rattle.causal.specs.Sets.{subset_of};
 ghost use Rattle.frame.specs.Refusals.{code_of};
-ghost use Rattle.frame.specs.Sessions.{contentOf, ids_of};
-ghost use Rattle.store.specs.Offices.{soundStore};
-ghost use Rattle.office.specs.Decide.{bare, startCode};
+ghost use Rattle.frame.specs.Sessions.{content_of, ids_of};
+ghost use Rattle.store.specs.Offices.{sound_store};
+ghost use Rattle.office.specs.Decide.{bare, start_code};
 
 use frame::refusal::Status;
 use frame::session::Session;
@@ -24,8 +24,8 @@ pub fn status_of(code: u32) -> Status
 
 // 2: store unsound, which the caller has asked. 3: session unsound for it: one that carries nothing, by its fields.
 pub fn alone_code(store: &[u32], sound: bool, offices: u32, clock: [u32; 8], read: [u32; 8]) -> u32
-    requires { sound ≡ soundStore store.now }
-    ensures { result ≡ startCode store.now (bare offices clock read) }
+    requires { sound ≡ sound_store store.now }
+    ensures { result ≡ start_code store.now (bare offices clock read) }
 {
     if !sound {
         return 2;
@@ -45,8 +45,8 @@ pub struct Start {
 
 // The same for any session, whose parts but for its own writes the caller has asked. They are taken out only where there are any.
 pub fn start_of(store: &[u32], head: u32, s: Session) -> Start
-    requires { head ≡ startCode store.now (bare s.offices s.clock s.read) }
-    ensures { (result.code ≡ startCode store.now (contentOf s)) × (result.code ≡ 0 → result.own ≡ ids_of (contentOf s).own) }
+    requires { head ≡ start_code store.now (bare s.offices s.clock s.read) }
+    ensures { (result.code ≡ start_code store.now (content_of s)) × (result.code ≡ 0 → result.own ≡ ids_of (content_of s).own) }
 {
     let none = [0u32; 8];
     if head != 0 {
@@ -73,8 +73,8 @@ pub fn start_of(store: &[u32], head: u32, s: Session) -> Start
 }
 
 pub fn start_code(store: &[u32], head: u32, s: Session) -> u32
-    requires { head ≡ startCode store.now (bare s.offices s.clock s.read) }
-    ensures { result ≡ startCode store.now (contentOf s) }
+    requires { head ≡ start_code store.now (bare s.offices s.clock s.read) }
+    ensures { result ≡ start_code store.now (content_of s) }
 {
     let asked = start_of(store, head, s);
     asked.code
@@ -82,8 +82,8 @@ pub fn start_code(store: &[u32], head: u32, s: Session) -> u32
 
 // Is every id of a set held?
 pub fn held_all(store: &[u32], ids: [u32; 8]) -> bool
-    requires { soundStore store.now ≡ true }
-    ensures { result ≡ subsetOf ids (part store.now 3 8) }
+    requires { sound_store store.now ≡ true }
+    ensures { result ≡ subset_of ids (part store.now 3 8) }
 {
     let held = store::layout::set_at(store, 3);
     causal::set::subset(ids, held)

@@ -1,18 +1,18 @@
 // Entries that come in, carried by a session or in a frame: their refusals, and to hold those that are new.
 ghost use Rattle.std.specs.Prelude.{◌≡◌, ◌+◌, ◌≤◌, length, get_or};
 ghost use Rattle.causal.specs.Lists.{part};
-ghost use Rattle.causal.specs.Sets.{isIn};
+ghost use Rattle.causal.specs.Sets.{is_in};
 ghost use Rattle.frame.specs.Entries.{id_of};
-ghost use Rattle.store.specs.Offices.{slot_at, officeOf};
-ghost use Rattle.office.specs.Calls.{entryCode, ownCode};
-ghost use Rattle.office.specs.Steps.{ownTo, holdIf, holdsIn, Slots};
+ghost use Rattle.store.specs.Offices.{slot_at, office_of};
+ghost use Rattle.office.specs.Calls.{entry_code, own_code};
+ghost use Rattle.office.specs.Steps.{own_to, hold_if, holds_in, Slots};
 
 use frame::entry::Entry;
 
 // 10: it names this office and was not made here; 11: it is held with other content.
 pub fn entry_code(store: &[u32], held: [u32; 8], office: u32, e: Entry) -> u32
     requires { (held ≡ part store.now 3 8) × (office ≡ get_or store.now 1 0) × (slot_at (id_of e) + 18 ≤ length store.now) }
-    ensures { result ≡ entryCode (officeOf store.now) e }
+    ensures { result ≡ entry_code (office_of store.now) e }
 {
     let k = frame::entry::id_of(e);
     if causal::set::contains(held, k) {
@@ -28,9 +28,9 @@ pub fn entry_code(store: &[u32], held: [u32; 8], office: u32, e: Entry) -> u32
 }
 
 // The first refusal of the own writes, in order.
-pub fn own_code(store: &[u32], held: [u32; 8], office: u32, own: [Entry; 16], count: usize) -> u32
+pub fn own_code_lem(store: &[u32], held: [u32; 8], office: u32, own: [Entry; 16], count: usize) -> u32
     requires { (held ≡ part store.now 3 8) × (office ≡ get_or store.now 1 0) × (count ≤ 16) × Slots own count (length store.now) }
-    ensures { result ≡ ownCode (officeOf store.now) (ownTo own count) }
+    ensures { result ≡ own_code (office_of store.now) (own_to own count) }
 {
     for i in 0..count {
         let e = own[i];
@@ -45,7 +45,7 @@ pub fn own_code(store: &[u32], held: [u32; 8], office: u32, own: [Entry; 16], co
 // Holds e, hidden, if the set does not have it.
 pub fn hold_new(store: &mut [u32], held: [u32; 8], e: Entry)
     requires { slot_at (id_of e) + 18 ≤ length store.old }
-    ensures { store.new ≡ holdIf (isIn held (id_of e)) store.old e }
+    ensures { store.new ≡ hold_if (is_in held (id_of e)) store.old e }
 {
     let k = frame::entry::id_of(e);
     if causal::set::contains(held, k) {
@@ -57,7 +57,7 @@ pub fn hold_new(store: &mut [u32], held: [u32; 8], e: Entry)
 // The same for the own writes, in order.
 pub fn hold_own(store: &mut [u32], held: [u32; 8], own: [Entry; 16], count: usize)
     requires { (count ≤ 16) × Slots own count (length store.old) }
-    ensures { store.new ≡ holdsIn held store.old (ownTo own count) }
+    ensures { store.new ≡ holds_in held store.old (own_to own count) }
 {
     for i in 0..count {
         let e = own[i];

@@ -1,12 +1,12 @@
 // The words that a store needs.
 ghost use Rattle.office.specs.Promises.{NeedPromise};
-ghost use Rattle.frame.specs.Refusals.{replyOf};
+ghost use Rattle.frame.specs.Refusals.{reply_of};
 
 use frame::refusal::{Refusal, Written};
 
 // 01: the call that gives the store's need.
 pub fn store_need(offices: u32, own: u32, plots: u32) -> Written
-    ensures { NeedPromise offices own plots (replyOf result) }
+    ensures { NeedPromise offices own plots (reply_of result) }
 {
     if !store::layout::settings_ok(offices, own, plots) {
         return Written::NotWritten(Refusal::Settings);

@@ -1,6 +1,6 @@
 // What is current on a plot as a number: its id, or 256 for none; and what a session notes of it.
 ghost use Rattle.std.specs.Prelude.{◌≡◌, length};
-ghost use Rattle.office.specs.Decide.{placeNumber, foundIn, Reaches, notedSeen};
+ghost use Rattle.office.specs.Decide.{place_number, found_in, Reaches, noted_seen};
 
 use store::current::Place;
 
@@ -12,7 +12,7 @@ pub struct Seen {
 }
 
 pub fn place_number(place: Place) -> usize
-    ensures { result ≡ placeNumber place }
+    ensures { result ≡ place_number place }
 {
     match place {
         Place::At(k) => k,
@@ -23,7 +23,7 @@ pub fn place_number(place: Place) -> usize
 // The clock joins that of entry k, which is read.
 pub fn note(store: &[u32], k: usize, seen: Seen) -> Seen
     requires { Reaches (length store.now) k }
-    ensures { result ≡ notedSeen (foundIn store.now k) seen }
+    ensures { result ≡ noted_seen (found_in store.now k) seen }
 {
     if k >= 256 {
         return seen;

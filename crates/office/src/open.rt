@@ -1,6 +1,6 @@
 // To open an office, and fresh sessions.
 ghost use Rattle.std.specs.Prelude.{◌≡◌};
-ghost use Rattle.frame.specs.Sessions.{sessionOf, freshContent};
+ghost use Rattle.frame.specs.Sessions.{session_of, fresh_content};
 ghost use Rattle.office.specs.Promises.{FreshPromise, OpenPromise};
 ghost use Rattle.frame.specs.Refusals.{code_of};
 
@@ -29,7 +29,7 @@ pub struct Fresh {
 
 // A session of so many offices that has read and written nothing.
 fn blank(offices: u32) -> Session
-    ensures { result ≡ sessionOf (freshContent offices) }
+    ensures { result ≡ session_of (fresh_content offices) }
 {
     let mut session = frame::session::blank_session();
     session.offices = offices;

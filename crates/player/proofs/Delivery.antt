@@ -6,22 +6,22 @@ use native.Mathlib.Omega.{arith}
 use lib.ListN.{drop, length, take}
 use lib.Seq.{drop-drop, sets, sets-eq}
 use Rattle.causal.specs.Lists.{part}
-use Rattle.causal.proofs.Lists.{part_length, part-sets-whole}
-use Rattle.player.specs.Desks.{Cut, frameLen, start_of}
+use Rattle.causal.proofs.Lists.{part_length, part_sets_whole}
+use Rattle.player.specs.Desks.{Cut, frame_len, start_of}
 
 -- what push_frames asks
 module _ (out : List ℕ) (words m n : ℕ) (C : Cut out words n) (k : m ≡ n) (room : words ≤ length out) where
-  pub frames-room : start_of out m ≤ length out
-  frames-room = omega (arith, ap (start_of out) k ∙ C.whole)
+  pub frames_room : start_of out m ≤ length out
+  frames_room = omega (arith, ap (start_of out) k ∙ C.whole)
 
-  pub frames-short : (j : ℕ) → j < m → frameLen out j ≤ 103
-  frames-short j h = C.short j (omega arith)
+  pub frames_short : (j : ℕ) → j < m → frame_len out j ≤ 103
+  frames_short j h = C.short j (omega arith)
 
 -- ---- a part that was lent, and came back
 
-pub lent-part : (ws : List ℕ) (a n : ℕ) → take (a + n - a) (drop a ws) ≡ part ws a n
+pub lent_part : (ws : List ℕ) (a n : ℕ) → take (a + n - a) (drop a ws) ≡ part ws a n
 unfolding part
-lent-part ws a n = let e : a + n - a ≡ n = omega arith in ap (λ (x : ℕ). take x (drop a ws)) e
+lent_part ws a n = let e : a + n - a ≡ n = omega arith in ap (λ (x : ℕ). take x (drop a ws)) e
 
 pub put_back : (ws new : List ℕ) (a n : ℕ) → a + n ≤ length ws → length new ≡ n → take a ws ++ (new ++ drop (a + n - a) (drop a ws)) ≡ sets ws a new
 put_back ws new a n h e =
@@ -47,4 +47,4 @@ module _ (stores W new : List ℕ) (a : ℕ) (e : W ≡ part stores a 1747) wher
       put = put_back stores new a 1747 h size
 
       back : part left a 1747 ≡ new
-      back = (λ i. part (put i) a (sym size i)) ∙ part-sets-whole stores a new (omega (arith, size))
+      back = (λ i. part (put i) a (sym size i)) ∙ part_sets_whole stores a new (omega (arith, size))

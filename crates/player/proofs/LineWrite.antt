@@ -8,10 +8,10 @@ use lib.ListN.{drop, get_or, length, set}
 use lib.Seq.{length-sets, set-get_or, sets}
 use Rattle.causal.specs.Lists.{part}
 use Rattle.causal.proofs.Lists.{part_length}
-use Rattle.causal.proofs.Tests.{false-true}
+use Rattle.causal.proofs.Tests.{false_true}
 use Rattle.frame.specs.Calls.{laid}
 use Rattle.frame.specs.Refusals.{number_of}
-use Rattle.frame.specs.Sessions.{contentOf}
+use Rattle.frame.specs.Sessions.{content_of}
 use Rattle.frame.specs.Tokens.{rows_of}
 use Rattle.frame.specs.declared.entry.Entry.{Entry}
 use Rattle.frame.specs.declared.entry.Frame.{Frame}
@@ -19,12 +19,12 @@ use Rattle.frame.specs.declared.refusal.Refusal.{Refusal}
 use Rattle.frame.specs.declared.refusal.Written.{Written}
 use Rattle.frame.specs.declared.refusal.Written.TheVariants.{NotWritten, Words}
 use Rattle.frame.specs.declared.session.Session.{Session}
-use Rattle.frame.proofs.OwnTurns.{count-is}
-use Rattle.store.specs.Offices.{officeOf}
-use Rattle.office.specs.Answers.{extended_by, madeBy}
-use Rattle.office.specs.Calls.{Result, newEntry, write, writeSends}
+use Rattle.frame.proofs.OwnTurns.{count_is}
+use Rattle.store.specs.Offices.{office_of}
+use Rattle.office.specs.Answers.{extended_by, made_by}
+use Rattle.office.specs.Calls.{Result, new_entry, write, write_sends}
 use Rattle.office.specs.Promises.{MakePromise}
-use Rattle.office.proofs.Refused.{write-words-refused}
+use Rattle.office.proofs.Refused.{write_words_refused}
 use Rattle.ring.specs.Run.{next_of}
 use Rattle.script.specs.declared.line.Line.{Line}
 use Rattle.script.specs.declared.line.Line.TheVariants.{Write}
@@ -34,57 +34,57 @@ use Rattle.player.specs.declared.ahead.Ahead.{Ahead}
 use Rattle.player.specs.declared.ahead.Ahead.TheVariants.{Full as AheadFull, Goes, Refused as AheadRefused}
 use Rattle.player.specs.declared.board.Board.{Board}
 use Rattle.player.specs.declared.board.WriteTurn.{WriteTurn}
-use Rattle.player.specs.Desks.{Cut, Desk, countAt, desk, first_at, noSession, placeAt, pushed, sessionAt, withFrames, withSession}
-use Rattle.player.specs.Play.{Scene, wroteReply}
+use Rattle.player.specs.Desks.{Cut, Desk, count_at, desk, first_at, no_session, place_at, pushed, session_at, with_frames, with_session}
+use Rattle.player.specs.Play.{Scene, wrote_reply}
 use Rattle.player.specs.Shows.{Shows}
 use Rattle.player.specs.Steps.{Foretells, Plays}
 use Rattle.player.proofs.Accepted.{Writes, writes}
-use Rattle.player.proofs.Contents.{wroteName, write-reply, write-session, write-size}
-use Rattle.player.proofs.PlayWrite.{Sends, write_done, write-full, write-refused}
-use Rattle.player.proofs.Refusals.{not_written, refused_as, words-code}
-use Rattle.player.proofs.Room.{cut-rows}
+use Rattle.player.proofs.Contents.{wrote_name, write_reply, write_session, write_size}
+use Rattle.player.proofs.PlayWrite.{Sends, write_done, write_full, write_refused}
+use Rattle.player.proofs.Refusals.{not_written, refused_as, words_code}
+use Rattle.player.proofs.Room.{cut_rows}
 use Rattle.player.proofs.Scenes.{store_same}
 
 -- a session put where it stands already
-pub same-desk : (ss : List Session) (i : ℕ) (s : Session) (b : Board) → get_or ss i noSession ≡ s → desk ss b ≡ desk (set ss i s) b
-same-desk ss i s b e = ap (λ (l : List Session). desk l b) (sym (set-get_or ss i noSession)) ∙ ap (λ (x : Session). desk (set ss i x) b) e
+pub same_desk : (ss : List Session) (i : ℕ) (s : Session) (b : Board) → get_or ss i no_session ≡ s → desk ss b ≡ desk (set ss i s) b
+same_desk ss i s b e = ap (λ (l : List Session). desk l b) (sym (set-get_or ss i no_session)) ∙ ap (λ (x : Session). desk (set ss i x) b) e
 
 -- a turn that was not done
 pub undone : (row : List ℕ) (g : Scene) (line : Line) (ss : List Session) (i : ℕ) (s : Session) (b : Board) (r : WriteTurn) (reply : Reply) (stores lines : List ℕ)
-    → get_or ss i noSession ≡ s → (r.board ≡ b) × (r.done ≡ false) × (r.reply ≡ reply) → Plays row g line (record { desk = desk ss b; reply = reply }) stores lines
+    → get_or ss i no_session ≡ s → (r.board ≡ b) × (r.done ≡ false) × (r.reply ≡ reply) → Plays row g line (record { desk = desk ss b; reply = reply }) stores lines
     → Plays row g line (record { desk = desk (set ss i (cond r.done (extended_by s r.entry) s)) r.board; reply = r.reply }) stores lines
 undone row g line ss i s b r reply stores lines q e P =
     subst (λ (x : Desk × Reply). Plays row g line (record { desk = x.0; reply = x.1 }) stores lines)
-    (λ j. ((same-desk ss i s b q ∙ (λ j. desk (set ss i (cond (sym e.1 j) (extended_by s r.entry) s)) (sym e.0 j))) j, sym e.2 j)) P
+    (λ j. ((same_desk ss i s b q ∙ (λ j. desk (set ss i (cond (sym e.1 j) (extended_by s r.entry) s)) (sym e.0 j))) j, sym e.2 j)) P
 
 pub not_more : (r : WriteTurn) (s : Session) → r.done ≡ false → r.done ≡ true → s.count < 16
-not_more r s e h = absurd (false-true {A = ⊥} (sym e ∙ h))
+not_more r s e h = absurd (false_true {A = ⊥} (sym e ∙ h))
 
-module _ (g : Scene) (d : Desk) (stores lines : List ℕ) (S : Shows g d stores lines) (i : ℕ) (il : i < 4) (s : Session) (own : sessionAt d i ≡ s) (plot value : ℕ) (row : List ℕ) (next : ℕ) (e : next ≡ next_of 3 (placeAt d i)) where
+module _ (g : Scene) (d : Desk) (stores lines : List ℕ) (S : Shows g d stores lines) (i : ℕ) (il : i < 4) (s : Session) (own : session_at d i ≡ s) (plot value : ℕ) (row : List ℕ) (next : ℕ) (e : next ≡ next_of 3 (place_at d i)) where
   abbrev ws : List ℕ
-  ws = part stores (1747 * placeAt d i) 1747
+  ws = part stores (1747 * place_at d i) 1747
 
   abbrev R : Result (List ℕ) (List ℕ)
-  R = write ws (contentOf s) plot value row
+  R = write ws (content_of s) plot value row
 
   abbrev fs : List Frame
-  fs = writeSends (officeOf ws) (contentOf s) plot value
+  fs = write_sends (office_of ws) (content_of s) plot value
 
-  ol : placeAt d i < 3
+  ol : place_at d i < 3
   ol = S.placed i il
 
-  same : write ws (contentOf (sessionAt d i)) plot value row ≡ R
-  same = ap (λ (x : Session). write ws (contentOf x) plot value row) own
+  same : write ws (content_of (session_at d i)) plot value row ≡ R
+  same = ap (λ (x : Session). write ws (content_of x) plot value row) own
 
   size : length s.own ≡ 16
   size = ap (λ (x : Session). length x.own) (sym own) ∙ (S.session i il).size
 
-  facts : R.code ≡ 0 → Writes ws (contentOf s) plot value row fs
+  facts : R.code ≡ 0 → Writes ws (content_of s) plot value row fs
   facts =
-      writes ws (ap (λ (l : List ℕ). get_or l 0 0) (S.store (placeAt d i) ol) ∙ S.offices (placeAt d i) ol) (ap (λ (l : List ℕ). get_or l 2 0) (S.store (placeAt d i) ol) ∙ S.plots (placeAt d i) ol)
-      (contentOf s) plot value row
+      writes ws (ap (λ (l : List ℕ). get_or l 0 0) (S.store (place_at d i) ol) ∙ S.offices (place_at d i) ol) (ap (λ (l : List ℕ). get_or l 2 0) (S.store (place_at d i) ol) ∙ S.plots (place_at d i) ol)
+      (content_of s) plot value row
 
-  sends : R.code ≡ 0 → Sends (write ws (contentOf (sessionAt d i)) plot value row) row fs
+  sends : R.code ≡ 0 → Sends (write ws (content_of (session_at d i)) plot value row) row fs
   unfolding laid
   sends z =
       let F = facts z in
@@ -92,80 +92,80 @@ module _ (g : Scene) (d : Desk) (stores lines : List ℕ) (S : Shows g d stores 
       (record { sent = F.sent; left = F.left; fit = F.fit; offices = F.offices; plots = F.plots })
 
   refused : (c : ℕ) → R.code ≡ suc c → Plays row g (Write i plot value) (record { desk = d; reply = Refused (suc c) }) stores lines
-  refused c h = write-refused g d stores lines S i il plot value row c (ap (λ (Q : Result (List ℕ) (List ℕ)). Q.code) same ∙ h)
+  refused c h = write_refused g d stores lines S i il plot value row c (ap (λ (Q : Result (List ℕ) (List ℕ)). Q.code) same ∙ h)
 
   -- what was said ahead of the call
   module _ (r : Ahead) (A : Foretells R.code (length fs) (get_or d.count next 0) r) where
-    told : (q : Ahead) → r ≡ q → Foretells R.code (length fs) (countAt d (next_of 3 (placeAt d i))) q
+    told : (q : Ahead) → r ≡ q → Foretells R.code (length fs) (count_at d (next_of 3 (place_at d i))) q
     told q h = subst (λ (x : ℕ × Ahead). Foretells R.code (length fs) (get_or d.count x.0 0) x.1) (λ i. (e i, h i)) A
 
-    pub ahead-full : r ≡ AheadFull → Plays row g (Write i plot value) (record { desk = d; reply = Full }) stores lines
-    ahead-full h =
+    pub ahead_full : r ≡ AheadFull → Plays row g (Write i plot value) (record { desk = d; reply = Full }) stores lines
+    ahead_full h =
         let t = told AheadFull h in
-        write-full g d stores lines S i il plot value row (ap (λ (Q : Result (List ℕ) (List ℕ)). Q.code) same ∙ t.0) fs (sends t.0) t.1
+        write_full g d stores lines S i il plot value row (ap (λ (Q : Result (List ℕ) (List ℕ)). Q.code) same ∙ t.0) fs (sends t.0) t.1
 
-    pub ahead-refused : (k : ℕ) → r ≡ AheadRefused k → Plays row g (Write i plot value) (record { desk = d; reply = Refused k }) stores lines
-    ahead-refused zero h = absurd ((told (AheadRefused 0) h).1 refl)
-    ahead-refused (suc c) h = refused c (told (AheadRefused (suc c)) h).0
+    pub ahead_refused : (k : ℕ) → r ≡ AheadRefused k → Plays row g (Write i plot value) (record { desk = d; reply = Refused k }) stores lines
+    ahead_refused zero h = absurd ((told (AheadRefused 0) h).1 refl)
+    ahead_refused (suc c) h = refused c (told (AheadRefused (suc c)) h).0
 
-    pub ahead-goes : r ≡ Goes → R.code ≡ 0 → get_or d.count next 0 + length fs ≤ 32
-    ahead-goes h z = rw e (told Goes h z)
+    pub ahead_goes : r ≡ Goes → R.code ≡ 0 → get_or d.count next 0 + length fs ≤ 32
+    ahead_goes h z = rw e (told Goes h z)
 
-  module _ (written : Written) (entry : Entry) (stores' row' : List ℕ) (A : MakePromise ws s plot value row written entry (part stores' (1747 * placeAt d i) 1747) row')
-      (left : stores' ≡ sets stores (1747 * placeAt d i) (part stores' (1747 * placeAt d i) 1747)) where
-    left_is : stores' ≡ sets stores (1747 * placeAt d i) R.store
-    left_is = left ∙ ap (sets stores (1747 * placeAt d i)) A.0.2
+  module _ (written : Written) (entry : Entry) (stores' row' : List ℕ) (A : MakePromise ws s plot value row written entry (part stores' (1747 * place_at d i) 1747) row')
+      (left : stores' ≡ sets stores (1747 * place_at d i) (part stores' (1747 * place_at d i) 1747)) where
+    left_is : stores' ≡ sets stores (1747 * place_at d i) R.store
+    left_is = left ∙ ap (sets stores (1747 * place_at d i)) A.0.2
 
     pub line_refused : (x : Refusal) (k : ℕ) → written ≡ NotWritten x → k ≡ number_of x → Plays row g (Write i plot value) (record { desk = d; reply = Refused k }) stores' lines
     line_refused x k w h =
         refused_as (λ n. Plays row g (Write i plot value) (record { desk = d; reply = Refused n }) stores' lines) R.code
         (λ c q.
         subst (λ (l : List ℕ). Plays row g (Write i plot value) (record { desk = d; reply = Refused (suc c) }) l lines)
-        (sym (left_is ∙ ap (sets stores (1747 * placeAt d i)) (write-words-refused ws (contentOf s) plot value row (λ (z : R.code ≡ 0). omega arith)).store ∙ store_same stores (1747 * placeAt d i) 1747 (omega (arith, ol, S.long-stores))))
+        (sym (left_is ∙ ap (sets stores (1747 * place_at d i)) (write_words_refused ws (content_of s) plot value row (λ (z : R.code ≡ 0). omega arith)).store ∙ store_same stores (1747 * place_at d i) 1747 (omega (arith, ol, S.long_stores))))
         (refused c q))
         k x h (not_written written x _ A.0.0 w)
 
     module _ (words : ℕ) (w : written ≡ Words words) where
       pub code : R.code ≡ 0
-      code = (words-code written words _ A.0.0 w).0
+      code = (words_code written words _ A.0.0 w).0
 
       words_are : words ≡ length (rows_of fs)
-      words_are = (words-code written words _ A.0.0 w).1 ∙ (facts code).count
+      words_are = (words_code written words _ A.0.0 w).1 ∙ (facts code).count
 
       pub cut : Cut row' words (length fs)
       unfolding laid
-      cut = rw (words_are, A.0.3 ∙ (facts code).left) (cut-rows fs (facts code).fit (drop (length (rows_of fs)) row))
+      cut = rw (words_are, A.0.3 ∙ (facts code).left) (cut_rows fs (facts code).fit (drop (length (rows_of fs)) row))
 
       pub small : words ≤ length row
       small = omega (arith, words_are, (facts code).room)
 
       pub few : s.count < 16
-      few = omega (arith, count-is s, (facts code).few)
+      few = omega (arith, count_is s, (facts code).few)
 
-      made : entry ≡ newEntry (officeOf ws) (contentOf s) plot value
-      unfolding madeBy
-      made = A.1 ∙ ap (λ (c : ℕ). madeBy c (newEntry (officeOf ws) (contentOf s) plot value)) code
+      made : entry ≡ new_entry (office_of ws) (content_of s) plot value
+      unfolding made_by
+      made = A.1 ∙ ap (λ (c : ℕ). made_by c (new_entry (office_of ws) (content_of s) plot value)) code
 
       stored : length R.store ≡ 1747
       stored =
           ap length (sym A.0.2)
-          ∙ part_length stores' (1747 * placeAt d i) 1747 (omega (arith, ol, S.long-stores, ap length left ∙ length-sets stores (1747 * placeAt d i) (part stores' (1747 * placeAt d i) 1747)))
+          ∙ part_length stores' (1747 * place_at d i) 1747 (omega (arith, ol, S.long_stores, ap length left ∙ length-sets stores (1747 * place_at d i) (part stores' (1747 * place_at d i) 1747)))
 
-      pub line-done : get_or d.count next 0 + length fs ≤ 32 → (d' : Desk) (lines' : List ℕ) → d' ≡ withFrames d next (length fs)
-          → lines' ≡ pushed lines next (first_at d next + countAt d next) row' (length fs)
-          → Plays row g (Write i plot value) (record { desk = withSession d' i (extended_by s entry); reply = wroteName entry }) stores' lines'
-      line-done l d' lines' a b =
+      pub line_done : get_or d.count next 0 + length fs ≤ 32 → (d' : Desk) (lines' : List ℕ) → d' ≡ with_frames d next (length fs)
+          → lines' ≡ pushed lines next (first_at d next + count_at d next) row' (length fs)
+          → Plays row g (Write i plot value) (record { desk = with_session d' i (extended_by s entry); reply = wrote_name entry }) stores' lines'
+      line_done l d' lines' a b =
           subst (λ (x : (Desk × Reply) × (List ℕ × List ℕ)). Plays row g (Write i plot value) (record { desk = x.0.0; reply = x.0.1 }) x.1.0 x.1.1)
           (λ j. (
-            (withSession (sym (a ∙ ap (λ (x : ℕ). withFrames d x (length fs)) e) j) i (extended_by s (sym made j)), (ap (λ (Q : Result (List ℕ) (List ℕ)). wroteReply Q.session.own) same ∙ write-reply ws s size plot value row code ∙ ap wroteName (sym made)) j),
+            (with_session (sym (a ∙ ap (λ (x : ℕ). with_frames d x (length fs)) e) j) i (extended_by s (sym made j)), (ap (λ (Q : Result (List ℕ) (List ℕ)). wrote_reply Q.session.own) same ∙ write_reply ws s size plot value row code ∙ ap wrote_name (sym made)) j),
             (
-              (ap (λ (Q : Result (List ℕ) (List ℕ)). sets stores (1747 * placeAt d i) Q.store) same ∙ sym left_is) j,
-              (ap (λ (Q : Result (List ℕ) (List ℕ)). onto (next_of 3 (placeAt d i)) Q.row) same ∙ (λ k. onto (sym e k) (sym A.0.3 k)) ∙ sym b) j,
+              (ap (λ (Q : Result (List ℕ) (List ℕ)). sets stores (1747 * place_at d i) Q.store) same ∙ sym left_is) j,
+              (ap (λ (Q : Result (List ℕ) (List ℕ)). onto (next_of 3 (place_at d i)) Q.row) same ∙ (λ k. onto (sym e k) (sym A.0.3 k)) ∙ sym b) j,
             ),
           ))
           (write_done g d stores lines S i il plot value row (ap (λ (Q : Result (List ℕ) (List ℕ)). Q.code) same ∙ code) fs (sends code) (rw e at l) (ap (λ (Q : Result (List ℕ) (List ℕ)). length Q.store) same ∙ stored)
-          (extended_by s (newEntry (officeOf ws) (contentOf s) plot value))
-          (ap (λ (Q : Result (List ℕ) (List ℕ)). Q.session) same ∙ write-session ws s size plot value row code (facts code).few) (write-size ws s size (newEntry (officeOf ws) (contentOf s) plot value)))
+          (extended_by s (new_entry (office_of ws) (content_of s) plot value))
+          (ap (λ (Q : Result (List ℕ) (List ℕ)). Q.session) same ∙ write_session ws s size plot value row code (facts code).few) (write_size ws s size (new_entry (office_of ws) (content_of s) plot value)))
         where
           onto : ℕ → List ℕ → List ℕ
-          onto n x = pushed lines n (first_at d n + countAt d n) x (length fs)
+          onto n x = pushed lines n (first_at d n + count_at d n) x (length fs)

@@ -8,28 +8,28 @@ use native.Mathlib.Omega.{arith}
 use lib.ListN.{get_or-append, get_or, length, length-append, take}
 use lib.Seq.{get_or-append_seam, length-sets, sets, take-length, take-suc}
 use Rattle.causal.specs.Lists.{part}
-use Rattle.causal.proofs.Lists.{part-sets-after, part-sets-before, part-sets-whole}
-use Rattle.causal.proofs.Tests.{eq-or-ne, lt-or-le, split}
-use Rattle.frame.specs.Frames.{blankFrame, frameWords}
+use Rattle.causal.proofs.Lists.{part_sets_after, part_sets_before, part_sets_whole}
+use Rattle.causal.proofs.Tests.{eq_or_ne, lt_or_le, split}
+use Rattle.frame.specs.Frames.{blank_frame, frame_words}
 use Rattle.frame.specs.Tokens.{rows_of}
 use Rattle.frame.specs.declared.entry.Frame.{Frame}
-use Rattle.player.specs.Desks.{frameLen, pushed, slot_at, start_of}
+use Rattle.player.specs.Desks.{frame_len, pushed, slot_at, start_of}
 use Rattle.player.specs.Shows.{Queue, row_at}
-use Rattle.player.proofs.Room.{Fit3, at_mem, frame-room, frame-there, frame_at, len-at}
+use Rattle.player.proofs.Room.{Fit3, at_mem, frame_room, frame_there, frame_at, len_at}
 
 -- ---- slots do not meet
 
 pub apart : (lines : List ℕ) (x y n : ℕ) (vs : List ℕ) → (x ≡ y → ⊥) → n ≤ 104 → length vs ≤ 104 → part (sets lines (104 * y) vs) (104 * x) n ≡ part lines (104 * x) n
 apart lines x y n vs ne a b =
-    ⊎_elim (λ (l : x < y). part-sets-before lines (104 * x) n (104 * y) vs (omega arith))
-    (λ (l : y ≤ x). ⊎_elim (λ (e : x ≡ y). absurd (ne e)) (λ (e : x ≡ y → ⊥). part-sets-after lines (104 * x) n (104 * y) vs (omega arith)) (eq-or-ne x y)) (lt-or-le x y)
+    ⊎_elim (λ (l : x < y). part_sets_before lines (104 * x) n (104 * y) vs (omega arith))
+    (λ (l : y ≤ x). ⊎_elim (λ (e : x ≡ y). absurd (ne e)) (λ (e : x ≡ y → ⊥). part_sets_after lines (104 * x) n (104 * y) vs (omega arith)) (eq_or_ne x y)) (lt_or_le x y)
 
 -- ---- one frame more
 
 module _ (lines : List ℕ) (long : length lines ≡ 9984) (f : List ℕ) (short : length f ≤ 103) where
-  push-queue : (o first count : ℕ) (rows : List (List ℕ)) → o < 3 → Queue lines o first count rows → count < 32 →
+  push_queue : (o first count : ℕ) (rows : List (List ℕ)) → o < 3 → Queue lines o first count rows → count < 32 →
       Queue (sets lines (slot_at o ((first + count) % 32)) (length f ∷ f)) o first (count + 1) (rows ++ (f ∷ []))
-  push-queue o first count rows ol Q l =
+  push_queue o first count rows ol Q l =
       record {
         start = Q.start;
         counted = omega (arith, length-append rows (f ∷ []), Q.counted);
@@ -54,10 +54,10 @@ module _ (lines : List ℕ) (long : length lines ≡ 9984) (f : List ℕ) (short
       here : (j : ℕ) → j ≡ count → part (sets lines (slot_at o ((first + count) % 32)) (length f ∷ f)) (slot_at o ((first + j) % 32)) (suc (length f)) ≡ length f ∷ f
       here j e =
           ap (λ (x : ℕ). part (sets lines (slot_at o ((first + count) % 32)) (length f ∷ f)) (slot_at o ((first + x) % 32)) (suc (length f))) e
-          ∙ part-sets-whole lines (slot_at o ((first + count) % 32)) (length f ∷ f) (omega arith)
+          ∙ part_sets_whole lines (slot_at o ((first + count) % 32)) (length f ∷ f) (omega arith)
 
-  pub push-other : (o q o' first count : ℕ) (rows : List (List ℕ)) → q < 32 → (o' ≡ o → ⊥) → Queue lines o' first count rows → Queue (sets lines (slot_at o q) (length f ∷ f)) o' first count rows
-  push-other o q o' first count rows ql ne Q =
+  pub push_other : (o q o' first count : ℕ) (rows : List (List ℕ)) → q < 32 → (o' ≡ o → ⊥) → Queue lines o' first count rows → Queue (sets lines (slot_at o q) (length f ∷ f)) o' first count rows
+  push_other o q o' first count rows ql ne Q =
       record {
         start = Q.start;
         counted = Q.counted;
@@ -77,76 +77,76 @@ map_at h [] k a b l = absurd (omega arith)
 map_at h (x ∷ xs) zero a b l = refl
 map_at h (x ∷ xs) (suc k) a b l = map_at h xs k a b (omega arith)
 
-length-map : {A B : Type 0} (f : A → B) (l : List A) → length (map f l) ≡ length l
-length-map f [] = refl
-length-map f (x ∷ l) = ap suc (length-map f l)
+length_map : {A B : Type 0} (f : A → B) (l : List A) → length (map f l) ≡ length l
+length_map f [] = refl
+length_map f (x ∷ l) = ap suc (length_map f l)
 
-pub pushed-length : (lines : List ℕ) (o q : ℕ) (row : List ℕ) (n : ℕ) → length (pushed lines o q row n) ≡ length lines
+pub pushed_length : (lines : List ℕ) (o q : ℕ) (row : List ℕ) (n : ℕ) → length (pushed lines o q row n) ≡ length lines
 unfolding pushed
-pushed-length lines o q row zero = refl
-pushed-length lines o q row (suc n) =
-    length-sets (pushed lines o q row n) (slot_at o ((q + n) % 32)) (frameLen row n ∷ part row (start_of row n) (frameLen row n)) ∙ pushed-length lines o q row n
+pushed_length lines o q row zero = refl
+pushed_length lines o q row (suc n) =
+    length-sets (pushed lines o q row n) (slot_at o ((q + n) % 32)) (frame_len row n ∷ part row (start_of row n) (frame_len row n)) ∙ pushed_length lines o q row n
 
 module _ (lines : List ℕ) (long : length lines ≡ 9984) (fs : List Frame) (fit : (f : Frame) → Memᴰ f fs → Fit3 f) (rest : List ℕ) where
   -- one more
   more : (o q n : ℕ) → n < length fs →
-      pushed lines o q (rows_of fs ++ rest) (suc n) ≡ sets (pushed lines o q (rows_of fs ++ rest) n) (slot_at o ((q + n) % 32)) (length (frameWords (frame_at fs n)) ∷ frameWords (frame_at fs n))
+      pushed lines o q (rows_of fs ++ rest) (suc n) ≡ sets (pushed lines o q (rows_of fs ++ rest) n) (slot_at o ((q + n) % 32)) (length (frame_words (frame_at fs n)) ∷ frame_words (frame_at fs n))
   unfolding pushed
   more o q n h =
-      λ i. sets (pushed lines o q (rows_of fs ++ rest) n) (slot_at o ((q + n) % 32)) (len-at fs fit rest n h i ∷ frame-there fs fit rest n h i)
+      λ i. sets (pushed lines o q (rows_of fs ++ rest) n) (slot_at o ((q + n) % 32)) (len_at fs fit rest n h i ∷ frame_there fs fit rest n h i)
 
-  room : (n : ℕ) → n < length fs → length (frameWords (frame_at fs n)) ≤ 103
-  room n h = frame-room (frame_at fs n) (fit (frame_at fs n) (at_mem fs n blankFrame h))
+  room : (n : ℕ) → n < length fs → length (frame_words (frame_at fs n)) ≤ 103
+  room n h = frame_room (frame_at fs n) (fit (frame_at fs n) (at_mem fs n blank_frame h))
 
-  push-all : (o first count : ℕ) (rows : List (List ℕ)) → o < 3 → Queue lines o first count rows → (n : ℕ) → n ≤ length fs → count + n ≤ 32 →
-      Queue (pushed lines o (first + count) (rows_of fs ++ rest) n) o first (count + n) (rows ++ take n (map frameWords fs))
+  push_all : (o first count : ℕ) (rows : List (List ℕ)) → o < 3 → Queue lines o first count rows → (n : ℕ) → n ≤ length fs → count + n ≤ 32 →
+      Queue (pushed lines o (first + count) (rows_of fs ++ rest) n) o first (count + n) (rows ++ take n (map frame_words fs))
   unfolding pushed
-  push-all o first count rows ol Q zero h l = rw (add-zero count, append-nil rows) Q
-  push-all o first count rows ol Q (suc n) h l =
-      let P = push-queue (pushed lines o (first + count) (rows_of fs ++ rest) n) (pushed-length lines o (first + count) (rows_of fs ++ rest) n ∙ long)
-      (frameWords (frame_at fs n)) (room n (omega arith)) o first (count + n) (rows ++ take n (map frameWords fs)) ol (push-all o first count rows ol Q n (omega arith) (omega arith)) (omega arith) in
+  push_all o first count rows ol Q zero h l = rw (add-zero count, append-nil rows) Q
+  push_all o first count rows ol Q (suc n) h l =
+      let P = push_queue (pushed lines o (first + count) (rows_of fs ++ rest) n) (pushed_length lines o (first + count) (rows_of fs ++ rest) n ∙ long)
+      (frame_words (frame_at fs n)) (room n (omega arith)) o first (count + n) (rows ++ take n (map frame_words fs)) ol (push_all o first count rows ol Q n (omega arith) (omega arith)) (omega arith) in
       subst (λ (x : List ℕ × (ℕ × List (List ℕ))). Queue x.0 o first x.1.0 x.1.1) ends P
     where
-      e-slot : (first + (count + n)) % 32 ≡ (first + count + n) % 32
-      e-slot = ap (λ (x : ℕ). x % 32) (sym (add_assoc first count n))
+      e_slot : (first + (count + n)) % 32 ≡ (first + count + n) % 32
+      e_slot = ap (λ (x : ℕ). x % 32) (sym (add_assoc first count n))
 
-      e-count : count + n + 1 ≡ count + suc n
-      e-count = omega arith
+      e_count : count + n + 1 ≡ count + suc n
+      e_count = omega arith
 
-      e-rows : (rows ++ take n (map frameWords fs)) ++ (frameWords (frame_at fs n) ∷ []) ≡ rows ++ take (suc n) (map frameWords fs)
-      e-rows =
-          append_assoc rows (take n (map frameWords fs)) (frameWords (frame_at fs n) ∷ [])
+      e_rows : (rows ++ take n (map frame_words fs)) ++ (frame_words (frame_at fs n) ∷ []) ≡ rows ++ take (suc n) (map frame_words fs)
+      e_rows =
+          append_assoc rows (take n (map frame_words fs)) (frame_words (frame_at fs n) ∷ [])
           ∙ ap (λ (l : List (List ℕ)). rows ++ l)
-          (ap (λ (x : List ℕ). take n (map frameWords fs) ++ (x ∷ [])) (sym (map_at frameWords fs n blankFrame [] (omega arith)))
-          ∙ sym (take-suc (map frameWords fs) n [] (omega (arith, length-map frameWords fs))))
+          (ap (λ (x : List ℕ). take n (map frame_words fs) ++ (x ∷ [])) (sym (map_at frame_words fs n blank_frame [] (omega arith)))
+          ∙ sym (take-suc (map frame_words fs) n [] (omega (arith, length_map frame_words fs))))
 
       ends : ◌≡◌ {A = List ℕ × (ℕ × List (List ℕ))}
-          (sets (pushed lines o (first + count) (rows_of fs ++ rest) n) (slot_at o ((first + (count + n)) % 32)) (length (frameWords (frame_at fs n)) ∷ frameWords (frame_at fs n)), (count + n + 1, (rows ++ take n (map frameWords fs)) ++ (frameWords (frame_at fs n) ∷ [])))
-          (pushed lines o (first + count) (rows_of fs ++ rest) (suc n), (count + suc n, rows ++ take (suc n) (map frameWords fs)))
+          (sets (pushed lines o (first + count) (rows_of fs ++ rest) n) (slot_at o ((first + (count + n)) % 32)) (length (frame_words (frame_at fs n)) ∷ frame_words (frame_at fs n)), (count + n + 1, (rows ++ take n (map frame_words fs)) ++ (frame_words (frame_at fs n) ∷ [])))
+          (pushed lines o (first + count) (rows_of fs ++ rest) (suc n), (count + suc n, rows ++ take (suc n) (map frame_words fs)))
       ends =
           λ i. (
-            (ap (λ (x : ℕ). sets (pushed lines o (first + count) (rows_of fs ++ rest) n) (slot_at o x) (length (frameWords (frame_at fs n)) ∷ frameWords (frame_at fs n))) e-slot
+            (ap (λ (x : ℕ). sets (pushed lines o (first + count) (rows_of fs ++ rest) n) (slot_at o x) (length (frame_words (frame_at fs n)) ∷ frame_words (frame_at fs n))) e_slot
                 ∙ sym (more o (first + count) n (omega arith)))
                 i,
-            (e-count i, e-rows i),
+            (e_count i, e_rows i),
           )
 
-  pub pushed-queue : (o first count : ℕ) (rows : List (List ℕ)) → o < 3 → Queue lines o first count rows → count + length fs ≤ 32 →
-      Queue (pushed lines o (first + count) (rows_of fs ++ rest) (length fs)) o first (count + length fs) (rows ++ map frameWords fs)
-  pushed-queue o first count rows ol Q l =
-      rw whole at (push-all o first count rows ol Q (length fs) (omega arith) l)
+  pub pushed_queue : (o first count : ℕ) (rows : List (List ℕ)) → o < 3 → Queue lines o first count rows → count + length fs ≤ 32 →
+      Queue (pushed lines o (first + count) (rows_of fs ++ rest) (length fs)) o first (count + length fs) (rows ++ map frame_words fs)
+  pushed_queue o first count rows ol Q l =
+      rw whole at (push_all o first count rows ol Q (length fs) (omega arith) l)
     where
-      whole : take (length fs) (map frameWords fs) ≡ map frameWords fs
-      whole = ap (λ (x : ℕ). take x (map frameWords fs)) (sym (length-map frameWords fs)) ∙ take-length (map frameWords fs)
+      whole : take (length fs) (map frame_words fs) ≡ map frame_words fs
+      whole = ap (λ (x : ℕ). take x (map frame_words fs)) (sym (length_map frame_words fs)) ∙ take-length (map frame_words fs)
 
-  pub pushed-other : (o q o' first count : ℕ) (rows : List (List ℕ)) → (o' ≡ o → ⊥) → Queue lines o' first count rows → (n : ℕ) → n ≤ length fs →
+  pub pushed_other : (o q o' first count : ℕ) (rows : List (List ℕ)) → (o' ≡ o → ⊥) → Queue lines o' first count rows → (n : ℕ) → n ≤ length fs →
       Queue (pushed lines o q (rows_of fs ++ rest) n) o' first count rows
   unfolding pushed
-  pushed-other o q o' first count rows ne Q zero h = Q
-  pushed-other o q o' first count rows ne Q (suc n) h =
+  pushed_other o q o' first count rows ne Q zero h = Q
+  pushed_other o q o' first count rows ne Q (suc n) h =
       subst (λ (x : List ℕ). Queue x o' first count rows) (sym (more o q n (omega arith)))
-      (push-other (pushed lines o q (rows_of fs ++ rest) n) (pushed-length lines o q (rows_of fs ++ rest) n ∙ long) (frameWords (frame_at fs n)) (room n (omega arith)) o ((q + n) % 32) o' first count rows
-      (omega arith) ne (pushed-other o q o' first count rows ne Q n (omega arith)))
+      (push_other (pushed lines o q (rows_of fs ++ rest) n) (pushed_length lines o q (rows_of fs ++ rest) n ∙ long) (frame_words (frame_at fs n)) (room n (omega arith)) o ((q + n) % 32) o' first count rows
+      (omega arith) ne (pushed_other o q o' first count rows ne Q n (omega arith)))
 
 -- ---- the oldest taken
 

@@ -1,10 +1,10 @@
 -- When the player's desk and buffers show a scene. Assumes nothing.
 use Rattle.std.specs.Prelude.{ℕ, suc, ◌%◌, ◌*◌, ◌+◌, ◌<◌, ◌≤◌, List, [], ◌∷◌, ◌≡◌, get_or, length}
 use Rattle.causal.specs.Lists.{part}
-use Rattle.frame.specs.Sessions.{contentOf}
+use Rattle.frame.specs.Sessions.{content_of}
 use Rattle.frame.specs.declared.session.Session.{Session}
 use Rattle.ring.specs.Run.{Tracked, at}
-use Rattle.player.specs.Desks.{Desk, countAt, first_at, placeAt, sessionAt, slot_at}
+use Rattle.player.specs.Desks.{Desk, count_at, first_at, place_at, session_at, slot_at}
 use Rattle.player.specs.Play.{Scene}
 
 abbrev pub row_at : List (List ℕ) → ℕ → List ℕ
@@ -22,30 +22,30 @@ pub record Queue (lines : List ℕ) (o first count : ℕ) (rows : List (List ℕ
 pub record Session-is (rs : List Tracked) (s : Session) : Type 0 where
   pub tracked : Tracked
   pub found : rs ≡ tracked ∷ []
-  pub content : tracked.session ≡ contentOf s
+  pub content : tracked.session ≡ content_of s
   pub size : length s.own ≡ 16
 
 pub record Shows (g : Scene) (d : Desk) (stores lines : List ℕ) : Type 0 where
   -- as long as the struct and the buffers are
   pub four : length d.sessions ≡ 4
-  pub four-places : length d.place ≡ 4
+  pub four_places : length d.place ≡ 4
   pub three : length d.first ≡ 3
-  pub three-counts : length d.count ≡ 3
-  pub long-stores : length stores ≡ 5241
-  pub long-lines : length lines ≡ 9984
+  pub three_counts : length d.count ≡ 3
+  pub long_stores : length stores ≡ 5241
+  pub long_lines : length lines ≡ 9984
   -- the stores, of a ring of three with 64 plots
   pub store : (o : ℕ) → o < 3 → part stores (1747 * o) 1747 ≡ g.ring.stores o
   pub offices : (o : ℕ) → o < 3 → get_or (g.ring.stores o) 0 0 ≡ 3
   pub plots : (o : ℕ) → o < 3 → get_or (g.ring.stores o) 2 0 ≡ 64
-  pub line : (o : ℕ) → o < 3 → Queue lines o (first_at d o) (countAt d o) (g.ring.lines o)
-  pub session : (i : ℕ) → i < 4 → Session-is (at g.ring.sessions i) (sessionAt d i)
+  pub line : (o : ℕ) → o < 3 → Queue lines o (first_at d o) (count_at d o) (g.ring.lines o)
+  pub session : (i : ℕ) → i < 4 → Session-is (at g.ring.sessions i) (session_at d i)
   pub place : g.place ≡ d.place
-  pub placed : (i : ℕ) → i < 4 → placeAt d i < 3
+  pub placed : (i : ℕ) → i < 4 → place_at d i < 3
 
 -- some scene is shown
 abbrev pub Shown : Desk → List ℕ → List ℕ → Type 0
 Shown d stores lines = (g : Scene) × Shows g d stores lines
 
 -- the stores of the offices in the buffer of all
-abbrev pub storesIn : List ℕ → ℕ → List ℕ
-storesIn stores o = part stores (1747 * o) 1747
+abbrev pub stores_in : List ℕ → ℕ → List ℕ
+stores_in stores o = part stores (1747 * o) 1747

@@ -18,9 +18,9 @@ Foretells code sent waiting Goes = code ≡ 0 → waiting + sent ≤ 32
 Foretells code sent waiting Full = (code ≡ 0) × (32 < waiting + sent)
 Foretells code sent waiting (Refused k) = (code ≡ k) × (k ≡ 0 → ⊥)
 
-abbrev pub entryReply : Bool → Entry → Reply
-entryReply true e = FoundEntry e.value e.office e.serial
-entryReply false e = NoEntry
+abbrev pub entry_reply : Bool → Entry → Reply
+entry_reply true e = FoundEntry e.value e.office e.serial
+entry_reply false e = NoEntry
 
 -- the line, where no session plays it
 abbrev pub sessionless : Line → Line

@@ -3,9 +3,9 @@
 ghost use Rattle.std.specs.Prelude.{◌≡◌, List, ℕ, ◌+◌, ◌*◌, ◌<◌, ◌≤◌, get_or, length};
 ghost use Rattle.causal.specs.Lists.{part};
 ghost use Rattle.frame.specs.Frames.{frame_of};
-ghost use Rattle.frame.specs.Sessions.{contentOf};
-ghost use Rattle.store.specs.Offices.{officeOf};
-ghost use Rattle.office.specs.Calls.{receive, receiveSends, write, writeSends};
+ghost use Rattle.frame.specs.Sessions.{content_of};
+ghost use Rattle.store.specs.Offices.{office_of};
+ghost use Rattle.office.specs.Calls.{receive, receive_sends, write, write_sends};
 ghost use Rattle.player.specs.Steps.{Foretells};
 
 use crate::queue::hops_at;
@@ -28,8 +28,8 @@ pub fn write_ahead(
     waiting: usize,
 ) -> Ahead
     requires { (office < 3) × (length stores.now ≡ 5241) × (waiting ≤ 32) × (get_or (part stores.now (1747 * office) 1747) 0 0 ≡ 3) }
-    ensures { (row : List ℕ) → length row ≡ 1751 → Foretells (write (part stores.now (1747 * office) 1747) (contentOf s) plot value row).code
-        (length (writeSends (officeOf (part stores.now (1747 * office) 1747)) (contentOf s) plot value)) waiting result }
+    ensures { (row : List ℕ) → length row ≡ 1751 → Foretells (write (part stores.now (1747 * office) 1747) (content_of s) plot value row).code
+        (length (write_sends (office_of (part stores.now (1747 * office) 1747)) (content_of s) plot value)) waiting result }
 {
     if waiting <= 16 {
         return Ahead::Goes;
@@ -57,7 +57,7 @@ pub fn receive_ahead(
 ) -> Ahead
     requires { (office < 3) × (length stores.now ≡ 5241) × (slot + 104 ≤ length lines.now) × (get_or lines.now slot 0 ≤ 103) × (waiting ≤ 32) }
     ensures { (row : List ℕ) → length row ≡ 1751 → Foretells (receive (part stores.now (1747 * office) 1747) (part lines.now (slot + 1) (get_or lines.now slot 0)) row).code
-        (length (receiveSends (frame_of (part lines.now (slot + 1) (get_or lines.now slot 0))))) waiting result }
+        (length (receive_sends (frame_of (part lines.now (slot + 1) (get_or lines.now slot 0))))) waiting result }
 {
     if waiting < 32 {
         return Ahead::Goes;

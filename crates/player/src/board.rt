@@ -2,7 +2,7 @@
 // are large, and a line changes one of them at most.
 ghost use Rattle.std.specs.Prelude.{◌≡◌, List, ◌+◌, ◌-◌, ◌<◌, ◌≤◌, get_or};
 ghost use Rattle.frame.specs.declared.session.Session.{Session};
-ghost use Rattle.player.specs.Desks.{desk, withFrames, withPlace, withoutOldest};
+ghost use Rattle.player.specs.Desks.{desk, with_frames, with_place, without_oldest};
 
 use frame::entry::Entry;
 use office::note::Seen;
@@ -42,7 +42,7 @@ pub struct WriteTurn {
 
 pub fn with_place(board: Board, i: usize, office: u32) -> Board
     requires { i < 4 }
-    ensures { (ss : List Session) → desk ss result ≡ withPlace (desk ss board) i office }
+    ensures { (ss : List Session) → desk ss result ≡ with_place (desk ss board) i office }
 {
     let mut b = board;
     b.place[i] = office;
@@ -52,7 +52,7 @@ pub fn with_place(board: Board, i: usize, office: u32) -> Board
 // More frames wait at an office.
 pub fn with_frames(board: Board, office: usize, frames: usize) -> Board
     requires { (office < 3) × (get_or board.count office 0 + frames ≤ 32) }
-    ensures { (ss : List Session) → desk ss result ≡ withFrames (desk ss board) office frames }
+    ensures { (ss : List Session) → desk ss result ≡ with_frames (desk ss board) office frames }
 {
     let mut b = board;
     b.count[office] = b.count[office] + frames;
@@ -62,7 +62,7 @@ pub fn with_frames(board: Board, office: usize, frames: usize) -> Board
 // The oldest frame of an office waits no longer.
 pub fn without_oldest(board: Board, office: usize) -> Board
     requires { (office < 3) × (get_or board.first office 0 < 32) × (1 ≤ get_or board.count office 0) }
-    ensures { (ss : List Session) → desk ss result ≡ withoutOldest (desk ss board) office }
+    ensures { (ss : List Session) → desk ss result ≡ without_oldest (desk ss board) office }
 {
     let mut b = board;
     b.first[office] = (b.first[office] + 1) % 32;

@@ -2,10 +2,10 @@
 ghost use Rattle.std.specs.Prelude.{◌≡◌, List, ℕ, ◌*◌, ◌<◌, length};
 ghost use Rattle.std.proofs.lemmas.List.Edits.{sets};
 ghost use Rattle.causal.specs.Lists.{part};
-ghost use Rattle.office.specs.Calls.{openOffice};
+ghost use Rattle.office.specs.Calls.{open_office};
 ghost use Rattle.player.specs.Desks.{desk};
 ghost use Rattle.player.specs.Play.{opening};
-ghost use Rattle.player.specs.Shows.{Shows, storesIn};
+ghost use Rattle.player.specs.Shows.{Shows, stores_in};
 
 use crate::board::Board;
 use frame::session::Session;
@@ -13,7 +13,7 @@ use frame::session::Session;
 // An office opened on its part of the stores.
 fn open_at(stores: &mut [u32], office: u32)
     requires { (office < 3) × (length stores.old ≡ 5241) }
-    ensures { (stores.new ≡ sets stores.old (1747 * office) (openOffice 3 office 64 (part stores.old (1747 * office) 1747)).1) × (length (openOffice 3 office 64 (part stores.old (1747 * office) 1747)).1 ≡ 1747) }
+    ensures { (stores.new ≡ sets stores.old (1747 * office) (open_office 3 office 64 (part stores.old (1747 * office) 1747)).1) × (length (open_office 3 office 64 (part stores.old (1747 * office) 1747)).1 ≡ 1747) }
 {
     let from = 1747 * (office as usize);
     let end = from + 1747;
@@ -29,7 +29,7 @@ pub struct Opened {
 // The whole ring. Nothing waits, so the slots of the lines may hold anything.
 pub fn open_ring(stores: &mut [u32]) -> Opened
     requires { length stores.old ≡ 5241 }
-    ensures { (lines : List ℕ) → length lines ≡ 9984 → Shows (opening (storesIn stores.old)) (desk result.sessions result.board) stores.new lines }
+    ensures { (lines : List ℕ) → length lines ≡ 9984 → Shows (opening (stores_in stores.old)) (desk result.sessions result.board) stores.new lines }
 {
     open_at(&mut *stores, 0);
     open_at(&mut *stores, 1);

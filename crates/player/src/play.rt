@@ -3,13 +3,13 @@ ghost use Rattle.std.specs.Prelude.{◌≡◌, cond, false, true, List, ℕ, ◌
 ghost use Rattle.std.proofs.lemmas.List.Edits.{sets};
 ghost use Rattle.causal.specs.Lists.{part};
 ghost use Rattle.office.specs.Answers.{extended_by};
-ghost use Rattle.reading.specs.Releases.{withRest};
+ghost use Rattle.reading.specs.Releases.{with_rest};
 ghost use Rattle.office.specs.Promises.{MakePromise, ReadPromise, ReceivePromise};
-ghost use Rattle.player.specs.Desks.{Cut, desk, noSession, pushed, withFrames};
+ghost use Rattle.player.specs.Desks.{Cut, desk, no_session, pushed, with_frames};
 ghost use Rattle.player.specs.Play.{Scene};
 ghost use Rattle.player.specs.Shows.{Shown, Shows};
-ghost use Rattle.player.specs.Steps.{Plays, entryReply, sessionless};
-ghost use Rattle.frame.specs.Refusals.{code_of, replyOf};
+ghost use Rattle.player.specs.Steps.{Plays, entry_reply, sessionless};
+ghost use Rattle.frame.specs.Refusals.{code_of, reply_of};
 
 use crate::ahead::{Ahead, receive_ahead, write_ahead};
 use crate::board::{
@@ -27,7 +27,7 @@ use writing::write::Made;
 // The frames that a call left in the first words of `out` go to the line of the next office, which has room for them.
 pub fn deliver(board: Board, next: usize, words: usize, lines: &mut [u32], out: &[u32]) -> Board
     requires { (next < 3) × (get_or board.first next 0 < 32) × (length lines.old ≡ 9984) × (length out.now ≡ 1751) × (words ≤ 1751) × ((n : ℕ) × Cut out.now words n × (get_or board.count next 0 + n ≤ 32)) }
-    ensures { (n : ℕ) → Cut out.now words n → ((ss : List Session) → desk ss result ≡ withFrames (desk ss board) next n)
+    ensures { (n : ℕ) → Cut out.now words n → ((ss : List Session) → desk ss result ≡ with_frames (desk ss board) next n)
         × (lines.new ≡ pushed lines.old next (get_or board.first next 0 + get_or board.count next 0) out.now n) }
 {
     let firsts = board.first;
@@ -79,9 +79,9 @@ pub fn write_line(
     lines: &mut [u32],
     out: &mut [u32],
 ) -> WriteTurn
-    requires { (i < 4) × (length out.old ≡ 1751) × ((ss : List Session) × (get_or ss i noSession ≡ s) × Shown (desk ss board) stores.old lines.old) }
+    requires { (i < 4) × (length out.old ≡ 1751) × ((ss : List Session) × (get_or ss i no_session ≡ s) × Shown (desk ss board) stores.old lines.old) }
     ensures { (result.done ≡ true → s.count < 16)
-        × ((ss : List Session) (g : Scene) → get_or ss i noSession ≡ s → Shows g (desk ss board) stores.old lines.old
+        × ((ss : List Session) (g : Scene) → get_or ss i no_session ≡ s → Shows g (desk ss board) stores.old lines.old
         → Plays out.old g (Line.Write i plot value) (record { desk = desk (set ss i (cond result.done (extended_by s result.entry) s)) result.board; reply = result.reply }) stores.new lines.new) }
 {
     let places = board.place;
@@ -118,7 +118,7 @@ pub fn write_line(
 // A reading at an office, on its part of the stores; the other parts stay.
 pub fn read_at(stores: &mut [u32], office: usize, s: Session, plot: u32) -> PlotLeft
     requires { (office < 3) × (length stores.old ≡ 5241) }
-    ensures { ((result.rest.moved ≡ true → s.count ≤ 16) × ReadPromise (part stores.old (1747 * office) 1747) s plot (code_of result.done.status) result.done.found result.done.entry (withRest s result.done.seen result.rest) (part stores.new (1747 * office) 1747)) × (stores.new ≡ sets stores.old (1747 * office) (part stores.new (1747 * office) 1747)) }
+    ensures { ((result.rest.moved ≡ true → s.count ≤ 16) × ReadPromise (part stores.old (1747 * office) 1747) s plot (code_of result.done.status) result.done.found result.done.entry (with_rest s result.done.seen result.rest) (part stores.new (1747 * office) 1747)) × (stores.new ≡ sets stores.old (1747 * office) (part stores.new (1747 * office) 1747)) }
 {
     let from = 1747 * office;
     let end = from + 1747;
@@ -126,7 +126,7 @@ pub fn read_at(stores: &mut [u32], office: usize, s: Session, plot: u32) -> Plot
 }
 
 pub fn reply_of(found: bool, e: Entry) -> Reply
-    ensures { result ≡ entryReply found e }
+    ensures { result ≡ entry_reply found e }
 {
     if found {
         return Reply::Found(e.value, e.office, e.serial);
@@ -136,9 +136,9 @@ pub fn reply_of(found: bool, e: Entry) -> Reply
 
 // `R`: session i, below 4, which is s, reads a plot at the office where it is. No line of frames is touched.
 pub fn read_line(board: Board, i: usize, s: Session, plot: u32, stores: &mut [u32]) -> ReadTurn
-    requires { (i < 4) × ((ss : List Session) × (lines : List ℕ) × (get_or ss i noSession ≡ s) × Shown (desk ss board) stores.old lines) }
-    ensures { (result.rest.moved ≡ true → s.count ≤ 16) × ((ss : List Session) (row lines : List ℕ) (g : Scene) → get_or ss i noSession ≡ s → Shows g (desk ss board) stores.old lines
-        → Plays row g (Line.Read i plot) (record { desk = desk (set ss i (withRest s result.seen result.rest)) board; reply = result.reply }) stores.new lines) }
+    requires { (i < 4) × ((ss : List Session) × (lines : List ℕ) × (get_or ss i no_session ≡ s) × Shown (desk ss board) stores.old lines) }
+    ensures { (result.rest.moved ≡ true → s.count ≤ 16) × ((ss : List Session) (row lines : List ℕ) (g : Scene) → get_or ss i no_session ≡ s → Shows g (desk ss board) stores.old lines
+        → Plays row g (Line.Read i plot) (record { desk = desk (set ss i (with_rest s result.seen result.rest)) board; reply = result.reply }) stores.new lines) }
 {
     let places = board.place;
     let office = places[i] as usize;
@@ -196,7 +196,7 @@ pub fn receive_at(
     out: &mut [u32],
 ) -> Written
     requires { (office < 3) × (length stores.old ≡ 5241) × (slot + 104 ≤ length lines.now) × (get_or lines.now slot 0 ≤ 103) }
-    ensures { ReceivePromise (part stores.old (1747 * office) 1747) (part lines.now (slot + 1) (get_or lines.now slot 0)) out.old (replyOf result) (part stores.new (1747 * office) 1747) out.new × (stores.new ≡ sets stores.old (1747 * office) (part stores.new (1747 * office) 1747)) }
+    ensures { ReceivePromise (part stores.old (1747 * office) 1747) (part lines.now (slot + 1) (get_or lines.now slot 0)) out.old (reply_of result) (part stores.new (1747 * office) 1747) out.new × (stores.new ≡ sets stores.old (1747 * office) (part stores.new (1747 * office) 1747)) }
 {
     let from = slot + 1;
     let end = from + lines[slot] as usize;

@@ -3,7 +3,7 @@ ghost use Rattle.std.specs.Prelude.{◌≡◌, ◌∷◌, ℕ, ◌+◌, ◌*◌,
 ghost use Rattle.std.proofs.lemmas.List.Edits.{sets};
 ghost use Rattle.causal.specs.Lists.{part};
 ghost use Rattle.ring.specs.Run.{next_of};
-ghost use Rattle.player.specs.Desks.{Cut, hopsAt, lengthAt, pushed, start_of};
+ghost use Rattle.player.specs.Desks.{Cut, hops_at, length_at, pushed, start_of};
 
 // Whom an office of a ring of three sends to.
 pub fn next_of(office: usize) -> usize
@@ -19,7 +19,7 @@ pub fn next_of(office: usize) -> usize
 // The words of the frame that begins at a word of a row, by its head.
 pub fn length_at(row: &[u32], at: usize) -> usize
     requires { at < length row.now }
-    ensures { result ≡ lengthAt row.now at }
+    ensures { result ≡ length_at row.now at }
 {
     7 + (row[at] % 256) as usize
 }
@@ -27,7 +27,7 @@ pub fn length_at(row: &[u32], at: usize) -> usize
 // The hops left to the frame that begins at a word of a row, by its head.
 pub fn hops_at(row: &[u32], at: usize) -> u32
     requires { at < length row.now }
-    ensures { result ≡ hopsAt row.now at }
+    ensures { result ≡ hops_at row.now at }
 {
     row[at] / 0x1000 % 16
 }
@@ -57,7 +57,7 @@ pub fn push_frame(lines: &mut [u32], slot: usize, row: &[u32], at: usize, len: u
 
 // The first n frames of a row, into the slots of an office from slot q on.
 pub fn push_frames(lines: &mut [u32], office: usize, q: usize, row: &[u32], n: usize)
-    requires { (office < 3) × (q ≤ 64) × (n ≤ 32) × (length lines.old ≡ 9984) × (start_of row.now n ≤ length row.now) × ((k : ℕ) → k < n → lengthAt row.now (start_of row.now k) ≤ 103) }
+    requires { (office < 3) × (q ≤ 64) × (n ≤ 32) × (length lines.old ≡ 9984) × (start_of row.now n ≤ length row.now) × ((k : ℕ) → k < n → length_at row.now (start_of row.now k) ≤ 103) }
     ensures { lines.new ≡ pushed lines.old office q row.now n }
 {
     let mut at = 0;

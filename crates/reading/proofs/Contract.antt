@@ -14,10 +14,10 @@ use Rattle.frame.specs.Refusals.{code_of}
 use Rattle.frame.specs.declared.entry.Entry.{Entry}
 use Rattle.frame.specs.declared.session.Session.{Session}
 use Rattle.frame.proofs.Contract.{One, Row, Three}
-use Rattle.office.specs.Decide.{alone, withSeen}
+use Rattle.office.specs.Decide.{alone, with_seen}
 use Rattle.office.specs.Promises.{JointPromise, ReadPromise}
 use Rattle.reading.specs.declared.joint.JointRead.{JointRead}
-use Rattle.reading.specs.Releases.{withRest}
+use Rattle.reading.specs.Releases.{with_rest}
 use Rattle.reading.specs.declared.joint.JointLeft.{JointLeft}
 use Rattle.reading.specs.declared.joint.JointSeen.{JointSeen}
 use Rattle.reading.specs.declared.read.PlotLeft.{PlotLeft}
@@ -32,56 +32,56 @@ use Rattle.reading.proofs.read.see_plot as see-plot
 
 module _ {M : Type 1} {𝓤 : Ura M} (𝓛 : Logic 𝓤) (mem : Memory → SProp 𝓤) (run : Routine → Fun 𝓤) where
   pub record ReadingContracts : Type 2 where
-    pub read-met : read-plot.Statement.statement M
+    pub read_met : read-plot.Statement.statement M
     pub read_is : (κs : One) (ws : Row) (s : Session) (plot : ℕ) (r : PlotRead) (ws' : Row)
         → (read-plot.clauses 𝓛 mem run κs (ws, (s, (plot, tt)))).ensures tt r (ws', (s, (plot, tt)))
         ≡ fact 𝓤 (ReadPromise ws.now s plot (code_of r.status) r.found r.entry r.session ws'.now)
-    pub read-asks : (κs : One) (ws : Row) (s : Session) (plot : ℕ) → (read-plot.clauses 𝓛 mem run κs (ws, (s, (plot, tt)))).requires tt ≡ emp 𝓤
-    pub see-met : see-plot.Statement.statement M
-    pub see-is : (κs : One) (ws : Row) (s : Session) (plot : ℕ) (r : PlotLeft) (ws' : Row)
+    pub read_asks : (κs : One) (ws : Row) (s : Session) (plot : ℕ) → (read-plot.clauses 𝓛 mem run κs (ws, (s, (plot, tt)))).requires tt ≡ emp 𝓤
+    pub see_met : see-plot.Statement.statement M
+    pub see_is : (κs : One) (ws : Row) (s : Session) (plot : ℕ) (r : PlotLeft) (ws' : Row)
         → (see-plot.clauses 𝓛 mem run κs (ws, (s, (plot, tt)))).ensures tt r (ws', (s, (plot, tt)))
-        ≡ fact 𝓤 ((r.rest.moved ≡ true → s.count ≤ 16) × ReadPromise ws.now s plot (code_of r.done.status) r.done.found r.done.entry (withRest s r.done.seen r.rest) ws'.now)
-    pub see-asks : (κs : One) (ws : Row) (s : Session) (plot : ℕ) → (see-plot.clauses 𝓛 mem run κs (ws, (s, (plot, tt)))).requires tt ≡ emp 𝓤
-    pub see-alone-met : see-alone.Statement.statement M
-    pub see-alone-is : (κs : One) (ws : Row) (n : ℕ) (clock read : List ℕ) (plot : ℕ) (r : PlotSeen) (ws' : Row)
+        ≡ fact 𝓤 ((r.rest.moved ≡ true → s.count ≤ 16) × ReadPromise ws.now s plot (code_of r.done.status) r.done.found r.done.entry (with_rest s r.done.seen r.rest) ws'.now)
+    pub see_asks : (κs : One) (ws : Row) (s : Session) (plot : ℕ) → (see-plot.clauses 𝓛 mem run κs (ws, (s, (plot, tt)))).requires tt ≡ emp 𝓤
+    pub see_alone_met : see-alone.Statement.statement M
+    pub see_alone_is : (κs : One) (ws : Row) (n : ℕ) (clock read : List ℕ) (plot : ℕ) (r : PlotSeen) (ws' : Row)
         → (see-alone.clauses 𝓛 mem run κs (ws, (n, (clock, (read, (plot, tt)))))).ensures tt r (ws', (n, (clock, (read, (plot, tt)))))
-        ≡ fact 𝓤 ((own : List Entry) → ReadPromise ws.now (alone n clock read own) plot (code_of r.status) r.found r.entry (withSeen (alone n clock read own) r.seen) ws'.now)
-    pub see-alone-asks : (κs : One) (ws : Row) (n : ℕ) (clock read : List ℕ) (plot : ℕ) → (see-alone.clauses 𝓛 mem run κs (ws, (n, (clock, (read, (plot, tt)))))).requires tt ≡ emp 𝓤
-    pub joint-met : read-joint.Statement.statement M
-    pub joint-is : (κs : Three) (ws : Row) (s : Session) (plots row : Row) (r : JointRead) (ws' plots' row' : Row)
+        ≡ fact 𝓤 ((own : List Entry) → ReadPromise ws.now (alone n clock read own) plot (code_of r.status) r.found r.entry (with_seen (alone n clock read own) r.seen) ws'.now)
+    pub see_alone_asks : (κs : One) (ws : Row) (n : ℕ) (clock read : List ℕ) (plot : ℕ) → (see-alone.clauses 𝓛 mem run κs (ws, (n, (clock, (read, (plot, tt)))))).requires tt ≡ emp 𝓤
+    pub joint_met : read-joint.Statement.statement M
+    pub joint_is : (κs : Three) (ws : Row) (s : Session) (plots row : Row) (r : JointRead) (ws' plots' row' : Row)
         → (read-joint.clauses 𝓛 mem run κs (ws, (s, (plots, (row, tt))))).ensures tt r (ws', (s, (plots', (row', tt))))
         ≡ fact 𝓤 (JointPromise ws.now s plots.now row.now (code_of r.status) r.session ws'.now row'.now)
-    pub joint-asks : (κs : Three) (ws : Row) (s : Session) (plots row : Row) → (read-joint.clauses 𝓛 mem run κs (ws, (s, (plots, (row, tt))))).requires tt ≡ emp 𝓤
-    pub see-joint-met : see-joint.Statement.statement M
-    pub see-joint-is : (κs : Three) (ws : Row) (s : Session) (plots row : Row) (r : JointLeft) (ws' plots' row' : Row)
+    pub joint_asks : (κs : Three) (ws : Row) (s : Session) (plots row : Row) → (read-joint.clauses 𝓛 mem run κs (ws, (s, (plots, (row, tt))))).requires tt ≡ emp 𝓤
+    pub see_joint_met : see-joint.Statement.statement M
+    pub see_joint_is : (κs : Three) (ws : Row) (s : Session) (plots row : Row) (r : JointLeft) (ws' plots' row' : Row)
         → (see-joint.clauses 𝓛 mem run κs (ws, (s, (plots, (row, tt))))).ensures tt r (ws', (s, (plots', (row', tt))))
-        ≡ fact 𝓤 ((r.rest.moved ≡ true → s.count ≤ 16) × JointPromise ws.now s plots.now row.now (code_of r.done.status) (withRest s r.done.seen r.rest) ws'.now row'.now)
-    pub see-joint-asks : (κs : Three) (ws : Row) (s : Session) (plots row : Row) → (see-joint.clauses 𝓛 mem run κs (ws, (s, (plots, (row, tt))))).requires tt ≡ emp 𝓤
-    pub see-joint-alone-met : see-joint-alone.Statement.statement M
-    pub see-joint-alone-is : (κs : Three) (ws : Row) (n : ℕ) (clock read : List ℕ) (plots row : Row) (r : JointSeen) (ws' plots' row' : Row)
+        ≡ fact 𝓤 ((r.rest.moved ≡ true → s.count ≤ 16) × JointPromise ws.now s plots.now row.now (code_of r.done.status) (with_rest s r.done.seen r.rest) ws'.now row'.now)
+    pub see_joint_asks : (κs : Three) (ws : Row) (s : Session) (plots row : Row) → (see-joint.clauses 𝓛 mem run κs (ws, (s, (plots, (row, tt))))).requires tt ≡ emp 𝓤
+    pub see_joint_alone_met : see-joint-alone.Statement.statement M
+    pub see_joint_alone_is : (κs : Three) (ws : Row) (n : ℕ) (clock read : List ℕ) (plots row : Row) (r : JointSeen) (ws' plots' row' : Row)
         → (see-joint-alone.clauses 𝓛 mem run κs (ws, (n, (clock, (read, (plots, (row, tt))))))).ensures tt r (ws', (n, (clock, (read, (plots', (row', tt))))))
-        ≡ fact 𝓤 ((own : List Entry) → JointPromise ws.now (alone n clock read own) plots.now row.now (code_of r.status) (withSeen (alone n clock read own) r.seen) ws'.now row'.now)
-    pub see-joint-alone-asks : (κs : Three) (ws : Row) (n : ℕ) (clock read : List ℕ) (plots row : Row) → (see-joint-alone.clauses 𝓛 mem run κs (ws, (n, (clock, (read, (plots, (row, tt))))))).requires tt ≡ emp 𝓤
+        ≡ fact 𝓤 ((own : List Entry) → JointPromise ws.now (alone n clock read own) plots.now row.now (code_of r.status) (with_seen (alone n clock read own) r.seen) ws'.now row'.now)
+    pub see_joint_alone_asks : (κs : Three) (ws : Row) (n : ℕ) (clock read : List ℕ) (plots row : Row) → (see-joint-alone.clauses 𝓛 mem run κs (ws, (n, (clock, (read, (plots, (row, tt))))))).requires tt ≡ emp 𝓤
 
-  pub reading-contracts : ReadingContracts
-  reading-contracts =
+  pub reading_contracts : ReadingContracts
+  reading_contracts =
       record {
-        read-met = read-plot.Met.met;
+        read_met = read-plot.Met.met;
         read_is = λ κs ws s plot r ws'. refl;
-        read-asks = λ κs ws s plot. refl;
-        see-met = see-plot.Met.met;
-        see-is = λ κs ws s plot r ws'. refl;
-        see-asks = λ κs ws s plot. refl;
-        see-alone-met = see-alone.Met.met;
-        see-alone-is = λ κs ws n clock read plot r ws'. refl;
-        see-alone-asks = λ κs ws n clock read plot. refl;
-        joint-met = read-joint.Met.met;
-        joint-is = λ κs ws s plots row r ws' plots' row'. refl;
-        joint-asks = λ κs ws s plots row. refl;
-        see-joint-met = see-joint.Met.met;
-        see-joint-is = λ κs ws s plots row r ws' plots' row'. refl;
-        see-joint-asks = λ κs ws s plots row. refl;
-        see-joint-alone-met = see-joint-alone.Met.met;
-        see-joint-alone-is = λ κs ws n clock read plots row r ws' plots' row'. refl;
-        see-joint-alone-asks = λ κs ws n clock read plots row. refl;
+        read_asks = λ κs ws s plot. refl;
+        see_met = see-plot.Met.met;
+        see_is = λ κs ws s plot r ws'. refl;
+        see_asks = λ κs ws s plot. refl;
+        see_alone_met = see-alone.Met.met;
+        see_alone_is = λ κs ws n clock read plot r ws'. refl;
+        see_alone_asks = λ κs ws n clock read plot. refl;
+        joint_met = read-joint.Met.met;
+        joint_is = λ κs ws s plots row r ws' plots' row'. refl;
+        joint_asks = λ κs ws s plots row. refl;
+        see_joint_met = see-joint.Met.met;
+        see_joint_is = λ κs ws s plots row r ws' plots' row'. refl;
+        see_joint_asks = λ κs ws s plots row. refl;
+        see_joint_alone_met = see-joint-alone.Met.met;
+        see_joint_alone_is = λ κs ws n clock read plots row r ws' plots' row'. refl;
+        see_joint_alone_asks = λ κs ws n clock read plots row. refl;
       }

@@ -8,16 +8,16 @@ use lib.Dec.{ltb}
 use lib.ListN.{length}
 use borrow.Author.Tests.{le-leb}
 use Rattle.causal.specs.Codes.{check}
-use Rattle.causal.specs.Sets.{subsetOf}
+use Rattle.causal.specs.Sets.{subset_of}
 use Rattle.causal.specs.Tests.{both}
 use Rattle.frame.specs.Calls.{laid}
-use Rattle.frame.specs.Frames.{frameWords}
-use Rattle.frame.specs.Sessions.{Content, contentOf, sessionOk}
+use Rattle.frame.specs.Frames.{frame_words}
+use Rattle.frame.specs.Sessions.{Content, content_of, session_ok}
 use Rattle.frame.specs.declared.entry.Frame.{Frame}
 use Rattle.frame.specs.declared.session.Session.{Session}
-use Rattle.store.specs.Offices.{Office, current, officeOf, reveal, soundStore}
-use Rattle.office.specs.Answers.{notedAllIn, noted_in, readJointSession, readPlotSession, sessionIf, releasedIn}
-use Rattle.office.specs.Calls.{Result, answerWords, given, handedAll, jointCode, jointOn, plotsOk, read_all, read_code, readJoint, read_on, readPlot, stored, worded}
+use Rattle.store.specs.Offices.{Office, current, office_of, reveal, sound_store}
+use Rattle.office.specs.Answers.{noted_all_in, noted_in, read_joint_session, read_plot_session, session_if, released_in}
+use Rattle.office.specs.Calls.{Result, answer_words, given, handed_all, joint_code, joint_on, plots_ok, read_all, read_code, read_joint, read_on, read_plot, stored, worded}
 
 -- a: the result of the joint reading, which was lent the row; b: that of the single reading
 pub record Alike {A B : Type 0} (row : List ℕ) (a b : Result A B) : Type 0 where
@@ -26,32 +26,32 @@ pub record Alike {A B : Type 0} (row : List ℕ) (a b : Result A B) : Type 0 whe
   pub found : a.found ≡ b.found
   pub store : a.store ≡ b.store
   pub session : a.session ≡ b.session
-  pub words : a.row ≡ laid (answerWords b.found) row
+  pub words : a.row ≡ laid (answer_words b.found) row
   pub sent : a.sent ≡ b.sent
 
 module _ (O : Office) (s : Content) (plot : ℕ) (row : List ℕ) (room : 3 ≤ length row) where
-  one_code : jointCode O s (plot ∷ []) (length row) ≡ read_code O s plot
-  unfolding jointCode read_code plotsOk check both
-  one_code = rw (le-leb 3 (length row) room) (go (sessionOk O.offices O.plots s) (ltb plot O.plots) (subsetOf s.read O.held))
+  one_code : joint_code O s (plot ∷ []) (length row) ≡ read_code O s plot
+  unfolding joint_code read_code plots_ok check both
+  one_code = rw (le-leb 3 (length row) room) (go (session_ok O.offices O.plots s) (ltb plot O.plots) (subset_of s.read O.held))
     where
       go : (a b c : Bool) → check a 3 (check (both b true) 4 (check c 12 0)) ≡ check a 3 (check b 4 (check c 12 0))
       go true true c = refl
       go true false c = refl
       go false b c = refl
 
-  one_on : Alike row (jointOn O s (plot ∷ []) row) (read_on O s plot)
-  unfolding jointOn read_on answerWords laid
+  one_on : Alike row (joint_on O s (plot ∷ []) row) (read_on O s plot)
+  unfolding joint_on read_on answer_words laid
   one_on = rw one_code (go (read_code O s plot))
     where
       go : (c : ℕ)
-          → Alike row (given c O s row (read_all O s (plot ∷ []) (laid (answerWords (handedAll O s (plot ∷ []))) row))) (given c O s [] (read_all O s (plot ∷ []) []))
+          → Alike row (given c O s row (read_all O s (plot ∷ []) (laid (answer_words (handed_all O s (plot ∷ []))) row))) (given c O s [] (read_all O s (plot ∷ []) []))
       go zero = record { code = refl; count = refl; found = refl; store = refl; session = refl; words = refl; sent = refl }
       go (suc c) = record { code = refl; count = refl; found = refl; store = refl; session = refl; words = refl; sent = refl }
 
 module _ (ws : List ℕ) (plot : ℕ) (row : List ℕ) (room : 3 ≤ length row) where
-  pub one-plot : (s : Content) → Alike row (readJoint ws s (plot ∷ []) row) (readPlot ws s plot)
-  unfolding readJoint readPlot answerWords laid
-  one-plot s = go (soundStore ws) (jointOn (officeOf ws) s (plot ∷ []) row) (read_on (officeOf ws) s plot) (one_on (officeOf ws) s plot row room)
+  pub one_plot : (s : Content) → Alike row (read_joint ws s (plot ∷ []) row) (read_plot ws s plot)
+  unfolding read_joint read_plot answer_words laid
+  one_plot s = go (sound_store ws) (joint_on (office_of ws) s (plot ∷ []) row) (read_on (office_of ws) s plot) (one_on (office_of ws) s plot row room)
     where
       go : (t : Bool) (a b : Result Office Frame) → Alike row a b → Alike row (worded t ws s row a) (worded t ws s [] b)
       go true a b h =
@@ -62,11 +62,11 @@ module _ (ws : List ℕ) (plot : ℕ) (row : List ℕ) (room : 3 ≤ length row)
             store = ap (λ (c : ℕ). stored c ws a.store) h.code ∙ ap (stored b.code ws) h.store;
             session = h.session;
             words = h.words;
-            sent = ap (map frameWords) h.sent;
+            sent = ap (map frame_words) h.sent;
           }
       go false a b h = record { code = refl; count = refl; found = refl; store = refl; session = refl; words = refl; sent = refl }
 
   -- the session as the struct that is handed back
-  pub one-plot-session : (s : Session) → readJointSession ws s (plot ∷ []) row ≡ readPlotSession ws s plot
-  unfolding readJointSession readPlotSession notedAllIn
-  one-plot-session s = ap (λ (c : ℕ). sessionIf c s (noted_in (current (reveal (officeOf ws) s.read) plot) (releasedIn (reveal (officeOf ws) s.read) s))) (one-plot (contentOf s)).code
+  pub one_plot_session : (s : Session) → read_joint_session ws s (plot ∷ []) row ≡ read_plot_session ws s plot
+  unfolding read_joint_session read_plot_session noted_all_in
+  one_plot_session s = ap (λ (c : ℕ). session_if c s (noted_in (current (reveal (office_of ws) s.read) plot) (released_in (reveal (office_of ws) s.read) s))) (one_plot (content_of s)).code

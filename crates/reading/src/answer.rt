@@ -1,9 +1,9 @@
 // The answer of a joint reading: three words for each plot.
 ghost use Rattle.std.specs.Prelude.{◌≡◌, [], ◌∷◌, ◌+◌, ◌*◌, ◌≤◌, length};
 ghost use Rattle.std.proofs.lemmas.List.Edits.{sets};
-ghost use Rattle.office.specs.Calls.{threeWords};
-ghost use Rattle.office.specs.Decide.{foundIn, Reaches};
-ghost use Rattle.reading.specs.Readings.{AllReach, Answerable, Named, answersIn, bestWords, foundAmong, words_to};
+ghost use Rattle.office.specs.Calls.{three_words};
+ghost use Rattle.office.specs.Decide.{found_in, Reaches};
+ghost use Rattle.reading.specs.Readings.{AllReach, Answerable, Named, answers_in, best_words, found_among, words_to};
 
 use crate::best::Best;
 use frame::session::Session;
@@ -21,7 +21,7 @@ fn put_three(known: u32, value: u32, name: u32, answer: &mut [u32], at: usize)
 // 1, value and name payload of what was found, or zeros.
 fn put_best(best: Best, answer: &mut [u32], at: usize)
     requires { Named best.entry × (at + 3 ≤ length answer.old) }
-    ensures { answer.new ≡ sets answer.old at (bestWords best) }
+    ensures { answer.new ≡ sets answer.old at (best_words best) }
 {
     if !best.found {
         put_three(0, 0, 0, &mut *answer, at);
@@ -34,7 +34,7 @@ fn put_best(best: Best, answer: &mut [u32], at: usize)
 // Entry k of the store as three words, or zeros.
 fn put_current(store: &[u32], k: usize, answer: &mut [u32], at: usize)
     requires { Reaches (length store.now) k × (at + 3 ≤ length answer.old) }
-    ensures { answer.new ≡ sets answer.old at (threeWords (foundIn store.now k)) }
+    ensures { answer.new ≡ sets answer.old at (three_words (found_in store.now k)) }
 {
     if k >= 256 {
         put_three(0, 0, 0, &mut *answer, at);
@@ -47,7 +47,7 @@ fn put_current(store: &[u32], k: usize, answer: &mut [u32], at: usize)
 // For each plot what is current there, for a session that carries nothing.
 pub fn put_alone(store: &[u32], places: [usize; 16], n: usize, answer: &mut [u32])
     requires { (n ≤ 16) × (3 * n ≤ length answer.old) × AllReach (length store.now) n places }
-    ensures { answer.new ≡ sets answer.old 0 (words_to (foundAmong store.now places) n) }
+    ensures { answer.new ≡ sets answer.old 0 (words_to (found_among store.now places) n) }
 {
     for i in 0..n {
         let k = places[i];
@@ -58,7 +58,7 @@ pub fn put_alone(store: &[u32], places: [usize; 16], n: usize, answer: &mut [u32
 // For each plot the best of what is current there and the own writes.
 fn put_handed(store: &[u32], s: Session, plots: &[u32], places: [usize; 16], answer: &mut [u32])
     requires { Answerable store.now s plots.now places answer.old }
-    ensures { answer.new ≡ answersIn store.now s plots.now places answer.old }
+    ensures { answer.new ≡ answers_in store.now s plots.now places answer.old }
 {
     let own = s.own;
     for i in 0..plots.len() {
@@ -77,7 +77,7 @@ pub fn put_answers(
     answer: &mut [u32],
 )
     requires { Answerable store.now s plots.now places answer.old }
-    ensures { answer.new ≡ answersIn store.now s plots.now places answer.old }
+    ensures { answer.new ≡ answers_in store.now s plots.now places answer.old }
 {
     if s.count == 0 {
         put_alone(store, places, plots.len(), &mut *answer);

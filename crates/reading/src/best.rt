@@ -1,7 +1,7 @@
 // What is handed back on a plot: the best of what is current there and the own writes. Readings of one plot and of several share it.
 ghost use Rattle.std.specs.Prelude.{◌≡◌, ◌≤◌, length};
-ghost use Rattle.office.specs.Decide.{foundIn, Reaches};
-ghost use Rattle.reading.specs.Readings.{bestFrom, bestAbove, bestTo};
+ghost use Rattle.office.specs.Decide.{found_in, Reaches};
+ghost use Rattle.reading.specs.Readings.{best_from, best_above, best_to};
 
 use frame::entry::Entry;
 use frame::session::Session;
@@ -16,7 +16,7 @@ pub struct Best {
 // Entry k of the store, or none where k is 256 or more.
 pub fn best_at(store: &[u32], k: usize) -> Best
     requires { Reaches (length store.now) k }
-    ensures { result ≡ bestFrom (foundIn store.now k) }
+    ensures { result ≡ best_from (found_in store.now k) }
 {
     if k >= 256 {
         let entry = frame::entry::blank_entry();
@@ -31,7 +31,7 @@ pub fn best_at(store: &[u32], k: usize) -> Best
 
 // The better of an own write on the plot and the best so far, which stays where they tie.
 fn best_above(e: Entry, best: Best) -> Best
-    ensures { result ≡ bestAbove e best }
+    ensures { result ≡ best_above e best }
 {
     let b = best.entry;
     if best.found {
@@ -48,7 +48,7 @@ fn best_above(e: Entry, best: Best) -> Best
 // The best of the own writes on the plot and what was found.
 pub fn best_own(own: [Entry; 16], count: usize, plot: u32, first: Best) -> Best
     requires { count ≤ 16 }
-    ensures { result ≡ bestTo own plot first count }
+    ensures { result ≡ best_to own plot first count }
 {
     let mut best = first;
     for i in 0..count {
@@ -63,7 +63,7 @@ pub fn best_own(own: [Entry; 16], count: usize, plot: u32, first: Best) -> Best
 // The best of entry k and the own writes on the plot, which are not looked at where there are none.
 pub fn best_with(store: &[u32], s: Session, plot: u32, k: usize) -> Best
     requires { (s.count ≤ 16) × Reaches (length store.now) k }
-    ensures { result ≡ bestTo s.own plot (bestFrom (foundIn store.now k)) s.count }
+    ensures { result ≡ best_to s.own plot (best_from (found_in store.now k)) s.count }
 {
     let first = best_at(store, k);
     let count = s.count;

@@ -2,13 +2,13 @@
 ghost use Rattle.std.specs.Prelude.{◌≡◌, true, List, ◌≤◌, leb, length};
 ghost use Rattle.causal.specs.Tests.{both};
 ghost use Rattle.causal.specs.Lists.{part};
-ghost use Rattle.causal.specs.Sets.{subsetOf};
-ghost use Rattle.frame.specs.Sessions.{contentOf, ids_of};
-ghost use Rattle.store.specs.Offices.{soundStore};
-ghost use Rattle.office.specs.Calls.{plotsOk};
-ghost use Rattle.office.specs.Decide.{alone, bare, withSeen};
-ghost use Rattle.reading.specs.Readings.{jointRefusal, AllReach, PlacesTo, foundAmong, seenTo};
-ghost use Rattle.reading.specs.Releases.{withRest};
+ghost use Rattle.causal.specs.Sets.{subset_of};
+ghost use Rattle.frame.specs.Sessions.{content_of, ids_of};
+ghost use Rattle.store.specs.Offices.{sound_store};
+ghost use Rattle.office.specs.Calls.{plots_ok};
+ghost use Rattle.office.specs.Decide.{alone, bare, with_seen};
+ghost use Rattle.reading.specs.Readings.{joint_refusal, AllReach, PlacesTo, found_among, seen_to};
+ghost use Rattle.reading.specs.Releases.{with_rest};
 ghost use Rattle.office.specs.Promises.{JointPromise};
 ghost use Rattle.frame.specs.Refusals.{code_of};
 
@@ -41,7 +41,7 @@ pub struct JointLeft {
 
 // Up to 16 plots, each in range.
 fn plots_ok(plots: &[u32], p: u32) -> bool
-    ensures { result ≡ both (leb (length plots.now) 16) (plotsOk p plots.now) }
+    ensures { result ≡ both (leb (length plots.now) 16) (plots_ok p plots.now) }
 {
     if plots.len() > 16 {
         return false;
@@ -56,7 +56,7 @@ fn plots_ok(plots: &[u32], p: u32) -> bool
 
 // 4: too many plots, or one out of range. 8: answer too short. 12: a read id not held. With the ids of the own writes.
 fn joint_code(store: &[u32], s: Session, plots: &[u32], room: usize) -> Start
-    ensures { (result.code ≡ jointRefusal store.now (contentOf s) plots.now room) × (result.code ≡ 0 → result.own ≡ ids_of (contentOf s).own) }
+    ensures { (result.code ≡ joint_refusal store.now (content_of s) plots.now room) × (result.code ≡ 0 → result.own ≡ ids_of (content_of s).own) }
 {
     let clock = s.clock;
     let read = s.read;
@@ -81,7 +81,7 @@ fn joint_code(store: &[u32], s: Session, plots: &[u32], room: usize) -> Start
 
 // What is current on each plot, as a number.
 fn places_of(store: &[u32], visible: [u32; 8], plots: &[u32]) -> [usize; 16]
-    requires { (soundStore store.now ≡ true) × (subsetOf visible (part store.now 3 8) ≡ true) × (length plots.now ≤ 16) }
+    requires { (sound_store store.now ≡ true) × (subset_of visible (part store.now 3 8) ≡ true) × (length plots.now ≤ 16) }
     ensures { PlacesTo store.now visible plots.now (length plots.now) result }
 {
     let mut places = [256usize; 16];
@@ -95,7 +95,7 @@ fn places_of(store: &[u32], visible: [u32; 8], plots: &[u32]) -> [usize; 16]
 // What is seen once what is current on each plot is noted.
 fn note_all(store: &[u32], places: [usize; 16], n: usize, first: Seen) -> Seen
     requires { (n ≤ 16) × AllReach (length store.now) n places }
-    ensures { result ≡ seenTo (foundAmong store.now places) n first }
+    ensures { result ≡ seen_to (found_among store.now places) n first }
 {
     let mut seen = first;
     for i in 0..n {
@@ -120,7 +120,7 @@ fn unseen(code: u32, first: Seen) -> JointSeen
 // read_joint, with what it changes of the session in place of the session. What is released is found out before the answer is written, which might
 // stand where the session does, for all that the compiler knows: it would copy the own writes first.
 pub fn see_joint(store: &mut [u32], s: Session, plots: &[u32], answer: &mut [u32]) -> JointLeft
-    ensures { (result.rest.moved ≡ true → s.count ≤ 16) × JointPromise store.old s plots.now answer.old (code_of result.done.status) (withRest s result.done.seen result.rest) store.new answer.new }
+    ensures { (result.rest.moved ≡ true → s.count ≤ 16) × JointPromise store.old s plots.now answer.old (code_of result.done.status) (with_rest s result.done.seen result.rest) store.new answer.new }
 {
     let start = joint_code(store, s, plots, answer.len());
     let clock = s.clock;
@@ -162,7 +162,7 @@ fn alone_code(
     plots: &[u32],
     room: usize,
 ) -> u32
-    ensures { result ≡ jointRefusal store.now (bare offices clock read) plots.now room }
+    ensures { result ≡ joint_refusal store.now (bare offices clock read) plots.now room }
 {
     let sound = store::sound::is_sound(store);
     let start = office::code::alone_code(store, sound, offices, clock, read);
@@ -189,7 +189,7 @@ pub fn see_joint_alone(
     plots: &[u32],
     answer: &mut [u32],
 ) -> JointSeen
-    ensures { (own : List Entry) → JointPromise store.old (alone offices clock read own) plots.now answer.old (code_of result.status) (withSeen (alone offices clock read own) result.seen) store.new answer.new }
+    ensures { (own : List Entry) → JointPromise store.old (alone offices clock read own) plots.now answer.old (code_of result.status) (with_seen (alone offices clock read own) result.seen) store.new answer.new }
 {
     let code = alone_code(store, offices, clock, read, plots, answer.len());
     let first = Seen { clock, read };

@@ -1,13 +1,13 @@
 // To read one plot.
 ghost use Rattle.std.specs.Prelude.{◌≡◌, false, true, List, ◌∷◌, [], ◌≤◌, length};
 ghost use Rattle.frame.specs.Refusals.{code_of};
-ghost use Rattle.frame.specs.Entries.{blankEntry};
-ghost use Rattle.frame.specs.Sessions.{contentOf, ids_of};
-ghost use Rattle.store.specs.Offices.{bestOwn};
-ghost use Rattle.office.specs.Answers.{anyFound, entryFound};
-ghost use Rattle.office.specs.Decide.{alone, bare, foundIn, Reaches, notedSeen, withSeen};
-ghost use Rattle.reading.specs.Readings.{readRefusal};
-ghost use Rattle.reading.specs.Releases.{withRest};
+ghost use Rattle.frame.specs.Entries.{blank_entry};
+ghost use Rattle.frame.specs.Sessions.{content_of, ids_of};
+ghost use Rattle.store.specs.Offices.{best_own};
+ghost use Rattle.office.specs.Answers.{any_found, entry_found};
+ghost use Rattle.office.specs.Decide.{alone, bare, found_in, Reaches, noted_seen, with_seen};
+ghost use Rattle.reading.specs.Readings.{read_refusal};
+ghost use Rattle.reading.specs.Releases.{with_rest};
 ghost use Rattle.office.specs.Promises.{ReadPromise};
 
 use crate::release::Rest;
@@ -43,7 +43,7 @@ pub struct PlotLeft {
 
 // 4: plot out of range. 12: a read id not held. With the ids of the own writes.
 fn read_code(store: &[u32], s: Session, plot: u32) -> Start
-    ensures { (result.code ≡ readRefusal store.now (contentOf s) plot) × (result.code ≡ 0 → result.own ≡ ids_of (contentOf s).own) }
+    ensures { (result.code ≡ read_refusal store.now (content_of s) plot) × (result.code ≡ 0 → result.own ≡ ids_of (content_of s).own) }
 {
     let clock = s.clock;
     let read = s.read;
@@ -67,9 +67,9 @@ fn read_code(store: &[u32], s: Session, plot: u32) -> Start
 fn answer_at(store: &[u32], s: Session, plot: u32, k: usize, read: [u32; 8]) -> PlotSeen
     requires { (s.count ≤ 16) × Reaches (length store.now) k }
     ensures { (code_of result.status ≡ 0)
-        × (result.found ≡ anyFound (bestOwn plot (foundIn store.now k) (contentOf s).own ∷ []))
-        × (result.entry ≡ entryFound (bestOwn plot (foundIn store.now k) (contentOf s).own ∷ []))
-        × (result.seen ≡ notedSeen (foundIn store.now k) (record { clock = s.clock; read = read })) }
+        × (result.found ≡ any_found (best_own plot (found_in store.now k) (content_of s).own ∷ []))
+        × (result.entry ≡ entry_found (best_own plot (found_in store.now k) (content_of s).own ∷ []))
+        × (result.seen ≡ noted_seen (found_in store.now k) (record { clock = s.clock; read = read })) }
 {
     let best = crate::best::best_with(store, s, plot, k);
     let clock = s.clock;
@@ -86,7 +86,7 @@ fn answer_at(store: &[u32], s: Session, plot: u32, k: usize, read: [u32; 8]) -> 
 // What is refused: nothing is found, and nothing more is seen.
 fn unseen(code: u32, seen: Seen) -> PlotSeen
     requires { code ≤ 12 }
-    ensures { (code_of result.status ≡ code) × (result.found ≡ false) × (result.entry ≡ blankEntry) × (result.seen ≡ seen) }
+    ensures { (code_of result.status ≡ code) × (result.found ≡ false) × (result.entry ≡ blank_entry) × (result.seen ≡ seen) }
 {
     let status = office::code::status_of(code);
     let entry = frame::entry::blank_entry();
@@ -100,7 +100,7 @@ fn unseen(code: u32, seen: Seen) -> PlotSeen
 
 // read_plot, with what it changes of the session in place of the session.
 pub fn see_plot(store: &mut [u32], s: Session, plot: u32) -> PlotLeft
-    ensures { (result.rest.moved ≡ true → s.count ≤ 16) × ReadPromise store.old s plot (code_of result.done.status) result.done.found result.done.entry (withRest s result.done.seen result.rest) store.new }
+    ensures { (result.rest.moved ≡ true → s.count ≤ 16) × ReadPromise store.old s plot (code_of result.done.status) result.done.found result.done.entry (with_rest s result.done.seen result.rest) store.new }
 {
     let start = read_code(store, s, plot);
     let read = s.read;
@@ -129,7 +129,7 @@ pub fn see_plot(store: &mut [u32], s: Session, plot: u32) -> PlotLeft
 
 // 2, 3, 4 and 12 for a session that carries nothing.
 fn alone_code(store: &[u32], offices: u32, clock: [u32; 8], read: [u32; 8], plot: u32) -> u32
-    ensures { result ≡ readRefusal store.now (bare offices clock read) plot }
+    ensures { result ≡ read_refusal store.now (bare offices clock read) plot }
 {
     let sound = store::sound::is_sound(store);
     let start = office::code::alone_code(store, sound, offices, clock, read);
@@ -153,7 +153,7 @@ pub fn see_alone(
     read: [u32; 8],
     plot: u32,
 ) -> PlotSeen
-    ensures { (own : List Entry) → ReadPromise store.old (alone offices clock read own) plot (code_of result.status) result.found result.entry (withSeen (alone offices clock read own) result.seen) store.new }
+    ensures { (own : List Entry) → ReadPromise store.old (alone offices clock read own) plot (code_of result.status) result.found result.entry (with_seen (alone offices clock read own) result.seen) store.new }
 {
     let code = alone_code(store, offices, clock, read, plot);
     if code != 0 {

@@ -1,10 +1,10 @@
 // Own writes that a reading releases (02, (v)): which they are, and the session without them.
 ghost use Rattle.std.specs.Prelude.{◌≡◌, Bool, false, true, List, ◌+◌, ◌≤◌, length};
 ghost use Rattle.std.proofs.lemmas.List.Edits.{sets};
-ghost use Rattle.causal.specs.Sets.{minus, subsetOf};
+ghost use Rattle.causal.specs.Sets.{minus, subset_of};
 ghost use Rattle.frame.specs.Entries.{id_of};
 ghost use Rattle.store.specs.Offices.{slot_at};
-ghost use Rattle.reading.specs.Releases.{OwnFits, ReleasedTo, showsAt, unflagged, withRest};
+ghost use Rattle.reading.specs.Releases.{OwnFits, ReleasedTo, shows_at, unflagged, with_rest};
 
 use frame::entry::Entry;
 use frame::session::Session;
@@ -41,7 +41,7 @@ pub fn all_stay(count: usize) -> Rest
 // Is e visible, with equal content?
 fn shows(store: &[u32], visible: [u32; 8], e: Entry) -> bool
     requires { slot_at (id_of e) + 18 ≤ length store.now }
-    ensures { result ≡ showsAt store.now visible e }
+    ensures { result ≡ shows_at store.now visible e }
 {
     let id = frame::entry::id_of(e);
     if !causal::set::contains(visible, id) {
@@ -60,7 +60,7 @@ pub fn release_own(
     first: [u32; 8],
 ) -> Released
     requires { (count ≤ 16) × OwnFits own count (length store.now) }
-    ensures { ReleasedTo (showsAt store.now visible) own count first result.read result.rest }
+    ensures { ReleasedTo (shows_at store.now visible) own count first result.read result.rest }
 {
     let mut read = first;
     let mut gone = [false; 16];
@@ -86,7 +86,7 @@ pub fn release_own(
 
 // Is none of these ids visible?
 pub fn all_hidden(ids: [u32; 8], visible: [u32; 8]) -> bool
-    ensures { result ≡ subsetOf ids (minus ids visible) }
+    ensures { result ≡ subset_of ids (minus ids visible) }
 {
     let hidden = causal::set::without(ids, visible);
     causal::set::subset(ids, hidden)
@@ -120,7 +120,7 @@ fn keep_own(own: [Entry; 16], count: usize, gone: [bool; 16]) -> [Entry; 16]
 // The session with what it has seen, its row written anew without the own writes that have a flag.
 pub fn with_moved(s: Session, seen: Seen, gone: [bool; 16], left: usize) -> Session
     requires { s.count ≤ 16 }
-    ensures { result ≡ withRest s seen (record { gone = gone; left = left; moved = true }) }
+    ensures { result ≡ with_rest s seen (record { gone = gone; left = left; moved = true }) }
 {
     let clock = seen.clock;
     let read = seen.read;
@@ -137,7 +137,7 @@ pub fn with_moved(s: Session, seen: Seen, gone: [bool; 16], left: usize) -> Sess
 
 // The same with its row as it is.
 pub fn with_row(s: Session, seen: Seen, left: usize) -> Session
-    ensures { (gone : List Bool) → result ≡ withRest s seen (record { gone = gone; left = left; moved = false }) }
+    ensures { (gone : List Bool) → result ≡ with_rest s seen (record { gone = gone; left = left; moved = false }) }
 {
     let clock = seen.clock;
     let read = seen.read;
@@ -153,7 +153,7 @@ pub fn with_row(s: Session, seen: Seen, left: usize) -> Session
 
 pub fn with_rest(s: Session, seen: Seen, rest: Rest) -> Session
     requires { rest.moved ≡ true → s.count ≤ 16 }
-    ensures { result ≡ withRest s seen rest }
+    ensures { result ≡ with_rest s seen rest }
 {
     if rest.moved {
         let gone = rest.gone;

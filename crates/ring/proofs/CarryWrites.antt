@@ -10,31 +10,31 @@ use lib.Dec.{eqb, leb, ltb}
 use lib.ListN.{length, length-append, length-set, set}
 use Rattle.causal.specs.Clocks.{join}
 use Rattle.causal.specs.Codes.{check, or_else}
-use Rattle.causal.specs.Sets.{IdSet, Within, isIn, subsetOf, unite}
+use Rattle.causal.specs.Sets.{IdSet, Within, is_in, subset_of, unite}
 use Rattle.causal.specs.Tests.{implies}
-use Rattle.causal.proofs.Codes.{check-none, or-both}
-use Rattle.causal.proofs.Sets.{ids-unite}
+use Rattle.causal.proofs.Codes.{check_none, or_both}
+use Rattle.causal.proofs.Sets.{ids_unite}
 use Rattle.causal.proofs.Tests.{both_true}
 use Rattle.frame.specs.Calls.{laid}
-use Rattle.frame.specs.Entries.{id_of, sameContent}
-use Rattle.frame.specs.Frames.{frameWords, framed, ringOk}
-use Rattle.frame.specs.Sessions.{Content, SaneContent, ids_of, sessionOk}
+use Rattle.frame.specs.Entries.{id_of, same_content}
+use Rattle.frame.specs.Frames.{frame_words, framed, ring_ok}
+use Rattle.frame.specs.Sessions.{Content, SaneContent, ids_of, session_ok}
 use Rattle.frame.specs.Tokens.{rows_of}
 use Rattle.frame.specs.declared.entry.Entry.{Entry}
 use Rattle.frame.specs.declared.entry.Frame.{Frame}
-use Rattle.frame.proofs.LeaveOut.{left-from}
-use Rattle.frame.proofs.Sessions.{ids-from, ids-new, ids_set}
-use Rattle.joining.specs.Orders.{Permuted, Reordered, permuted-cons, permuted-nil}
-use Rattle.joining.proofs.Orders.{permuted-end, permuted-from, permuted-length, permuted-to}
-use Rattle.store.specs.Offices.{Office, Words32, clockOf, hold, made, officeOf, settingsOk, soundStore, store_words}
-use Rattle.store.proofs.Keep.{store-facts}
-use Rattle.office.specs.Calls.{Result, entryCode, given, holdAll, missing, newEntry, ownCode, sentOf, worded, write, writeCode, writeOn, writeSends, wroteSession}
-use Rattle.office.proofs.Along.{hold-end}
-use Rattle.office.proofs.KeptSession.{write-session}
+use Rattle.frame.proofs.LeaveOut.{left_from}
+use Rattle.frame.proofs.Sessions.{ids_from, ids_new, ids_set}
+use Rattle.joining.specs.Orders.{Permuted, Reordered, permuted_cons, permuted_nil}
+use Rattle.joining.proofs.Orders.{permuted_end, permuted_from, permuted_length, permuted_to}
+use Rattle.store.specs.Offices.{Office, Words32, clock_of, hold, made, office_of, settings_ok, sound_store, store_words}
+use Rattle.store.proofs.Keep.{store_facts}
+use Rattle.office.specs.Calls.{Result, entry_code, given, hold_all, missing, new_entry, own_code, sent_of, worded, write, write_code, write_on, write_sends, wrote_session}
+use Rattle.office.proofs.Along.{hold_end}
+use Rattle.office.proofs.KeptSession.{write_session}
 use Rattle.ring.specs.Carrying.{SameWrite, TenOrEleven, TwoOrders}
 use Rattle.ring.specs.Run.{last_of}
-use Rattle.ring.proofs.Carrying.{apart, ok_same, own-low}
-use Rattle.ring.proofs.TwoOrders.{hold-permuted, left-apart, permuted-left, permuted-map, within_same}
+use Rattle.ring.proofs.Carrying.{apart, ok_same, own_low}
+use Rattle.ring.proofs.TwoOrders.{hold_permuted, left_apart, permuted_left, permuted_map, within_same}
 use Rattle.ring.proofs.WriteKeeps.{last_snoc}
 
 -- ---- the words of frames in two orders
@@ -42,47 +42,47 @@ use Rattle.ring.proofs.WriteKeeps.{last_snoc}
 pub rows_append : (fs gs : List Frame) → rows_of (fs ++ gs) ≡ rows_of fs ++ rows_of gs
 unfolding rows_of
 rows_append [] gs = refl
-rows_append (f ∷ fs) gs = ap (λ (l : List ℕ). frameWords f ++ l) (rows_append fs gs) ∙ sym (append_assoc (frameWords f) (rows_of fs) (rows_of gs))
+rows_append (f ∷ fs) gs = ap (λ (l : List ℕ). frame_words f ++ l) (rows_append fs gs) ∙ sym (append_assoc (frame_words f) (rows_of fs) (rows_of gs))
 
-rows-length : {l m : List Frame} → Permuted l m → length (rows_of l) ≡ length (rows_of m)
+rows_length : {l m : List Frame} → Permuted l m → length (rows_of l) ≡ length (rows_of m)
 unfolding rows_of
-rows-length permuted-nil = refl
-rows-length (permuted-cons {x = x} {l = l} bef aft e k) =
+rows_length permuted_nil = refl
+rows_length (permuted_cons {x = x} {l = l} bef aft e k) =
     omega
-    (arith, rows-length k, ap (λ (z : List Frame). length (rows_of z)) e, ap length (rows_append bef (x ∷ aft)), ap length (rows_append bef aft), length-append (rows_of bef) (rows_of aft), length-append (rows_of bef) (frameWords x ++ rows_of aft), length-append (frameWords x) (rows_of aft), length-append (frameWords x) (rows_of l))
+    (arith, rows_length k, ap (λ (z : List Frame). length (rows_of z)) e, ap length (rows_append bef (x ∷ aft)), ap length (rows_append bef aft), length-append (rows_of bef) (rows_of aft), length-append (rows_of bef) (frame_words x ++ rows_of aft), length-append (frame_words x) (rows_of aft), length-append (frame_words x) (rows_of l))
 
 -- ---- the tests of the own writes
 
-own-zero : (O : Office) (es : List Entry) → ownCode O es ≡ 0 → (e : Entry) → Memᴰ e es → entryCode O e ≡ 0
-unfolding ownCode
-own-zero O [] h e m = absurd (Memᴰ.not-nil m)
-own-zero O (x ∷ es) h e m =
-    let w = or-both (entryCode O x) (ownCode O es) h in
-    ⊎_elim (λ (q : e ≡ x). rw q w.0) (λ i. own-zero O es w.1 e i) (Memᴰ.cases_cons m)
+own_zero : (O : Office) (es : List Entry) → own_code O es ≡ 0 → (e : Entry) → Memᴰ e es → entry_code O e ≡ 0
+unfolding own_code
+own_zero O [] h e m = absurd (Memᴰ.not-nil m)
+own_zero O (x ∷ es) h e m =
+    let w = or_both (entry_code O x) (own_code O es) h in
+    ⊎_elim (λ (q : e ≡ x). rw q w.0) (λ i. own_zero O es w.1 e i) (Memᴰ.cases_cons m)
 
-zero-own : (O : Office) (es : List Entry) → ((e : Entry) → Memᴰ e es → entryCode O e ≡ 0) → ownCode O es ≡ 0
-unfolding ownCode or_else
-zero-own O [] h = refl
-zero-own O (x ∷ es) h = rw (h x (Memᴰ.head refl)) (zero-own O es (λ e m. h e (Memᴰ.tail m)))
+zero_own : (O : Office) (es : List Entry) → ((e : Entry) → Memᴰ e es → entry_code O e ≡ 0) → own_code O es ≡ 0
+unfolding own_code or_else
+zero_own O [] h = refl
+zero_own O (x ∷ es) h = rw (h x (Memᴰ.head refl)) (zero_own O es (λ e m. h e (Memᴰ.tail m)))
 
 -- 10 and 11 are all that an own write is refused with
-entry-small : (O : Office) (e : Entry) → (entryCode O e ≡ 0) ⊎ TenOrEleven (entryCode O e)
-unfolding entryCode check
-entry-small O e =
-    go (implies (eqb e.office O.own) (isIn O.held (id_of e))) (implies (isIn O.held (id_of e)) (sameContent e (O.entry (id_of e))))
+entry_small : (O : Office) (e : Entry) → (entry_code O e ≡ 0) ⊎ TenOrEleven (entry_code O e)
+unfolding entry_code check
+entry_small O e =
+    go (implies (eqb e.office O.own) (is_in O.held (id_of e))) (implies (is_in O.held (id_of e)) (same_content e (O.entry (id_of e))))
   where
     go : (a b : Bool) → (check a 10 (check b 11 0) ≡ 0) ⊎ TenOrEleven (check a 10 (check b 11 0))
     go true true = inl refl
     go true false = inr (inr refl)
     go false b = inr (inl refl)
 
-pub own-small : (O : Office) (es : List Entry) → (ownCode O es ≡ 0) ⊎ TenOrEleven (ownCode O es)
-unfolding ownCode or_else
-own-small O [] = inl refl
-own-small O (e ∷ es) = go (entryCode O e) (entry-small O e) (own-small O es)
+pub own_small : (O : Office) (es : List Entry) → (own_code O es ≡ 0) ⊎ TenOrEleven (own_code O es)
+unfolding own_code or_else
+own_small O [] = inl refl
+own_small O (e ∷ es) = go (entry_code O e) (entry_small O e) (own_small O es)
   where
-    go : (a : ℕ) → (a ≡ 0) ⊎ TenOrEleven a → (ownCode O es ≡ 0) ⊎ TenOrEleven (ownCode O es)
-        → (or_else a (ownCode O es) ≡ 0) ⊎ TenOrEleven (or_else a (ownCode O es))
+    go : (a : ℕ) → (a ≡ 0) ⊎ TenOrEleven a → (own_code O es ≡ 0) ⊎ TenOrEleven (own_code O es)
+        → (or_else a (own_code O es) ≡ 0) ⊎ TenOrEleven (or_else a (own_code O es))
     go zero x y = y
     go (suc a) (inl x) y = absurd (omega (arith, x))
     go (suc a) (inr x) y = inr x
@@ -110,9 +110,9 @@ chosen_of : (a a' b c d d' e f f' k k' : Bool) (g h : ℕ) → a ≡ a' → d �
     → (Coded a b c d e f k g ≡ Coded a' b c d' e f' k' h) ⊎ (TenOrEleven (Coded a b c d e f k g) × TenOrEleven (Coded a' b c d' e f' k' h))
 chosen_of a a' b c d d' e f f' k k' g h p q r s w = rw (← p, ← q, ← r, ← s) (chosen a b c d e f k g h w)
 
-ring_of : (n o p : ℕ) → settingsOk n o p ≡ true → ringOk n p ≡ true
-unfolding settingsOk
-ring_of n o p h = (both_true (ringOk n p) (ltb o n) h).0
+ring_of : (n o p : ℕ) → settings_ok n o p ≡ true → ring_ok n p ≡ true
+unfolding settings_ok
+ring_of n o p h = (both_true (ring_ok n p) (ltb o n) h).0
 
 passes : (a b c d e f k : Bool) (g : ℕ) → a ≡ true → b ≡ true → c ≡ true → d ≡ true → e ≡ true → f ≡ true → g ≡ 0 → k ≡ true
     → Coded a b c d e f k g ≡ 0
@@ -127,130 +127,130 @@ module _ (s t : Content) (T : TwoOrders s t) (ws : List ℕ) (plot value : ℕ) 
   p = T.p
 
   abbrev O : Office
-  O = officeOf ws
+  O = office_of ws
 
   -- what an accepted write by r answers
   abbrev W : Content → List ℕ → Result Office Frame
   W r row =
       record {
         code = 0;
-        count = length (rows_of (writeSends O r plot value));
+        count = length (rows_of (write_sends O r plot value));
         found = [];
-        store = holdAll O (sentOf O r plot value);
-        session = wroteSession O r plot value;
-        row = laid (rows_of (writeSends O r plot value)) row;
-        sent = writeSends O r plot value;
+        store = hold_all O (sent_of O r plot value);
+        session = wrote_session O r plot value;
+        row = laid (rows_of (write_sends O r plot value)) row;
+        sent = write_sends O r plot value;
       }
 
-  ids-same : ids_of s.own ≡ ids_of t.own
-  ids-same =
-      within_same (ids_of s.own) (ids_of t.own) (ids_set s.own (own-low s t T s T.first)) (ids_set t.own (own-low s t T t T.second))
-      (over s.own t.own (own-low s t T s T.first) (own-low s t T t T.second) (permuted-to T.order.own))
-      (over t.own s.own (own-low s t T t T.second) (own-low s t T s T.first) (permuted-from T.order.own))
+  ids_same : ids_of s.own ≡ ids_of t.own
+  ids_same =
+      within_same (ids_of s.own) (ids_of t.own) (ids_set s.own (own_low s t T s T.first)) (ids_set t.own (own_low s t T t T.second))
+      (over s.own t.own (own_low s t T s T.first) (own_low s t T t T.second) (permuted_to T.order.own))
+      (over t.own s.own (own_low s t T t T.second) (own_low s t T s T.first) (permuted_from T.order.own))
     where
       over : (l m : List Entry) → ((e : Entry) → Memᴰ e l → id_of e < 256) → ((e : Entry) → Memᴰ e m → id_of e < 256)
           → ((e : Entry) → Memᴰ e l → Memᴰ e m) → Within (ids_of l) (ids_of m)
       over l m bl bm to k h =
-          let u = Memᴰ.of_map id_of l (ids-from l bl k h) in ids-new m bm k (rw (← u.2) (Memᴰ.map id_of (to u.0 u.1)))
+          let u = Memᴰ.of_map id_of l (ids_from l bl k h) in ids_new m bm k (rw (← u.2) (Memᴰ.map id_of (to u.0 u.1)))
 
-  new-same : newEntry O s plot value ≡ newEntry O t plot value
-  unfolding newEntry
-  new-same =
+  new_same : new_entry O s plot value ≡ new_entry O t plot value
+  unfolding new_entry
+  new_same =
       λ i.
       record {
         office = O.own;
         serial = made O + 1;
         plot = plot;
         value = value;
-        clock = set (join (clockOf O) (T.order.clock i)) O.own (made O + 1);
-        deps = unite (T.order.read i) (ids-same i);
+        clock = set (join (clock_of O) (T.order.clock i)) O.own (made O + 1);
+        deps = unite (T.order.read i) (ids_same i);
       }
 
-  missing-order : Permuted (missing O s.own) (missing O t.own)
-  missing-order = permuted-left (λ (e : Entry). isIn O.held (id_of e)) T.order.own
+  missing_order : Permuted (missing O s.own) (missing O t.own)
+  missing_order = permuted_left (λ (e : Entry). is_in O.held (id_of e)) T.order.own
 
-  sent-order : Permuted (sentOf O s plot value) (sentOf O t plot value)
-  unfolding sentOf
-  sent-order = rw (← new-same) (permuted-end (newEntry O s plot value) missing-order)
+  sent_order : Permuted (sent_of O s plot value) (sent_of O t plot value)
+  unfolding sent_of
+  sent_order = rw (← new_same) (permuted_end (new_entry O s plot value) missing_order)
 
-  sends-order : Permuted (writeSends O s plot value) (writeSends O t plot value)
-  sends-order = permuted-map (framed O.offices (O.offices - 2)) sent-order
+  sends_order : Permuted (write_sends O s plot value) (write_sends O t plot value)
+  sends_order = permuted_map (framed O.offices (O.offices - 2)) sent_order
 
-  held_same : IdSet O.held → holdAll O (sentOf O s plot value) ≡ holdAll O (sentOf O t plot value)
-  unfolding sentOf
+  held_same : IdSet O.held → hold_all O (sent_of O s plot value) ≡ hold_all O (sent_of O t plot value)
+  unfolding sent_of
   held_same w =
-      hold-end O (missing O s.own) (newEntry O s plot value)
-      ∙ (λ i. hold (carried i) (new-same i))
-      ∙ sym (hold-end O (missing O t.own) (newEntry O t plot value))
+      hold_end O (missing O s.own) (new_entry O s plot value)
+      ∙ (λ i. hold (carried i) (new_same i))
+      ∙ sym (hold_end O (missing O t.own) (new_entry O t plot value))
     where
-      carried : holdAll O (missing O s.own) ≡ holdAll O (missing O t.own)
+      carried : hold_all O (missing O s.own) ≡ hold_all O (missing O t.own)
       carried =
-          hold-permuted missing-order O w (λ e m. own-low s t T s T.first e (left-from (λ (x : Entry). isIn O.held (id_of x)) s.own e m).0)
-          (left-apart (λ (e : Entry). isIn O.held (id_of e)) s.own (apart s t T))
+          hold_permuted missing_order O w (λ e m. own_low s t T s T.first e (left_from (λ (x : Entry). is_in O.held (id_of x)) s.own e m).0)
+          (left_apart (λ (e : Entry). is_in O.held (id_of e)) s.own (apart s t T))
 
-  wrote-order : Reordered (wroteSession O s plot value) (wroteSession O t plot value)
-  unfolding wroteSession
-  wrote-order =
+  wrote_order : Reordered (wrote_session O s plot value) (wrote_session O t plot value)
+  unfolding wrote_session
+  wrote_order =
       record {
         offices = T.order.offices;
-        clock = λ i. join (T.order.clock i) (new-same i).clock;
+        clock = λ i. join (T.order.clock i) (new_same i).clock;
         read = T.order.read;
-        own = rw (← new-same) (permuted-end (newEntry O s plot value) T.order.own);
+        own = rw (← new_same) (permuted_end (new_entry O s plot value) T.order.own);
       }
 
-  made-same : last_of (wroteSession O s plot value).own ≡ last_of (wroteSession O t plot value).own
-  unfolding wroteSession
-  made-same = last_snoc s.own (newEntry O s plot value) ∙ new-same ∙ sym (last_snoc t.own (newEntry O t plot value))
+  made_same : last_of (wrote_session O s plot value).own ≡ last_of (wrote_session O t plot value).own
+  unfolding wrote_session
+  made_same = last_snoc s.own (new_entry O s plot value) ∙ new_same ∙ sym (last_snoc t.own (new_entry O t plot value))
 
-  code-zero : (room : ℕ) → writeCode O s plot value room ≡ 0 → writeCode O t plot value room ≡ 0
-  unfolding writeCode
-  code-zero room h =
-      let a = check-none (sessionOk O.offices O.plots s) 3 _ (omega arith) h in
-      let b = check-none (ltb plot O.plots) 4 _ (omega arith) a.1 in
-      let c = check-none (ltb value 268435456) 5 _ (omega arith) b.1 in
-      let d = check-none (ltb (length s.own) 16) 7 _ (omega arith) c.1 in
-      let e = check-none (ltb (made O) 32) 6 _ (omega arith) d.1 in
-      let f = check-none (subsetOf s.read O.held) 12 _ (omega arith) e.1 in
-      let g = or-both (ownCode O s.own) _ f.1 in
-      let k = check-none (leb (length (rows_of (writeSends O s plot value))) room) 8 0 (omega arith) g.1 in
+  code_zero : (room : ℕ) → write_code O s plot value room ≡ 0 → write_code O t plot value room ≡ 0
+  unfolding write_code
+  code_zero room h =
+      let a = check_none (session_ok O.offices O.plots s) 3 _ (omega arith) h in
+      let b = check_none (ltb plot O.plots) 4 _ (omega arith) a.1 in
+      let c = check_none (ltb value 268435456) 5 _ (omega arith) b.1 in
+      let d = check_none (ltb (length s.own) 16) 7 _ (omega arith) c.1 in
+      let e = check_none (ltb (made O) 32) 6 _ (omega arith) d.1 in
+      let f = check_none (subset_of s.read O.held) 12 _ (omega arith) e.1 in
+      let g = or_both (own_code O s.own) _ f.1 in
+      let k = check_none (leb (length (rows_of (write_sends O s plot value))) room) 8 0 (omega arith) g.1 in
       passes _ _ _ _ _ _ _ _ (sym (ok_same s t T O.offices O.plots) ∙ a.0) b.0 c.0
-      (ap (λ (l : ℕ). ltb l 16) (sym (permuted-length T.order.own)) ∙ d.0) e.0
-      (ap (λ (l : List ℕ). subsetOf l O.held) (sym T.order.read) ∙ f.0)
-      (zero-own O t.own (λ x m. own-zero O s.own g.0 x (permuted-from T.order.own x m)))
-      (ap (λ (l : ℕ). leb l room) (sym (rows-length sends-order)) ∙ k.0)
+      (ap (λ (l : ℕ). ltb l 16) (sym (permuted_length T.order.own)) ∙ d.0) e.0
+      (ap (λ (l : List ℕ). subset_of l O.held) (sym T.order.read) ∙ f.0)
+      (zero_own O t.own (λ x m. own_zero O s.own g.0 x (permuted_from T.order.own x m)))
+      (ap (λ (l : ℕ). leb l room) (sym (rows_length sends_order)) ∙ k.0)
 
   -- ---- the two refusal numbers
 
-  sends-same : (room : ℕ)
-      → leb (length (rows_of (writeSends O s plot value))) room ≡ leb (length (rows_of (writeSends O t plot value))) room
-  sends-same room = ap (λ (l : ℕ). leb l room) (rows-length sends-order)
+  sends_same : (room : ℕ)
+      → leb (length (rows_of (write_sends O s plot value))) room ≡ leb (length (rows_of (write_sends O t plot value))) room
+  sends_same room = ap (λ (l : ℕ). leb l room) (rows_length sends_order)
 
-  own_same : (ownCode O s.own ≡ ownCode O t.own) ⊎ (TenOrEleven (ownCode O s.own) × TenOrEleven (ownCode O t.own))
-  own_same = go (own-small O s.own) (own-small O t.own)
+  own_same : (own_code O s.own ≡ own_code O t.own) ⊎ (TenOrEleven (own_code O s.own) × TenOrEleven (own_code O t.own))
+  own_same = go (own_small O s.own) (own_small O t.own)
     where
-      to : ownCode O s.own ≡ 0 → ownCode O t.own ≡ 0
-      to h = zero-own O t.own (λ x m. own-zero O s.own h x (permuted-from T.order.own x m))
+      to : own_code O s.own ≡ 0 → own_code O t.own ≡ 0
+      to h = zero_own O t.own (λ x m. own_zero O s.own h x (permuted_from T.order.own x m))
 
-      back : ownCode O t.own ≡ 0 → ownCode O s.own ≡ 0
-      back h = zero-own O s.own (λ x m. own-zero O t.own h x (permuted-to T.order.own x m))
+      back : own_code O t.own ≡ 0 → own_code O s.own ≡ 0
+      back h = zero_own O s.own (λ x m. own_zero O t.own h x (permuted_to T.order.own x m))
 
-      go : (ownCode O s.own ≡ 0) ⊎ TenOrEleven (ownCode O s.own) → (ownCode O t.own ≡ 0) ⊎ TenOrEleven (ownCode O t.own)
-          → (ownCode O s.own ≡ ownCode O t.own) ⊎ (TenOrEleven (ownCode O s.own) × TenOrEleven (ownCode O t.own))
+      go : (own_code O s.own ≡ 0) ⊎ TenOrEleven (own_code O s.own) → (own_code O t.own ≡ 0) ⊎ TenOrEleven (own_code O t.own)
+          → (own_code O s.own ≡ own_code O t.own) ⊎ (TenOrEleven (own_code O s.own) × TenOrEleven (own_code O t.own))
       go (inl x) y = inl (x ∙ sym (to x))
       go (inr x) (inl y) = inl (back y ∙ sym y)
       go (inr x) (inr y) = inr (x, y)
 
-  code_same : (room : ℕ) → (writeCode O s plot value room ≡ writeCode O t plot value room)
-      ⊎ (TenOrEleven (writeCode O s plot value room) × TenOrEleven (writeCode O t plot value room))
-  unfolding writeCode
+  code_same : (room : ℕ) → (write_code O s plot value room ≡ write_code O t plot value room)
+      ⊎ (TenOrEleven (write_code O s plot value room) × TenOrEleven (write_code O t plot value room))
+  unfolding write_code
   code_same room =
       chosen_of _ _ (ltb plot O.plots) (ltb value 268435456) _ _ (ltb (made O) 32) _ _ _ _ _ _ (ok_same s t T O.offices O.plots)
-      (ap (λ (l : ℕ). ltb l 16) (permuted-length T.order.own)) (ap (λ (l : List ℕ). subsetOf l O.held) T.order.read) (sends-same room) own_same
+      (ap (λ (l : ℕ). ltb l 16) (permuted_length T.order.own)) (ap (λ (l : List ℕ). subset_of l O.held) T.order.read) (sends_same room) own_same
 
-  pub write-codes : (row : List ℕ) → ((write ws s plot value row).code ≡ (write ws t plot value row).code)
+  pub write_codes : (row : List ℕ) → ((write ws s plot value row).code ≡ (write ws t plot value row).code)
       ⊎ (TenOrEleven (write ws s plot value row).code × TenOrEleven (write ws t plot value row).code)
-  unfolding write writeOn
-  write-codes row = go (soundStore ws) (writeCode O s plot value (length row)) (writeCode O t plot value (length row)) (code_same (length row))
+  unfolding write write_on
+  write_codes row = go (sound_store ws) (write_code O s plot value (length row)) (write_code O t plot value (length row)) (code_same (length row))
     where
       go : (b : Bool) (c d : ℕ) → (c ≡ d) ⊎ (TenOrEleven c × TenOrEleven d)
           → ((worded b ws s row (given c O s row (W s row))).code ≡ (worded b ws t row (given d O t row (W t row))).code)
@@ -264,61 +264,61 @@ module _ (s t : Content) (T : TwoOrders s t) (ws : List ℕ) (plot value : ℕ) 
   -- ---- what an accepted write leaves
 
   module _ (w32 : Words32 ws) where
-    sound-left : (r : Content) → SaneContent r → soundStore ws ≡ true → (row : List ℕ) → writeCode O r plot value (length row) ≡ 0
-        → sessionOk O.offices O.plots (wroteSession O r plot value) ≡ true
-    unfolding writeOn writeCode
-    sound-left r N b row c =
-        let h = (check-none (sessionOk O.offices O.plots r) 3 _ (omega arith) c).0 in
-        ap (λ (x : ℕ). sessionOk O.offices O.plots (given x O r row (W r row)).session) (sym c)
-        ∙ write-session O (store-facts ws w32 b) r N h plot value row
+    sound_left : (r : Content) → SaneContent r → sound_store ws ≡ true → (row : List ℕ) → write_code O r plot value (length row) ≡ 0
+        → session_ok O.offices O.plots (wrote_session O r plot value) ≡ true
+    unfolding write_on write_code
+    sound_left r N b row c =
+        let h = (check_none (session_ok O.offices O.plots r) 3 _ (omega arith) c).0 in
+        ap (λ (x : ℕ). session_ok O.offices O.plots (given x O r row (W r row)).session) (sym c)
+        ∙ write_session O (store_facts ws w32 b) r N h plot value row
 
-    sane-left : (r : Content) → SaneContent r → sessionOk n p r ≡ true → SaneContent (wroteSession O r plot value)
-    unfolding wroteSession join newEntry
-    sane-left r N h =
+    sane_left : (r : Content) → SaneContent r → session_ok n p r ≡ true → SaneContent (wrote_session O r plot value)
+    unfolding wrote_session join new_entry
+    sane_left r N h =
         record {
           clock8 = refl;
           read = N.read;
           own =
               λ e m.
               ⊎_elim (λ i. N.own e i)
-              (λ (i : Memᴰ e (newEntry O r plot value ∷ [])).
+              (λ (i : Memᴰ e (new_entry O r plot value ∷ [])).
               rw (Memᴰ.eq_of_singleton i)
               (record {
-                clock8 = length-set (join (clockOf O) r.clock) O.own (made O + 1);
-                deps-set = ids-unite r.read (ids_of r.own) N.read (ids_set r.own (own-low s t T r h));
+                clock8 = length-set (join (clock_of O) r.clock) O.own (made O + 1);
+                deps_set = ids_unite r.read (ids_of r.own) N.read (ids_set r.own (own_low s t T r h));
               }))
               (Memᴰ.append_cases r.own m);
         }
 
-    wrote-again : soundStore ws ≡ true → (row : List ℕ) → writeCode O s plot value (length row) ≡ 0
-        → TwoOrders (wroteSession O s plot value) (wroteSession O t plot value)
-    wrote-again b row c =
+    wrote_again : sound_store ws ≡ true → (row : List ℕ) → write_code O s plot value (length row) ≡ 0
+        → TwoOrders (wrote_session O s plot value) (wrote_session O t plot value)
+    wrote_again b row c =
         record {
           n = O.offices;
           p = O.plots;
-          ring = ring_of O.offices O.own O.plots (store-facts ws w32 b).settings;
-          first = sound-left s T.sane-first b row c;
-          second = sound-left t T.sane-second b row (code-zero (length row) c);
-          sane-first = sane-left s T.sane-first T.first;
-          sane-second = sane-left t T.sane-second T.second;
-          order = wrote-order;
+          ring = ring_of O.offices O.own O.plots (store_facts ws w32 b).settings;
+          first = sound_left s T.sane_first b row c;
+          second = sound_left t T.sane_second b row (code_zero (length row) c);
+          sane_first = sane_left s T.sane_first T.first;
+          sane_second = sane_left t T.sane_second T.second;
+          order = wrote_order;
         }
 
     pub write_same : (row : List ℕ) → (write ws s plot value row).code ≡ 0 → SameWrite (write ws s plot value row) (write ws t plot value row)
-    unfolding write writeOn
-    write_same row h = go (soundStore ws) refl (writeCode O s plot value (length row)) refl (writeCode O t plot value (length row)) (code-zero (length row)) h
+    unfolding write write_on
+    write_same row h = go (sound_store ws) refl (write_code O s plot value (length row)) refl (write_code O t plot value (length row)) (code_zero (length row)) h
       where
-        go : (b : Bool) → soundStore ws ≡ b → (c : ℕ) → writeCode O s plot value (length row) ≡ c → (d : ℕ) → (writeCode O s plot value (length row) ≡ 0 → d ≡ 0)
+        go : (b : Bool) → sound_store ws ≡ b → (c : ℕ) → write_code O s plot value (length row) ≡ c → (d : ℕ) → (write_code O s plot value (length row) ≡ 0 → d ≡ 0)
             → (worded b ws s row (given c O s row (W s row))).code ≡ 0
             → SameWrite (worded b ws s row (given c O s row (W s row))) (worded b ws t row (given d O t row (W t row)))
         go true b zero c zero d e =
             record {
               code = refl;
-              count = rows-length sends-order;
-              store = ap (store_words ws) (held_same (store-facts ws w32 b).held-set);
-              made = made-same;
-              sent = permuted-map frameWords sends-order;
-              again = wrote-again b row c;
+              count = rows_length sends_order;
+              store = ap (store_words ws) (held_same (store_facts ws w32 b).held_set);
+              made = made_same;
+              sent = permuted_map frame_words sends_order;
+              again = wrote_again b row c;
             }
         go true b zero c (suc d) k e = absurd (omega (arith, k c))
         go true b (suc x) c d k e = absurd (omega (arith, e))

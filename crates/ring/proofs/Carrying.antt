@@ -9,46 +9,46 @@ use lib.ListN.{length}
 use Rattle.causal.specs.Clocks.{join}
 use Rattle.causal.specs.Codes.{check}
 use Rattle.causal.specs.Lists.{zeros}
-use Rattle.causal.specs.Sets.{IdSet, inserted, subsetOf}
+use Rattle.causal.specs.Sets.{IdSet, inserted, subset_of}
 use Rattle.causal.specs.Tests.{both}
-use Rattle.causal.proofs.Codes.{check-none}
-use Rattle.causal.proofs.Sets.{ids-zeros}
+use Rattle.causal.proofs.Codes.{check_none}
+use Rattle.causal.proofs.Sets.{ids_zeros}
 use Rattle.causal.proofs.Tests.{same_test}
 use Rattle.frame.specs.Calls.{laid}
-use Rattle.frame.specs.Entries.{entryOk, id_of}
-use Rattle.frame.specs.Sessions.{Content, SaneContent, ownOk, sessionOk}
+use Rattle.frame.specs.Entries.{entry_ok, id_of}
+use Rattle.frame.specs.Sessions.{Content, SaneContent, own_ok, session_ok}
 use Rattle.frame.specs.declared.entry.Entry.{Entry}
-use Rattle.frame.proofs.Entries.{EntryFacts, entry-facts, ring-facts}
+use Rattle.frame.proofs.Entries.{EntryFacts, entry_facts, ring_facts}
 use Rattle.frame.proofs.Ids.{id_range}
-use Rattle.frame.proofs.LeaveOut.{left-from}
-use Rattle.frame.proofs.Sessions.{facts-own, facts-session, own-facts, own-ok, session-facts}
+use Rattle.frame.proofs.LeaveOut.{left_from}
+use Rattle.frame.proofs.Sessions.{facts_own, facts_session, own_facts, own_ok_lem, session_facts}
 use Rattle.joining.specs.Orders.{Reordered}
-use Rattle.joining.proofs.Orders.{Apart, permuted-from, permuted-length, permuted-to}
-use Rattle.joining.proofs.Sound.{own-apart}
-use Rattle.store.specs.Offices.{Found, None, Office, Some, Words32, current, officeOf, reveal, soundStore, store_words}
-use Rattle.store.proofs.Keep.{store-facts}
-use Rattle.office.specs.Calls.{answerWords, given, handed, handedAll, jointCode, jointOn, noted, notedAll, plotsOk, read_all, read_code, readJoint, read_on, readOut, readPlot, released, showsOwn, worded}
-use Rattle.office.proofs.KeptSession.{joint-session, noted-sane, read-session}
-use Rattle.office.proofs.Released.{released-sane}
+use Rattle.joining.proofs.Orders.{Apart, permuted_from, permuted_length, permuted_to}
+use Rattle.joining.proofs.Sound.{own_apart}
+use Rattle.store.specs.Offices.{Found, None, Office, Some, Words32, current, office_of, reveal, sound_store, store_words}
+use Rattle.store.proofs.Keep.{store_facts}
+use Rattle.office.specs.Calls.{answer_words, given, handed, handed_all, joint_code, joint_on, noted, noted_all, plots_ok, read_all, read_code, read_joint, read_on, read_out, read_plot, released, shows_own, worded}
+use Rattle.office.proofs.KeptSession.{joint_session, noted_sane, read_session}
+use Rattle.office.proofs.Released.{released_sane}
 use Rattle.ring.specs.Carrying.{SameReply, TwoOrders}
-use Rattle.ring.proofs.BestOwn.{best-same}
-use Rattle.ring.proofs.Noted.{read-own}
-use Rattle.ring.proofs.TwoOrders.{out-same, permuted-left}
+use Rattle.ring.proofs.BestOwn.{best_same}
+use Rattle.ring.proofs.Noted.{read_own}
+use Rattle.ring.proofs.TwoOrders.{out_same, permuted_left}
 
 -- ---- sound for other settings
 
-own-settings : (n p m q : ℕ) (read seen : List ℕ) (es : List Entry) → ownOk n p read seen es ≡ true
-    → ((e : Entry) → Memᴰ e es → entryOk m q e ≡ true) → ownOk m q read seen es ≡ true
-unfolding ownOk
-own-settings n p m q read seen [] h ok = refl
-own-settings n p m q read seen (e ∷ es) h ok =
-    let F = own-facts n p read seen e es h in
-    facts-own m q read seen e es
+own_settings : (n p m q : ℕ) (read seen : List ℕ) (es : List Entry) → own_ok n p read seen es ≡ true
+    → ((e : Entry) → Memᴰ e es → entry_ok m q e ≡ true) → own_ok m q read seen es ≡ true
+unfolding own_ok
+own_settings n p m q read seen [] h ok = refl
+own_settings n p m q read seen (e ∷ es) h ok =
+    let F = own_facts n p read seen e es h in
+    facts_own m q read seen e es
     (record {
       ok = ok e (Memᴰ.head refl);
       new = F.new;
       deps = F.deps;
-      rest = own-settings n p m q read (inserted seen (id_of e)) es F.rest (λ x i. ok x (Memᴰ.tail i));
+      rest = own_settings n p m q read (inserted seen (id_of e)) es F.rest (λ x i. ok x (Memᴰ.tail i));
     })
 
 module _ (s t : Content) (T : TwoOrders s t) where
@@ -59,66 +59,66 @@ module _ (s t : Content) (T : TwoOrders s t) where
   p = T.p
 
   pub n8 : T.n ≤ 8
-  n8 = (ring-facts n p T.ring).high
+  n8 = (ring_facts n p T.ring).high
 
   -- what holds of either's own writes
   keeps : (e : Entry) → Memᴰ e s.own → EntryFacts n p e × (length e.clock ≡ 8)
-  keeps e m = (entry-facts n p e (own-ok n p s (session-facts n p s T.first) e m), (T.sane-first.own e m).clock8)
+  keeps e m = (entry_facts n p e (own_ok_lem n p s (session_facts n p s T.first) e m), (T.sane_first.own e m).clock8)
 
-  pub own-low : (r : Content) → sessionOk n p r ≡ true → (e : Entry) → Memᴰ e r.own → id_of e < 256
-  own-low r h e m = omega (arith, n8, id_range n p e (entry-facts n p e (own-ok n p r (session-facts n p r h) e m)))
+  pub own_low : (r : Content) → session_ok n p r ≡ true → (e : Entry) → Memᴰ e r.own → id_of e < 256
+  own_low r h e m = omega (arith, n8, id_range n p e (entry_facts n p e (own_ok_lem n p r (session_facts n p r h) e m)))
 
   pub apart : Apart (map id_of s.own)
-  apart = own-apart n p n8 s.read zeros ids-zeros s.own (session-facts n p s T.first).own
+  apart = own_apart n p n8 s.read zeros ids_zeros s.own (session_facts n p s T.first).own
 
   -- "hand back the higher-ranked": the same
-  pub handed-same : (O : Office) (plot : ℕ) → handed O s plot ≡ handed O t plot
+  pub handed_same : (O : Office) (plot : ℕ) → handed O s plot ≡ handed O t plot
   unfolding handed
-  handed-same O plot =
-      best-same n p s.own t.own (permuted-to T.order.own) (permuted-from T.order.own) keeps apart plot (current O plot)
+  handed_same O plot =
+      best_same n p s.own t.own (permuted_to T.order.own) (permuted_from T.order.own) keeps apart plot (current O plot)
 
   all_same : (O : Office) (plots : List ℕ) → map (handed O s) plots ≡ map (handed O t) plots
   all_same O [] = refl
-  all_same O (q ∷ qs) = λ i. handed-same O q i ∷ all_same O qs i
+  all_same O (q ∷ qs) = λ i. handed_same O q i ∷ all_same O qs i
 
   -- sound for whatever settings, if the other is
-  over : (m q : ℕ) → sessionOk m q s ≡ true → sessionOk m q t ≡ true
+  over : (m q : ℕ) → session_ok m q s ≡ true → session_ok m q t ≡ true
   over m q h =
-      let F = session-facts m q s h in
-      facts-session m q t
+      let F = session_facts m q s h in
+      facts_session m q t
       (record {
         offices = sym T.order.offices ∙ F.offices;
-        few = omega (arith, F.few, permuted-length T.order.own);
+        few = omega (arith, F.few, permuted_length T.order.own);
         clock = rw (← T.order.clock) F.clock;
         ids = rw (← T.order.read) F.ids;
         own =
-            own-settings n p m q t.read zeros t.own (session-facts n p t T.second).own
-            (λ e i. own-ok m q s F e (permuted-from T.order.own e i));
+            own_settings n p m q t.read zeros t.own (session_facts n p t T.second).own
+            (λ e i. own_ok_lem m q s F e (permuted_from T.order.own e i));
       })
 
-  under : (m q : ℕ) → sessionOk m q t ≡ true → sessionOk m q s ≡ true
+  under : (m q : ℕ) → session_ok m q t ≡ true → session_ok m q s ≡ true
   under m q h =
-      let F = session-facts m q t h in
-      facts-session m q s
+      let F = session_facts m q t h in
+      facts_session m q s
       (record {
         offices = T.order.offices ∙ F.offices;
-        few = omega (arith, F.few, permuted-length T.order.own);
+        few = omega (arith, F.few, permuted_length T.order.own);
         clock = rw T.order.clock F.clock;
         ids = rw T.order.read F.ids;
         own =
-            own-settings n p m q s.read zeros s.own (session-facts n p s T.first).own
-            (λ e i. own-ok m q t F e (permuted-to T.order.own e i));
+            own_settings n p m q s.read zeros s.own (session_facts n p s T.first).own
+            (λ e i. own_ok_lem m q t F e (permuted_to T.order.own e i));
       })
 
-  pub ok_same : (m q : ℕ) → sessionOk m q s ≡ sessionOk m q t
-  ok_same m q = same_test (sessionOk m q s) (sessionOk m q t) (over m q) (under m q)
+  pub ok_same : (m q : ℕ) → session_ok m q s ≡ session_ok m q t
+  ok_same m q = same_test (session_ok m q s) (session_ok m q t) (over m q) (under m q)
 
 -- ---- what a reading leaves
 
-noted-order : (f : Found) (s t : Content) → Reordered s t → Reordered (noted f s) (noted f t)
+noted_order : (f : Found) (s t : Content) → Reordered s t → Reordered (noted f s) (noted f t)
 unfolding noted
-noted-order None s t R = R
-noted-order (Some e) s t R =
+noted_order None s t R = R
+noted_order (Some e) s t R =
     record {
       offices = R.offices;
       clock = ap (λ (c : List ℕ). join c e.clock) R.clock;
@@ -126,85 +126,85 @@ noted-order (Some e) s t R =
       own = R.own;
     }
 
-all-order : (O : Office) (qs : List ℕ) (s t : Content) → Reordered s t → Reordered (notedAll O qs s) (notedAll O qs t)
-unfolding notedAll
-all-order O [] s t R = R
-all-order O (q ∷ qs) s t R = all-order O qs (noted (current O q) s) (noted (current O q) t) (noted-order (current O q) s t R)
+all_order : (O : Office) (qs : List ℕ) (s t : Content) → Reordered s t → Reordered (noted_all O qs s) (noted_all O qs t)
+unfolding noted_all
+all_order O [] s t R = R
+all_order O (q ∷ qs) s t R = all_order O qs (noted (current O q) s) (noted (current O q) t) (noted_order (current O q) s t R)
 
-all-sane : (O : Office) (qs : List ℕ) (s : Content) → SaneContent s → SaneContent (notedAll O qs s)
-unfolding notedAll
-all-sane O [] s N = N
-all-sane O (q ∷ qs) s N = all-sane O qs (noted (current O q) s) (noted-sane (current O q) s N)
+all_sane : (O : Office) (qs : List ℕ) (s : Content) → SaneContent s → SaneContent (noted_all O qs s)
+unfolding noted_all
+all_sane O [] s N = N
+all_sane O (q ∷ qs) s N = all_sane O qs (noted (current O q) s) (noted_sane (current O q) s N)
 
 -- once what is shown is released
-released-order : (O : Office) (s t : Content) → ((e : Entry) → Memᴰ e s.own → id_of e < 256) → IdSet s.read → Reordered s t
+released_order : (O : Office) (s t : Content) → ((e : Entry) → Memᴰ e s.own → id_of e < 256) → IdSet s.read → Reordered s t
     → Reordered (released O s) (released O t)
 unfolding released
-released-order O s t small w R =
+released_order O s t small w R =
     record {
       offices = R.offices;
       clock = R.clock;
-      read = out-same O R.own small s.read w ∙ ap (λ (x : List ℕ). readOut (showsOwn O) x t.own) R.read;
-      own = permuted-left (showsOwn O) R.own;
+      read = out_same O R.own small s.read w ∙ ap (λ (x : List ℕ). read_out (shows_own O) x t.own) R.read;
+      own = permuted_left (shows_own O) R.own;
     }
 
 -- a session sound for one number of plots whose own writes are in range for another is sound for that
-ok-plots : (n p q : ℕ) (s r : Content) → sessionOk n q r ≡ true → ((e : Entry) → Memᴰ e r.own → Memᴰ e s.own)
-    → sessionOk n p s ≡ true → sessionOk n p r ≡ true
-ok-plots n p q s r h e k =
-    let F = session-facts n q r h in
-    facts-session n p r
+ok_plots : (n p q : ℕ) (s r : Content) → session_ok n q r ≡ true → ((e : Entry) → Memᴰ e r.own → Memᴰ e s.own)
+    → session_ok n p s ≡ true → session_ok n p r ≡ true
+ok_plots n p q s r h e k =
+    let F = session_facts n q r h in
+    facts_session n p r
     (record {
       offices = F.offices;
       few = F.few;
       clock = F.clock;
       ids = F.ids;
-      own = own-settings n q n p r.read zeros r.own F.own (λ x i. own-ok n p s (session-facts n p s k) x (e x i));
+      own = own_settings n q n p r.read zeros r.own F.own (λ x i. own_ok_lem n p s (session_facts n p s k) x (e x i));
     })
 
 -- a reading that is not refused is of a sound session
-pub read-sound : (O : Office) (s : Content) (plot : ℕ) → read_code O s plot ≡ 0 → sessionOk O.offices O.plots s ≡ true
+pub read_sound : (O : Office) (s : Content) (plot : ℕ) → read_code O s plot ≡ 0 → session_ok O.offices O.plots s ≡ true
 unfolding read_code
-read-sound O s plot c = (check-none (sessionOk O.offices O.plots s) 3 _ (omega arith) c).0
+read_sound O s plot c = (check_none (session_ok O.offices O.plots s) 3 _ (omega arith) c).0
 
-pub joint-sound : (O : Office) (s : Content) (plots : List ℕ) (room : ℕ) → jointCode O s plots room ≡ 0 → sessionOk O.offices O.plots s ≡ true
-unfolding jointCode
-joint-sound O s plots room c = (check-none (sessionOk O.offices O.plots s) 3 _ (omega arith) c).0
+pub joint_sound : (O : Office) (s : Content) (plots : List ℕ) (room : ℕ) → joint_code O s plots room ≡ 0 → session_ok O.offices O.plots s ≡ true
+unfolding joint_code
+joint_sound O s plots room c = (check_none (session_ok O.offices O.plots s) 3 _ (omega arith) c).0
 
 module _ (s t : Content) (T : TwoOrders s t) (ws : List ℕ) (w32 : Words32 ws) where
   abbrev O : Office
-  O = officeOf ws
+  O = office_of ws
 
   -- what an accepted reading leaves of r
   abbrev left : Content → List ℕ → Content
-  left r plots = notedAll (reveal O r.read) plots (released (reveal O r.read) r)
+  left r plots = noted_all (reveal O r.read) plots (released (reveal O r.read) r)
 
   -- the sessions left by an accepted reading are again two such
-  left-again : (plots : List ℕ) → sessionOk O.offices O.plots s ≡ true → sessionOk O.offices O.plots (left s plots) ≡ true
-      → sessionOk O.offices O.plots (left t plots) ≡ true → TwoOrders (left s plots) (left t plots)
-  left-again plots h hs ht =
-      let e : T.n ≡ O.offices = sym (session-facts T.n T.p s T.first).offices ∙ (session-facts O.offices O.plots s h).offices in
+  left_again : (plots : List ℕ) → session_ok O.offices O.plots s ≡ true → session_ok O.offices O.plots (left s plots) ≡ true
+      → session_ok O.offices O.plots (left t plots) ≡ true → TwoOrders (left s plots) (left t plots)
+  left_again plots h hs ht =
+      let e : T.n ≡ O.offices = sym (session_facts T.n T.p s T.first).offices ∙ (session_facts O.offices O.plots s h).offices in
       record {
         n = T.n;
         p = T.p;
         ring = T.ring;
         first =
-            ok-plots T.n T.p O.plots s _ (ap (λ (m : ℕ). sessionOk m O.plots (left s plots)) e ∙ hs) (carried s) T.first;
+            ok_plots T.n T.p O.plots s _ (ap (λ (m : ℕ). session_ok m O.plots (left s plots)) e ∙ hs) (carried s) T.first;
         second =
-            ok-plots T.n T.p O.plots t _ (ap (λ (m : ℕ). sessionOk m O.plots (left t plots)) e ∙ ht) (carried t) T.second;
-        sane-first = all-sane (reveal O s.read) plots _ (released-sane T.n T.p (n8 s t T) (reveal O s.read) s T.sane-first T.first);
-        sane-second = all-sane (reveal O t.read) plots _ (released-sane T.n T.p (n8 s t T) (reveal O t.read) t T.sane-second T.second);
+            ok_plots T.n T.p O.plots t _ (ap (λ (m : ℕ). session_ok m O.plots (left t plots)) e ∙ ht) (carried t) T.second;
+        sane_first = all_sane (reveal O s.read) plots _ (released_sane T.n T.p (n8 s t T) (reveal O s.read) s T.sane_first T.first);
+        sane_second = all_sane (reveal O t.read) plots _ (released_sane T.n T.p (n8 s t T) (reveal O t.read) t T.sane_second T.second);
         order =
             at_read s.read t.read T.order.read
-            (all-order (reveal O s.read) plots _ _
-            (released-order (reveal O s.read) s t (own-low s t T s T.first) T.sane-first.read T.order));
+            (all_order (reveal O s.read) plots _ _
+            (released_order (reveal O s.read) s t (own_low s t T s T.first) T.sane_first.read T.order));
       }
     where
       carried : (r : Content) (e : Entry) → Memᴰ e (left r plots).own → Memᴰ e r.own
-      carried r e m = (left-from (showsOwn (reveal O r.read)) r.own e (rw (read-own (reveal O r.read) plots r) at m)).0
+      carried r e m = (left_from (shows_own (reveal O r.read)) r.own e (rw (read_own (reveal O r.read) plots r) at m)).0
 
-      at_read : (x y : List ℕ) → x ≡ y → Reordered (left s plots) (notedAll (reveal O x) plots (released (reveal O x) t))
-          → Reordered (left s plots) (notedAll (reveal O y) plots (released (reveal O y) t))
+      at_read : (x y : List ℕ) → x ≡ y → Reordered (left s plots) (noted_all (reveal O x) plots (released (reveal O x) t))
+          → Reordered (left s plots) (noted_all (reveal O y) plots (released (reveal O y) t))
       at_read x y q R = rw q at R
 
   -- the two answers, by their refusal numbers
@@ -228,53 +228,53 @@ module _ (s t : Content) (T : TwoOrders s t) (ws : List ℕ) (w32 : Words32 ws) 
 
   -- ---- of one plot
 
-  read-code : (plot : ℕ) → read_code O s plot ≡ read_code O t plot
+  read_code_lem : (plot : ℕ) → read_code O s plot ≡ read_code O t plot
   unfolding read_code
-  read-code plot =
+  read_code_lem plot =
       λ i.
       check (ok_same s t T O.offices O.plots i) 3
-      (check (ltb plot O.plots) 4 (check (subsetOf (T.order.read i) O.held) 12 0))
+      (check (ltb plot O.plots) 4 (check (subset_of (T.order.read i) O.held) 12 0))
 
-  read_left : (plot : ℕ) (r : Content) → SaneContent r → soundStore ws ≡ true → read_code O r plot ≡ 0
-      → sessionOk O.offices O.plots (left r (plot ∷ [])) ≡ true
+  read_left : (plot : ℕ) (r : Content) → SaneContent r → sound_store ws ≡ true → read_code O r plot ≡ 0
+      → session_ok O.offices O.plots (left r (plot ∷ [])) ≡ true
   unfolding read_on
   read_left plot r N h c =
-      ap (λ (x : ℕ). sessionOk O.offices O.plots (given x O r [] (read_all O r (plot ∷ []) [])).session) (sym c)
-      ∙ read-session O (store-facts ws w32 h) r N (read-sound O r plot c) plot
+      ap (λ (x : ℕ). session_ok O.offices O.plots (given x O r [] (read_all O r (plot ∷ []) [])).session) (sym c)
+      ∙ read_session O (store_facts ws w32 h) r N (read_sound O r plot c) plot
 
-  pub read_same : (plot : ℕ) → SameReply (readPlot ws s plot) (readPlot ws t plot)
-  unfolding readPlot read_on
+  pub read_same : (plot : ℕ) → SameReply (read_plot ws s plot) (read_plot ws t plot)
+  unfolding read_plot read_on
   read_same plot =
-      reply (plot ∷ []) [] [] [] refl (soundStore ws) (read_code O s plot) (read_code O t plot) (read-code plot)
+      reply (plot ∷ []) [] [] [] refl (sound_store ws) (read_code O s plot) (read_code O t plot) (read_code_lem plot)
       (λ h c.
-      left-again (plot ∷ []) (read-sound O s plot c) (read_left plot s T.sane-first h c)
-      (read_left plot t T.sane-second h (sym (read-code plot) ∙ c)))
+      left_again (plot ∷ []) (read_sound O s plot c) (read_left plot s T.sane_first h c)
+      (read_left plot t T.sane_second h (sym (read_code_lem plot) ∙ c)))
 
   -- ---- jointly
 
-  joint-code : (plots : List ℕ) (room : ℕ) → jointCode O s plots room ≡ jointCode O t plots room
-  unfolding jointCode
-  joint-code plots room =
+  joint_code_lem : (plots : List ℕ) (room : ℕ) → joint_code O s plots room ≡ joint_code O t plots room
+  unfolding joint_code
+  joint_code_lem plots room =
       λ i.
       check (ok_same s t T O.offices O.plots i) 3
-      (check (both (leb (length plots) 16) (plotsOk O.plots plots)) 4
-      (check (leb (3 * length plots) room) 8 (check (subsetOf (T.order.read i) O.held) 12 0)))
+      (check (both (leb (length plots) 16) (plots_ok O.plots plots)) 4
+      (check (leb (3 * length plots) room) 8 (check (subset_of (T.order.read i) O.held) 12 0)))
 
-  joint-left : (plots row : List ℕ) (r : Content) → SaneContent r → soundStore ws ≡ true → jointCode O r plots (length row) ≡ 0
-      → sessionOk O.offices O.plots (left r plots) ≡ true
-  unfolding jointOn
-  joint-left plots row r N h c =
+  joint_left : (plots row : List ℕ) (r : Content) → SaneContent r → sound_store ws ≡ true → joint_code O r plots (length row) ≡ 0
+      → session_ok O.offices O.plots (left r plots) ≡ true
+  unfolding joint_on
+  joint_left plots row r N h c =
       ap
-      (λ (x : ℕ). sessionOk O.offices O.plots (given x O r row (read_all O r plots (laid (answerWords (handedAll O r plots)) row))).session) (sym c)
-      ∙ joint-session O (store-facts ws w32 h) r N (joint-sound O r plots (length row) c) plots row
+      (λ (x : ℕ). session_ok O.offices O.plots (given x O r row (read_all O r plots (laid (answer_words (handed_all O r plots)) row))).session) (sym c)
+      ∙ joint_session O (store_facts ws w32 h) r N (joint_sound O r plots (length row) c) plots row
 
-  pub joint-same : (plots row : List ℕ) → SameReply (readJoint ws s plots row) (readJoint ws t plots row)
-  unfolding readJoint jointOn
-  joint-same plots row =
-      reply plots row (laid (answerWords (handedAll O s plots)) row) (laid (answerWords (handedAll O t plots)) row)
-      (ap (λ (l : List Found). laid (answerWords l) row)
+  pub joint_same : (plots row : List ℕ) → SameReply (read_joint ws s plots row) (read_joint ws t plots row)
+  unfolding read_joint joint_on
+  joint_same plots row =
+      reply plots row (laid (answer_words (handed_all O s plots)) row) (laid (answer_words (handed_all O t plots)) row)
+      (ap (λ (l : List Found). laid (answer_words l) row)
       (all_same s t T (reveal O s.read) plots ∙ ap (λ (r : List ℕ). map (handed (reveal O r) t) plots) T.order.read))
-      (soundStore ws) (jointCode O s plots (length row)) (jointCode O t plots (length row)) (joint-code plots (length row))
+      (sound_store ws) (joint_code O s plots (length row)) (joint_code O t plots (length row)) (joint_code_lem plots (length row))
       (λ h c.
-      left-again plots (joint-sound O s plots (length row) c) (joint-left plots row s T.sane-first h c)
-      (joint-left plots row t T.sane-second h (sym (joint-code plots (length row)) ∙ c)))
+      left_again plots (joint_sound O s plots (length row) c) (joint_left plots row s T.sane_first h c)
+      (joint_left plots row t T.sane_second h (sym (joint_code_lem plots (length row)) ∙ c)))

@@ -10,30 +10,30 @@ use lib.Dec.{eqb, ltb}
 use lib.ListN.{length, set}
 use borrow.Author.Tests.{eq-eqb, ne_eqb}
 use Rattle.causal.specs.Tests.{both}
-use Rattle.causal.proofs.Tests.{eq-or-ne}
+use Rattle.causal.proofs.Tests.{eq_or_ne}
 use Rattle.frame.specs.Entries.{id_of}
 use Rattle.frame.specs.Sessions.{Content}
-use Rattle.frame.specs.TokenCalls.{writeTokenCode}
-use Rattle.joining.specs.Joins.{joinCode}
-use Rattle.office.specs.Calls.{Result, freshCode, readJoint, readPlot, receive, write}
-use Rattle.ring.specs.Run.{Call, Made, Tracked, TrackedToken, at, begins, copy-session, copy-token, copySession, copyToken, fresh, fromTokenAt, gained, joinAt, joining, joint, jointAt, last_of, onWords, readAt, read_by, reading, receiveAt, receiveBy, receiving, receiving-words, step, token-reading, token-writing, tokenAt, tokenBy, turnedBy, wordsBy, writeAt, writeBy, writing}
+use Rattle.frame.specs.TokenCalls.{write_token_code}
+use Rattle.joining.specs.Joins.{join_code}
+use Rattle.office.specs.Calls.{Result, fresh_code, read_joint, read_plot, receive, write}
+use Rattle.ring.specs.Run.{Call, Made, Tracked, TrackedToken, at, begins, copy_session, copy_token, copied_session, copied_token, fresh, from_token_at, gained, join_at, joining, joint, joint_at, last_of, over_words, read_at, read_by, reading, receive_at, receive_by, receiving, receiving_words, step, token_reading, token_writing, token_at, token_by, turned_by, words_by, write_at, write_by, writing}
 use Rattle.ring.proofs.Chain.{at_one}
 use Rattle.ring.proofs.SameRun.{WState}
 
 -- ---- places of a list
 
-nothing-there : (r : Tracked) → ◌≡◌ {A = List Tracked} [] (r ∷ []) → ⊥
-nothing-there r e = let z = ap length e in omega (arith, z)
+nothing_there : (r : Tracked) → ◌≡◌ {A = List Tracked} [] (r ∷ []) → ⊥
+nothing_there r e = let z = ap length e in omega (arith, z)
 
-more-at : (l m : List Tracked) (i : ℕ) (r : Tracked) → at l i ≡ r ∷ [] → at (l ++ m) i ≡ r ∷ []
+more_at : (l m : List Tracked) (i : ℕ) (r : Tracked) → at l i ≡ r ∷ [] → at (l ++ m) i ≡ r ∷ []
 unfolding at
-more-at [] m i r e = absurd (nothing-there r e)
-more-at (x ∷ l) m zero r e = e
-more-at (x ∷ l) m (suc i) r e = more-at l m i r e
+more_at [] m i r e = absurd (nothing_there r e)
+more_at (x ∷ l) m zero r e = e
+more_at (x ∷ l) m (suc i) r e = more_at l m i r e
 
 set_here : (l : List Tracked) (i : ℕ) (r y : Tracked) → at l i ≡ r ∷ [] → at (set l i y) i ≡ y ∷ []
 unfolding at
-set_here [] i r y e = absurd (nothing-there r e)
+set_here [] i r y e = absurd (nothing_there r e)
 set_here (x ∷ l) zero r y e = refl
 set_here (x ∷ l) (suc i) r y e = set_here l i r y e
 
@@ -48,28 +48,28 @@ set_there (x ∷ l) (suc j) (suc i) y ne = set_there l j i y (λ q. ne (ap suc q
 -- ---- what a call leaves
 
 -- its past, by what the call answered
-abbrev pub wrotePast : Result (List ℕ) (List ℕ) → ℕ → List ℕ → List ℕ
-wrotePast R zero past = id_of (last_of R.session.own) ∷ past
-wrotePast R (suc c) past = past
+abbrev pub wrote_past : Result (List ℕ) (List ℕ) → ℕ → List ℕ → List ℕ
+wrote_past R zero past = id_of (last_of R.session.own) ∷ past
+wrote_past R (suc c) past = past
 
-abbrev pub readPast : List Made → Result (List ℕ) (List ℕ) → ℕ → List ℕ → List ℕ
-readPast log R zero past = gained log R.found past
-readPast log R (suc c) past = past
+abbrev pub read_past : List Made → Result (List ℕ) (List ℕ) → ℕ → List ℕ → List ℕ
+read_past log R zero past = gained log R.found past
+read_past log R (suc c) past = past
 
-abbrev pub wroteOf : Result (List ℕ) (List ℕ) → ℕ → Tracked → Tracked
-wroteOf R c r = record { session = R.session; past = wrotePast R c r.past }
+abbrev pub wrote_of : Result (List ℕ) (List ℕ) → ℕ → Tracked → Tracked
+wrote_of R c r = record { session = R.session; past = wrote_past R c r.past }
 
 abbrev pub read_of : List Made → Result (List ℕ) (List ℕ) → ℕ → Tracked → Tracked
-read_of log R c r = record { session = R.session; past = readPast log R c r.past }
+read_of log R c r = record { session = R.session; past = read_past log R c r.past }
 
 module _ (n : ℕ) (g : WState) (o j : ℕ) (x : Tracked) (R : Result (List ℕ) (List ℕ)) where
-  pub write-sets : (c : ℕ) → (writeBy onWords n g o j x R c).sessions ≡ set g.sessions j (wroteOf R c x)
-  write-sets zero = refl
-  write-sets (suc c) = refl
+  pub write_sets : (c : ℕ) → (write_by over_words n g o j x R c).sessions ≡ set g.sessions j (wrote_of R c x)
+  write_sets zero = refl
+  write_sets (suc c) = refl
 
-  pub read-sets : (plots : List ℕ) (c : ℕ) → (read_by onWords n g o j x plots R c).sessions ≡ set g.sessions j (read_of g.log R c x)
-  read-sets plots zero = refl
-  read-sets plots (suc c) = refl
+  pub read_sets : (plots : List ℕ) (c : ℕ) → (read_by over_words n g o j x plots R c).sessions ≡ set g.sessions j (read_of g.log R c x)
+  read_sets plots zero = refl
+  read_sets plots (suc c) = refl
 
 module _ (n i : ℕ) where
   -- is it a call at an office of the ring with session i?
@@ -79,26 +79,26 @@ module _ (n i : ℕ) where
   -- what stands at place i after the call, where r stood
   unfoldable pub after : WState → Call → Tracked → Tracked
   after g (writing o j plot value row) r =
-      cond (mine o j) (wroteOf (write (g.stores o) r.session plot value row) (write (g.stores o) r.session plot value row).code r) r
+      cond (mine o j) (wrote_of (write (g.stores o) r.session plot value row) (write (g.stores o) r.session plot value row).code r) r
   after g (reading o j plot) r =
-      cond (mine o j) (read_of g.log (readPlot (g.stores o) r.session plot) (readPlot (g.stores o) r.session plot).code r) r
+      cond (mine o j) (read_of g.log (read_plot (g.stores o) r.session plot) (read_plot (g.stores o) r.session plot).code r) r
   after g (joint o j plots row) r =
-      cond (mine o j) (read_of g.log (readJoint (g.stores o) r.session plots row) (readJoint (g.stores o) r.session plots row).code r) r
+      cond (mine o j) (read_of g.log (read_joint (g.stores o) r.session plots row) (read_joint (g.stores o) r.session plots row).code r) r
   after g (receiving o row) r = r
-  after g (receiving-words o words row) r = r
+  after g (receiving_words o words row) r = r
   after g (fresh m) r = r
-  after g (token-writing j row) r = r
-  after g (token-reading t m p) r = r
-  after g (copy-session j) r = r
-  after g (copy-token t) r = r
+  after g (token_writing j row) r = r
+  after g (token_reading t m p) r = r
+  after g (copy_session j) r = r
+  after g (copy_token t) r = r
   after g (joining j k m p) r = r
 
   module _ (g : WState) (r : Tracked) (e : at g.sessions i ≡ r ∷ []) where
     abbrev At : WState → Tracked → Type 0
     At h u = at h.sessions i ≡ u ∷ []
 
-    at-office : (o : ℕ) (h : WState) → At h r → At (cond (ltb o n) h g) r
-    at-office o h k = go (ltb o n)
+    at_office : (o : ℕ) (h : WState) → At h r → At (cond (ltb o n) h g) r
+    at_office o h k = go (ltb o n)
       where
         go : (t : Bool) → At (cond t h g) r
         go true = k
@@ -121,71 +121,71 @@ module _ (n i : ℕ) where
 
         go : (t : Bool) → At (cond t (f (at g.sessions j)) g) (cond (both t (eqb j i)) (y r) r)
         go true =
-            ⊎_elim (λ (q : j ≡ i). rw (eq-eqb j i q) (here q)) (λ (ne : j ≢ i). rw (ne_eqb j i ne) (there ne)) (eq-or-ne j i)
+            ⊎_elim (λ (q : j ≡ i). rw (eq-eqb j i q) (here q)) (λ (ne : j ≢ i). rw (ne_eqb j i ne) (there ne)) (eq_or_ne j i)
         go false = e
 
-    begins-at : (s : Content) (past : List ℕ) (c : ℕ) → At (begins g s past c) r
-    begins-at s past zero = more-at g.sessions _ i r e
-    begins-at s past (suc c) = e
+    begins_at : (s : Content) (past : List ℕ) (c : ℕ) → At (begins g s past c) r
+    begins_at s past zero = more_at g.sessions _ i r e
+    begins_at s past (suc c) = e
 
-    receive-at : (o : ℕ) (rest : List (List ℕ)) (R : Result (List ℕ) (List ℕ)) (c : ℕ) → At (receiveBy onWords n g o rest R c) r
-    receive-at o rest R zero = e
-    receive-at o rest R (suc c) = e
+    receive_at_lem : (o : ℕ) (rest : List (List ℕ)) (R : Result (List ℕ) (List ℕ)) (c : ℕ) → At (receive_by over_words n g o rest R c) r
+    receive_at_lem o rest R zero = e
+    receive_at_lem o rest R (suc c) = e
 
-    heard-at : (o : ℕ) (row : List ℕ) (l : List (List ℕ)) → At (receiveAt onWords n g o row l) r
-    heard-at o row [] = e
-    heard-at o row (f ∷ rest) = receive-at o rest (onWords.on-receive (g.stores o) f row) (onWords.on-receive (g.stores o) f row).code
+    heard_at : (o : ℕ) (row : List ℕ) (l : List (List ℕ)) → At (receive_at over_words n g o row l) r
+    heard_at o row [] = e
+    heard_at o row (f ∷ rest) = receive_at_lem o rest (over_words.on_receive (g.stores o) f row) (over_words.on_receive (g.stores o) f row).code
 
-    words-at : (o : ℕ) (R : Result (List ℕ) (List ℕ)) → At (wordsBy onWords n g o R) r
-    words-at o R = go (eqb R.code 9)
+    words_at : (o : ℕ) (R : Result (List ℕ) (List ℕ)) → At (words_by over_words n g o R) r
+    words_at o R = go (eqb R.code 9)
       where
-        go : (t : Bool) → At (cond t (turnedBy onWords n g o R) g) r
+        go : (t : Bool) → At (cond t (turned_by over_words n g o R) g) r
         go true = e
         go false = e
 
-    token-by : (x : Tracked) (row : List ℕ) (c : ℕ) → At (tokenBy onWords n g x row c) r
-    token-by x row zero = e
-    token-by x row (suc c) = e
+    token_by_lem : (x : Tracked) (row : List ℕ) (c : ℕ) → At (token_by over_words n g x row c) r
+    token_by_lem x row zero = e
+    token_by_lem x row (suc c) = e
 
-    token-at : (row : List ℕ) (l : List Tracked) → At (tokenAt onWords n g row l) r
-    token-at row [] = e
-    token-at row (x ∷ l) = token-by x row (writeTokenCode x.session (length row))
+    token_at_lem : (row : List ℕ) (l : List Tracked) → At (token_at over_words n g row l) r
+    token_at_lem row [] = e
+    token_at_lem row (x ∷ l) = token_by_lem x row (write_token_code x.session (length row))
 
-    from_at : (m p : ℕ) (l : List (TrackedToken (List ℕ))) → At (fromTokenAt onWords n g m p l) r
+    from_at : (m p : ℕ) (l : List (TrackedToken (List ℕ))) → At (from_token_at over_words n g m p l) r
     from_at m p [] = e
-    from_at m p (x ∷ l) = begins-at (onWords.token-read x.token) x.past (onWords.token-code m p x.token)
+    from_at m p (x ∷ l) = begins_at (over_words.token_read x.token) x.past (over_words.token_code m p x.token)
 
-    copied_at : (l : List Tracked) → At (copySession onWords n g l) r
+    copied_at : (l : List Tracked) → At (copied_session over_words n g l) r
     copied_at [] = e
-    copied_at (x ∷ l) = more-at g.sessions (x ∷ []) i r e
+    copied_at (x ∷ l) = more_at g.sessions (x ∷ []) i r e
 
-    token-copied-at : (l : List (TrackedToken (List ℕ))) → At (copyToken onWords n g l) r
-    token-copied-at [] = e
-    token-copied-at (x ∷ l) = e
+    token_copied_at : (l : List (TrackedToken (List ℕ))) → At (copied_token over_words n g l) r
+    token_copied_at [] = e
+    token_copied_at (x ∷ l) = e
 
-    join-at : (m p : ℕ) (l k : List Tracked) → At (joinAt onWords n g m p l k) r
-    join-at m p [] k = e
-    join-at m p (a ∷ l) [] = e
-    join-at m p (a ∷ l) (b ∷ k) = begins-at _ _ (joinCode m p a.session b.session)
+    join_at_lem : (m p : ℕ) (l k : List Tracked) → At (join_at over_words n g m p l k) r
+    join_at_lem m p [] k = e
+    join_at_lem m p (a ∷ l) [] = e
+    join_at_lem m p (a ∷ l) (b ∷ k) = begins_at _ _ (join_code m p a.session b.session)
 
-    pub step-at : (x : Call) → at (step onWords n g x).sessions i ≡ after g x r ∷ []
-    unfolding step onWords after
-    step-at (writing o j plot value row) =
-        takes o j (writeAt onWords n g o j plot value row) refl _
+    pub step_at : (x : Call) → at (step over_words n g x).sessions i ≡ after g x r ∷ []
+    unfolding step over_words after
+    step_at (writing o j plot value row) =
+        takes o j (write_at over_words n g o j plot value row) refl _
         (λ x.
-        write-sets n g o j x (write (g.stores o) x.session plot value row) (write (g.stores o) x.session plot value row).code)
-    step-at (reading o j plot) =
-        takes o j (readAt onWords n g o j plot) refl _
-        (λ x. read-sets n g o j x (readPlot (g.stores o) x.session plot) (plot ∷ []) (readPlot (g.stores o) x.session plot).code)
-    step-at (joint o j plots row) =
-        takes o j (jointAt onWords n g o j plots row) refl _
+        write_sets n g o j x (write (g.stores o) x.session plot value row) (write (g.stores o) x.session plot value row).code)
+    step_at (reading o j plot) =
+        takes o j (read_at over_words n g o j plot) refl _
+        (λ x. read_sets n g o j x (read_plot (g.stores o) x.session plot) (plot ∷ []) (read_plot (g.stores o) x.session plot).code)
+    step_at (joint o j plots row) =
+        takes o j (joint_at over_words n g o j plots row) refl _
         (λ x.
-        read-sets n g o j x (readJoint (g.stores o) x.session plots row) plots (readJoint (g.stores o) x.session plots row).code)
-    step-at (receiving o row) = at-office o _ (heard-at o row (g.lines o))
-    step-at (receiving-words o words row) = at-office o _ (words-at o (receive (g.stores o) words row))
-    step-at (fresh m) = begins-at _ [] (freshCode m)
-    step-at (token-writing j row) = token-at row (at g.sessions j)
-    step-at (token-reading t m p) = from_at m p (at g.tokens t)
-    step-at (copy-session j) = copied_at (at g.sessions j)
-    step-at (copy-token t) = token-copied-at (at g.tokens t)
-    step-at (joining j k m p) = join-at m p (at g.sessions j) (at g.sessions k)
+        read_sets n g o j x (read_joint (g.stores o) x.session plots row) plots (read_joint (g.stores o) x.session plots row).code)
+    step_at (receiving o row) = at_office o _ (heard_at o row (g.lines o))
+    step_at (receiving_words o words row) = at_office o _ (words_at o (receive (g.stores o) words row))
+    step_at (fresh m) = begins_at _ [] (fresh_code m)
+    step_at (token_writing j row) = token_at_lem row (at g.sessions j)
+    step_at (token_reading t m p) = from_at m p (at g.tokens t)
+    step_at (copy_session j) = copied_at (at g.sessions j)
+    step_at (copy_token t) = token_copied_at (at g.tokens t)
+    step_at (joining j k m p) = join_at_lem m p (at g.sessions j) (at g.sessions k)

@@ -5,7 +5,7 @@ use mathlib.Core.Path.{◌≡◌, refl}
 use Rattle.ring.specs.Run.{Call, Calls, State, run, step}
 
 module _ {A B C : Type 0} (F : Calls A B C) (n : ℕ) where
-  pub run-append : (g : State A B C) (cs ds : List Call) → run F n g (cs ++ ds) ≡ run F n (run F n g cs) ds
+  pub run_append : (g : State A B C) (cs ds : List Call) → run F n g (cs ++ ds) ≡ run F n (run F n g cs) ds
   unfolding run
-  run-append g [] ds = refl
-  run-append g (c ∷ cs) ds = run-append (step F n g c) cs ds
+  run_append g [] ds = refl
+  run_append g (c ∷ cs) ds = run_append (step F n g c) cs ds

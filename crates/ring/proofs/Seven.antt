@@ -10,10 +10,10 @@ use borrow.Author.Tests.{ltb-false}
 use Rattle.causal.specs.Codes.{check, or_else}
 use Rattle.frame.specs.Sessions.{Content}
 use Rattle.frame.specs.declared.entry.Frame.{Frame}
-use Rattle.store.specs.Offices.{Office, officeOf, soundStore}
-use Rattle.office.specs.Calls.{Result, given, ownCode, worded, write, writeCode, writeOn}
+use Rattle.store.specs.Offices.{Office, office_of, sound_store}
+use Rattle.office.specs.Calls.{Result, given, own_code, worded, write, write_code, write_on}
 use Rattle.ring.specs.Carrying.{TenOrEleven}
-use Rattle.ring.proofs.CarryWrites.{own-small}
+use Rattle.ring.proofs.CarryWrites.{own_small}
 
 -- a chain of checks that gives x stops here, or gives x behind
 stops : (A : Bool) (k B x : ℕ) → check A k B ≡ x → ((A ≡ false) × (k ≡ x)) ⊎ (B ≡ x)
@@ -31,26 +31,26 @@ not_own (suc g) b (inl h) e = absurd (omega arith)
 not_own (suc g) b (inr h) e = absurd (⊎_elim (λ (x : suc g ≡ 10). omega arith) (λ (x : suc g ≡ 11). omega arith) h)
 
 -- only a session that carries 16 is refused with it
-code-seven : (O : Office) (s : Content) (plot value room : ℕ) → writeCode O s plot value room ≡ 7 → 16 ≤ length s.own
-unfolding writeCode
-code-seven O s plot value room e =
+code_seven : (O : Office) (s : Content) (plot value room : ℕ) → write_code O s plot value room ≡ 7 → 16 ≤ length s.own
+unfolding write_code
+code_seven O s plot value room e =
     ⊎_elim (λ t. ltb-false (length s.own) 16 t.0)
     (λ q.
     let r = passes _ 12 _ 7 (λ z. omega arith) (passes _ 6 _ 7 (λ z. omega arith) q) in
-    absurd (none (passes _ 8 0 7 (λ z. omega arith) (not_own (ownCode O s.own) _ (own-small O s.own) r))))
+    absurd (none (passes _ 8 0 7 (λ z. omega arith) (not_own (own_code O s.own) _ (own_small O s.own) r))))
     (stops _ 7 _ 7 (passes _ 5 _ 7 (λ z. omega arith) (passes _ 4 _ 7 (λ z. omega arith) (passes _ 3 _ 7 (λ z. omega arith) e))))
   where
     none : ◌≡◌ {A = ℕ} 0 7 → ⊥
     none z = omega arith
 
-worded-seven : (b : Bool) (c : ℕ) (ws : List ℕ) (s : Content) (row : List ℕ) (O : Office) (R : Result Office Frame) → R.code ≡ 0
+worded_seven : (b : Bool) (c : ℕ) (ws : List ℕ) (s : Content) (row : List ℕ) (O : Office) (R : Result Office Frame) → R.code ≡ 0
     → (worded b ws s row (given c O s row R)).code ≡ 7 → c ≡ 7
-worded-seven true zero ws s row O R z e = absurd (omega (arith, z, e))
-worded-seven true (suc c) ws s row O R z e = e
-worded-seven false c ws s row O R z e = absurd (omega (arith, e))
+worded_seven true zero ws s row O R z e = absurd (omega (arith, z, e))
+worded_seven true (suc c) ws s row O R z e = e
+worded_seven false c ws s row O R z e = absurd (omega (arith, e))
 
-pub write-seven : (ws : List ℕ) (s : Content) (plot value : ℕ) (row : List ℕ) → (write ws s plot value row).code ≡ 7 → 16 ≤ length s.own
-unfolding write writeOn
-write-seven ws s plot value row e =
-    code-seven (officeOf ws) s plot value (length row)
-    (worded-seven (soundStore ws) (writeCode (officeOf ws) s plot value (length row)) ws s row (officeOf ws) _ refl e)
+pub write_seven : (ws : List ℕ) (s : Content) (plot value : ℕ) (row : List ℕ) → (write ws s plot value row).code ≡ 7 → 16 ≤ length s.own
+unfolding write write_on
+write_seven ws s plot value row e =
+    code_seven (office_of ws) s plot value (length row)
+    (worded_seven (sound_store ws) (write_code (office_of ws) s plot value (length row)) ws s row (office_of ws) _ refl e)

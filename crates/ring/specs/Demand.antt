@@ -1,4 +1,4 @@
--- THE THIRD DEMAND, as one statement: code → contract → promise → run → Holds. Its one theorem is `third-demand`, proofs/Demand.antt. The links meet
+-- THE THIRD DEMAND, as one statement: code → contract → promise → run → Holds. Its one theorem is `third_demand`, proofs/Demand.antt. The links meet
 -- in the promises, which contracts and claim cite by name.
 --   code → contract → promise   `frame`, `joining`, `office`, `reading`, `writing`, `hearing`, `lent`, `host`: the code of each call, lent call
 --                               and export meets its contract; that asks for nothing, and ensures the promise (frame/specs/Promises.antt,
@@ -8,9 +8,9 @@
 --                               every list of calls has such answers (specs/Claim.antt; what is read off an answer: specs/Answers.antt)
 --   run → Holds                 in `claim` too; given apart, since the program stands on them: `opens`, `demand3`: openings in range are accepted, and
 --                               every run keeps what paper 01 asks of it (specs/Run.antt, specs/Holds.antt)
---                               Beside it `settings`, of the call that paper 01 does not have: specs/Settings.antt; `joint-together`, what the
---                               replies of a joint reading show together: specs/Joint.antt; `later-counts`, an entry and its writer's past:
---                               specs/Later.antt; `join-laws`, what a join of two sessions keeps: joining/specs/Laws.antt; `carrying-order`,
+--                               Beside it `settings`, of the call that paper 01 does not have: specs/Settings.antt; `joint_together`, what the
+--                               replies of a joint reading show together: specs/Joint.antt; `later_counts`, an entry and its writer's past:
+--                               specs/Later.antt; `join_laws`, what a join of two sessions keeps: joining/specs/Laws.antt; `carrying_order`,
 --                               `either_way`, `goes_on`, `keeps_on`, `joined_back`, what later calls make of it: specs/Carrying.antt;
 --                               `lasting`, what a session carries after readings that release, and refusal 7: specs/Lasting.antt
 -- Assumes nothing.
@@ -55,10 +55,10 @@ pub record ThirdDemand : Type 2 where
   pub opens : Opens
   pub demand3 : Demand3
   pub settings : SettingsStay
-  pub joint-together : JointTogether
-  pub later-counts : LaterCounts
-  pub join-laws : LawsOfJoin
-  pub carrying-order : CarryingOrder
+  pub joint_together : JointTogether
+  pub later_counts : LaterCounts
+  pub join_laws : LawsOfJoin
+  pub carrying_order : CarryingOrder
   pub either_way : EitherWay
   pub goes_on : GoesOn
   pub keeps_on : KeepsOn

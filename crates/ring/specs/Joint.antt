@@ -5,8 +5,8 @@ use mathlib.Core.List.{List, Memᴰ, [], ◌∷◌, map}
 use Rattle.frame.specs.Entries.{id_of, outranks}
 use Rattle.frame.specs.declared.entry.Entry.{Entry}
 use Rattle.store.specs.Offices.{Found, Some, need}
-use Rattle.office.specs.Calls.{readJoint}
-use Rattle.ring.specs.Run.{Call, Made, Tracked, at, together, wordsRun}
+use Rattle.office.specs.Calls.{read_joint}
+use Rattle.ring.specs.Run.{Call, Made, Tracked, at, together, words_run}
 
 -- k is in the session's past, as it came to the reading, or is an entry that is handed back or one of its writer's past. Each entry handed
 -- back is one of the log (`handed` of `Holds`)
@@ -22,10 +22,10 @@ pub record Replies (log : List Made) (past plots : List ℕ) (replies : List (�
       (e : Entry) × (f ≡ Some e) × (outranks d.entry e ≡ false)
 
 -- after every list of calls, of whatever office, session, plots and row: if the joint reading is not refused. Its row has these replies as words
--- (`readJoint`; read off an answer: specs/Answers.antt)
+-- (`read_joint`; read off an answer: specs/Answers.antt)
 abbrev pub JointTogether : Type 0
 JointTogether =
     (n p : ℕ) → 2 ≤ n → n ≤ 8 → 1 ≤ p → p ≤ 64 → (rows : ℕ → List ℕ) → ((o : ℕ) → o < n → need n ≤ length (rows o)) →
-    (cs : List Call) (o i : ℕ) (plots row : List ℕ) (s : Tracked) → o < n → at (wordsRun n p rows cs).sessions i ≡ s ∷ [] →
-    (readJoint ((wordsRun n p rows cs).stores o) s.session plots row).code ≡ 0 →
-    Replies (wordsRun n p rows cs).log s.past plots (together plots (readJoint ((wordsRun n p rows cs).stores o) s.session plots row).found)
+    (cs : List Call) (o i : ℕ) (plots row : List ℕ) (s : Tracked) → o < n → at (words_run n p rows cs).sessions i ≡ s ∷ [] →
+    (read_joint ((words_run n p rows cs).stores o) s.session plots row).code ≡ 0 →
+    Replies (words_run n p rows cs).log s.past plots (together plots (read_joint ((words_run n p rows cs).stores o) s.session plots row).found)

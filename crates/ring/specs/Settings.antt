@@ -3,11 +3,11 @@
 use Rattle.std.specs.Prelude.{ℕ, ◌<◌, ◌≤◌, List, ◌≡◌, length}
 use Rattle.store.specs.Offices.{need}
 use Rattle.office.specs.Promises.{SettingsPromise}
-use Rattle.ring.specs.Run.{Call, wordsRun}
+use Rattle.ring.specs.Run.{Call, words_run}
 
 -- for whatever answer keeps the promise: the refusal number, ring size, own number and plots
 abbrev pub SettingsStay : Type 0
 SettingsStay =
     (n p : ℕ) → 2 ≤ n → n ≤ 8 → 1 ≤ p → p ≤ 64 → (rows : ℕ → List ℕ) → ((o : ℕ) → o < n → need n ≤ length (rows o)) →
     (cs : List Call) (o : ℕ) → o < n → (code offices own plots : ℕ) →
-    SettingsPromise ((wordsRun n p rows cs).stores o) code offices own plots → (code ≡ 0) × (offices ≡ n) × (own ≡ o) × (plots ≡ p)
+    SettingsPromise ((words_run n p rows cs).stores o) code offices own plots → (code ≡ 0) × (offices ≡ n) × (own ≡ o) × (plots ≡ p)

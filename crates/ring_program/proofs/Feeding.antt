@@ -11,39 +11,39 @@ use lib.ListN.{drop, get_or, length, length-append, length-drop, set, take}
 use lib.Seq.{set-get_or, sets}
 use borrow.Author.Tests.{eqb-false, eqb-true}
 use Rattle.causal.specs.Lists.{part}
-use Rattle.causal.proofs.Lists.{part-add, sets-append}
-use Rattle.causal.proofs.Tests.{lt-or-le}
+use Rattle.causal.proofs.Lists.{part_add, sets_append}
+use Rattle.causal.proofs.Tests.{lt_or_le}
 use Rattle.frame.specs.declared.entry.Entry.{Entry}
 use Rattle.frame.specs.declared.session.Session.{Session}
 use Rattle.office.specs.Answers.{extended_by}
 use Rattle.script.specs.Lines.{line_of}
-use Rattle.script.specs.Pendings.{Takes, firstLine, hasEnd, is_empty, lineSize, parsed, pendingOf}
-use Rattle.script.specs.Replies.{replyBytes}
+use Rattle.script.specs.Pendings.{Takes, first_line, has_end, is_empty, line_size, parsed, pending_of}
+use Rattle.script.specs.Replies.{reply_bytes}
 use Rattle.script.specs.declared.line.Line.{Line}
 use Rattle.script.specs.declared.pending.Pending.{Pending}
 use Rattle.script.specs.declared.pending.Taken.{Taken}
 use Rattle.script.specs.declared.reply.Reply.{Reply}
-use Rattle.script.proofs.Pendings.{empty-is, line-part, parse-whole}
+use Rattle.script.proofs.Pendings.{empty_is, line_part, parse_whole}
 use Rattle.player.specs.declared.board.Board.{Board}
-use Rattle.player.specs.Desks.{Desk, desk, noSession}
+use Rattle.player.specs.Desks.{Desk, desk, no_session}
 use Rattle.player.specs.Play.{Scene, play}
 use Rattle.player.specs.Shows.{Shows}
 use Rattle.player.specs.Steps.{Plays}
-use Rattle.player.proofs.Rows.{Plays-alike, play-alike, shows_alike}
+use Rattle.player.proofs.Rows.{Plays-alike, play_alike, shows_alike}
 use Rattle.ring_program.specs.declared.feed.Stage.{Stage}
-use Rattle.ring_program.specs.Fed.{Fed, Finishes, Follows, Leads, after, deskOf, fed, lastFed, outRow}
+use Rattle.ring_program.specs.Fed.{Fed, Finishes, Follows, Leads, after, desk_of, fed, last_fed, out_row}
 
 -- bytes fed one after another
-pub fed-append : (g : Scene) (l bs cs : List ℕ) → fed g l (bs ++ cs) ≡ after (fed g l bs).text (fed (fed g l bs).scene (fed g l bs).rest cs)
+pub fed_append : (g : Scene) (l bs cs : List ℕ) → fed g l (bs ++ cs) ≡ after (fed g l bs).text (fed (fed g l bs).scene (fed g l bs).rest cs)
 unfolding fed
-fed-append g l [] cs = refl
-fed-append g l (b ∷ bs) cs = by (eqb b 10) (fed-append next [] bs cs) (fed-append g (l ++ (b ∷ [])) bs cs)
+fed_append g l [] cs = refl
+fed_append g l (b ∷ bs) cs = by (eqb b 10) (fed_append next [] bs cs) (fed_append g (l ++ (b ∷ [])) bs cs)
   where
     said : List ℕ
-    said = replyBytes (play outRow g (line_of l)).1
+    said = reply_bytes (play out_row g (line_of l)).1
 
     next : Scene
-    next = (play outRow g (line_of l)).0
+    next = (play out_row g (line_of l)).0
 
     then : Fed → Fed
     then f = after f.text (fed f.scene f.rest cs)
@@ -63,112 +63,112 @@ follows_then : (g : Scene) (l bs : List ℕ) (at : ℕ) (text : List ℕ) (r : S
     → Follows (fed g l bs) at text r stores lines text' → Follows (fed (fed g l bs).scene (fed g l bs).rest cs) r.at text' q stores' lines' text''
     → Follows (fed g l (bs ++ cs)) at text q stores' lines' text''
 follows_then g l bs at text r stores lines text' cs q stores' lines' text'' A B =
-    subst (λ (f : Fed). Follows f at text q stores' lines' text'') (sym (fed-append g l bs cs))
+    subst (λ (f : Fed). Follows f at text q stores' lines' text'') (sym (fed_append g l bs cs))
     (record {
       shows = B.shows;
       pending = B.pending;
-      at-is = omega (arith, B.at-is, A.at-is, length-append (fed g l bs).text (fed (fed g l bs).scene (fed g l bs).rest cs).text);
-      text-is =
-          B.text-is ∙ (λ i. sets (A.text-is i) (A.at-is i) (fed (fed g l bs).scene (fed g l bs).rest cs).text)
-          ∙ sym (sets-append text at (fed g l bs).text (fed (fed g l bs).scene (fed g l bs).rest cs).text);
+      at_is = omega (arith, B.at_is, A.at_is, length-append (fed g l bs).text (fed (fed g l bs).scene (fed g l bs).rest cs).text);
+      text_is =
+          B.text_is ∙ (λ i. sets (A.text_is i) (A.at_is i) (fed (fed g l bs).scene (fed g l bs).rest cs).text)
+          ∙ sym (sets_append text at (fed g l bs).text (fed (fed g l bs).scene (fed g l bs).rest cs).text);
     })
 
 -- a line taken from the bytes
-fed-first : (g : Scene) (l bs cs : List ℕ) → fed g l (firstLine bs ++ cs) ≡ fed g (l ++ firstLine bs) cs
-unfolding fed firstLine
-fed-first g l [] cs = ap (λ (x : List ℕ). fed g x cs) (sym (append-nil l))
-fed-first g l (b ∷ bs) cs = go (eqb b 10) refl (fed-first g (l ++ (b ∷ [])) bs cs)
+fed_first : (g : Scene) (l bs cs : List ℕ) → fed g l (first_line bs ++ cs) ≡ fed g (l ++ first_line bs) cs
+unfolding fed first_line
+fed_first g l [] cs = ap (λ (x : List ℕ). fed g x cs) (sym (append-nil l))
+fed_first g l (b ∷ bs) cs = go (eqb b 10) refl (fed_first g (l ++ (b ∷ [])) bs cs)
   where
-    go : (t : Bool) → eqb b 10 ≡ t → fed g (l ++ (b ∷ [])) (firstLine bs ++ cs) ≡ fed g ((l ++ (b ∷ [])) ++ firstLine bs) cs → fed g l (cond t [] (b ∷ firstLine bs) ++ cs) ≡ fed g (l ++ cond t [] (b ∷ firstLine bs)) cs
+    go : (t : Bool) → eqb b 10 ≡ t → fed g (l ++ (b ∷ [])) (first_line bs ++ cs) ≡ fed g ((l ++ (b ∷ [])) ++ first_line bs) cs → fed g l (cond t [] (b ∷ first_line bs) ++ cs) ≡ fed g (l ++ cond t [] (b ∷ first_line bs)) cs
     go true e h = ap (λ (x : List ℕ). fed g x cs) (sym (append-nil l))
-    go false e h = rw e (h ∙ ap (λ (x : List ℕ). fed g x cs) (append_assoc l (b ∷ []) (firstLine bs)))
+    go false e h = rw e (h ∙ ap (λ (x : List ℕ). fed g x cs) (append_assoc l (b ∷ []) (first_line bs)))
 
-fed-taken : (g : Scene) (l : List ℕ) (p : Pending) (bytes : List ℕ) (from : ℕ) (r : Taken) → Takes p bytes from r
-    → fed g l (part bytes from (r.next - from)) ≡ fed g (l ++ firstLine (drop from bytes)) (cond r.ended (10 ∷ []) [])
+fed_taken : (g : Scene) (l : List ℕ) (p : Pending) (bytes : List ℕ) (from : ℕ) (r : Taken) → Takes p bytes from r
+    → fed g l (part bytes from (r.next - from)) ≡ fed g (l ++ first_line (drop from bytes)) (cond r.ended (10 ∷ []) [])
 unfolding part
-fed-taken g l p bytes from r T =
-    let n : r.next - from ≡ lineSize (drop from bytes) = omega (arith, T.next) in
+fed_taken g l p bytes from r T =
+    let n : r.next - from ≡ line_size (drop from bytes) = omega (arith, T.next) in
     ap (λ (k : ℕ). fed g l (take k (drop from bytes))) n
-    ∙ ap (fed g l) (line-part (drop from bytes))
-    ∙ fed-first g l (drop from bytes) (cond (hasEnd (drop from bytes)) (10 ∷ []) [])
-    ∙ ap (λ (t : Bool). fed g (l ++ firstLine (drop from bytes)) (cond t (10 ∷ []) [])) (sym T.ended)
+    ∙ ap (fed g l) (line_part (drop from bytes))
+    ∙ fed_first g l (drop from bytes) (cond (has_end (drop from bytes)) (10 ∷ []) [])
+    ∙ ap (λ (t : Bool). fed g (l ++ first_line (drop from bytes)) (cond t (10 ∷ []) [])) (sym T.ended)
 
 -- it has at least one byte
-some_size : (bs : List ℕ) → 0 < length bs → 0 < lineSize bs
-unfolding firstLine hasEnd
+some_size : (bs : List ℕ) → 0 < length bs → 0 < line_size bs
+unfolding first_line has_end
 some_size [] h = absurd (omega arith)
 some_size (b ∷ bs) h = go (eqb b 10)
   where
-    go : (t : Bool) → 0 < length (cond t [] (b ∷ firstLine bs)) + cond (cond t true (hasEnd bs)) 1 0
+    go : (t : Bool) → 0 < length (cond t [] (b ∷ first_line bs)) + cond (cond t true (has_end bs)) 1 0
     go true = omega arith
     go false = omega arith
 
-pub taken-some : (p : Pending) (bytes : List ℕ) (from : ℕ) (r : Taken) → Takes p bytes from r → from < length bytes → from < r.next
-taken-some p bytes from r T h = omega (arith, T.next, some_size (drop from bytes) (omega (arith, length-drop from bytes)))
+pub taken_some : (p : Pending) (bytes : List ℕ) (from : ℕ) (r : Taken) → Takes p bytes from r → from < length bytes → from < r.next
+taken_some p bytes from r T h = omega (arith, T.next, some_size (drop from bytes) (omega (arith, length-drop from bytes)))
 
 -- what the rows and the board are after a line, and the text behind which its reply stands; which words the out row had makes no difference
 pub record Turn (line : Line) (ss : List Session) (b : Board) (at : ℕ) (stores lines out text : List ℕ) (ss' : List Session) (b' : Board) (at' : ℕ) (stores' lines' out' text' : List ℕ) : Type 0 where
   pub stores_same : length stores' ≡ length stores
   pub lines_same : length lines' ≡ length lines
-  pub out-same : length out' ≡ length out
+  pub out_same : length out' ≡ length out
   pub text_same : length text' ≡ length text
   pub reply : Reply
   pub plays : (g : Scene) → Shows g (desk ss b) stores lines → Plays out g line (record { desk = desk ss' b'; reply = reply }) stores' lines'
   pub near : at' ≤ at + 40
-  pub at-is : at' ≡ at + length (replyBytes reply)
-  pub text-is : text' ≡ sets text at (replyBytes reply)
+  pub at_is : at' ≡ at + length (reply_bytes reply)
+  pub text_is : text' ≡ sets text at (reply_bytes reply)
 
-pub turn-of : (line : Line) (ss : List Session) (b : Board) (at : ℕ) (stores lines out text : List ℕ) (reply : Reply) (ss₁ : List Session) (b₁ : Board) (n : ℕ) (s₁ l₁ o₁ t₁ : List ℕ)
+pub turn_of : (line : Line) (ss : List Session) (b : Board) (at : ℕ) (stores lines out text : List ℕ) (reply : Reply) (ss₁ : List Session) (b₁ : Board) (n : ℕ) (s₁ l₁ o₁ t₁ : List ℕ)
     → length s₁ ≡ length stores → length l₁ ≡ length lines → length o₁ ≡ length out → length t₁ ≡ length text
     → ((g : Scene) → Shows g (desk ss b) stores lines → Plays out g line (record { desk = desk ss₁ b₁; reply = reply }) s₁ l₁)
-    → (n ≡ at + length (replyBytes reply)) × (t₁ ≡ sets text at (replyBytes reply)) × (n ≤ at + 40)
+    → (n ≡ at + length (reply_bytes reply)) × (t₁ ≡ sets text at (reply_bytes reply)) × (n ≤ at + 40)
     → (ss' : List Session) (b' : Board) (at' : ℕ) (stores' lines' out' text' : List ℕ) → ss' ≡ ss₁ → b' ≡ b₁ → at' ≡ n → stores' ≡ s₁ → lines' ≡ l₁ → out' ≡ o₁ → text' ≡ t₁
     → Turn line ss b at stores lines out text ss' b' at' stores' lines' out' text'
-turn-of line ss b at stores lines out text reply ss₁ b₁ n s₁ l₁ o₁ t₁ hs hl ho ht P R ss' b' at' stores' lines' out' text' ess eb en es el eo et =
+turn_of line ss b at stores lines out text reply ss₁ b₁ n s₁ l₁ o₁ t₁ hs hl ho ht P R ss' b' at' stores' lines' out' text' ess eb en es el eo et =
     record {
       stores_same = ap length es ∙ hs;
       lines_same = ap length el ∙ hl;
-      out-same = ap length eo ∙ ho;
+      out_same = ap length eo ∙ ho;
       text_same = ap length et ∙ ht;
       reply = reply;
       plays =
           λ g S.
           subst (λ (x : Desk × (List ℕ × List ℕ)). Plays out g line (record { desk = x.0; reply = reply }) x.1.0 x.1.1) (λ i. (desk (sym ess i) (sym eb i), (sym es i, sym el i))) (P g S);
       near = omega (arith, en, R.2);
-      at-is = en ∙ R.0;
-      text-is = et ∙ R.1;
+      at_is = en ∙ R.0;
+      text_is = et ∙ R.1;
     }
 
 -- the sessions after a write: the one that wrote is put in its place only if the write was done
 module _ (ss ss' : List Session) (i : ℕ) (e : Entry) (done : Bool) where
-  pub put-done : (t : Session) → done ≡ true → t ≡ extended_by (get_or ss i noSession) e → ss' ≡ set ss i t → ss' ≡ set ss i (cond done (extended_by (get_or ss i noSession) e) (get_or ss i noSession))
-  put-done t d h q = q ∙ ap (set ss i) h ∙ (λ j. set ss i (cond (sym d j) (extended_by (get_or ss i noSession) e) (get_or ss i noSession)))
+  pub put_done : (t : Session) → done ≡ true → t ≡ extended_by (get_or ss i no_session) e → ss' ≡ set ss i t → ss' ≡ set ss i (cond done (extended_by (get_or ss i no_session) e) (get_or ss i no_session))
+  put_done t d h q = q ∙ ap (set ss i) h ∙ (λ j. set ss i (cond (sym d j) (extended_by (get_or ss i no_session) e) (get_or ss i no_session)))
 
-  pub not-put : done ≡ false → ss' ≡ ss → ss' ≡ set ss i (cond done (extended_by (get_or ss i noSession) e) (get_or ss i noSession))
-  not-put d q = q ∙ sym (set-get_or ss i noSession) ∙ (λ j. set ss i (cond (sym d j) (extended_by (get_or ss i noSession) e) (get_or ss i noSession)))
+  pub not_put : done ≡ false → ss' ≡ ss → ss' ≡ set ss i (cond done (extended_by (get_or ss i no_session) e) (get_or ss i no_session))
+  not_put d q = q ∙ sym (set-get_or ss i no_session) ∙ (λ j. set ss i (cond (sym d j) (extended_by (get_or ss i no_session) e) (get_or ss i no_session)))
 
 -- ---- the loop over bytes
 
-part-zero : (bytes : List ℕ) (i : ℕ) → part bytes i (i - i) ≡ []
+part_zero : (bytes : List ℕ) (i : ℕ) → part bytes i (i - i) ≡ []
 unfolding part
-part-zero bytes i = let e : i - i ≡ 0 = omega arith in ap (λ (x : ℕ). take x (drop i bytes)) e
+part_zero bytes i = let e : i - i ≡ 0 = omega arith in ap (λ (x : ℕ). take x (drop i bytes)) e
 
-pub nothing-fed : (bytes : List ℕ) (i : ℕ) (r : Stage) (stores lines text : List ℕ) (g : Scene) (l : List ℕ) → Shows g (deskOf r) stores lines → r.pending ≡ pendingOf l
+pub nothing_fed : (bytes : List ℕ) (i : ℕ) (r : Stage) (stores lines text : List ℕ) (g : Scene) (l : List ℕ) → Shows g (desk_of r) stores lines → r.pending ≡ pending_of l
     → Follows (fed g l (part bytes i (i - i))) r.at text r stores lines text
 unfolding fed
-nothing-fed bytes i r stores lines text g l S e =
-    subst (λ (x : List ℕ). Follows (fed g l x) r.at text r stores lines text) (sym (part-zero bytes i))
-    (record { shows = S; pending = e; at-is = sym (add-zero r.at); text-is = refl })
+nothing_fed bytes i r stores lines text g l S e =
+    subst (λ (x : List ℕ). Follows (fed g l x) r.at text r stores lines text) (sym (part_zero bytes i))
+    (record { shows = S; pending = e; at_is = sym (add-zero r.at); text_is = refl })
 
-part-next : (ws : List ℕ) (from i next : ℕ) → from ≤ i → i ≤ next → part ws from (i - from) ++ part ws i (next - i) ≡ part ws from (next - from)
-part-next ws from i next h l =
+part_next : (ws : List ℕ) (from i next : ℕ) → from ≤ i → i ≤ next → part ws from (i - from) ++ part ws i (next - i) ≡ part ws from (next - from)
+part_next ws from i next h l =
     let f : from + (i - from) ≡ i = omega arith in
     let e : (i - from) + (next - i) ≡ next - from = omega arith in
-    ap (λ (x : ℕ). part ws from (i - from) ++ part ws x (next - i)) (sym f) ∙ sym (part-add ws from (i - from) (next - i)) ∙ ap (part ws from) e
+    ap (λ (x : ℕ). part ws from (i - from) ++ part ws x (next - i)) (sym f) ∙ sym (part_add ws from (i - from) (next - i)) ∙ ap (part ws from) e
 
 -- a turn that ends at once, short of room, is none at the first byte
 pub moved : (from i at room : ℕ) → from ≤ i → room - at < 40 → at ≤ room → (i ≡ from → at + 40 ≤ room) → from < i
-moved from i at room h short near first = ⊎_elim (λ (l : from < i). l) (λ (l : i ≤ from). absurd (omega (arith, first (omega arith), short, near))) (lt-or-le from i)
+moved from i at room h short near first = ⊎_elim (λ (l : from < i). l) (λ (l : i ≤ from). absurd (omega (arith, first (omega arith), short, near))) (lt_or_le from i)
 
 -- bytes were fed up to i, and a line was taken from there
 module _ (bytes : List ℕ) (from i : ℕ) (h : from ≤ i) (g : Scene) (l : List ℕ) (at : ℕ) (text : List ℕ) (cur : Stage) (stores lines text' : List ℕ)
@@ -177,62 +177,62 @@ module _ (bytes : List ℕ) (from i : ℕ) (h : from ≤ i) (g : Scene) (l : Lis
   f = fed g l (part bytes from (i - from))
 
   abbrev rest : List ℕ
-  rest = f.rest ++ firstLine (drop i bytes)
+  rest = f.rest ++ first_line (drop i bytes)
 
   on : (q : Stage) (stores' lines' text'' : List ℕ) → Follows (fed f.scene rest (cond r.ended (10 ∷ []) [])) cur.at text' q stores' lines' text''
       → Follows (fed g l (part bytes from (r.next - from))) at text q stores' lines' text''
   on q stores' lines' text'' B =
-      subst (λ (x : List ℕ). Follows (fed g l x) at text q stores' lines' text'') (part-next bytes from i r.next h (omega (arith, T.next)))
+      subst (λ (x : List ℕ). Follows (fed g l x) at text q stores' lines' text'') (part_next bytes from i r.next h (omega (arith, T.next)))
       (follows_then g l (part bytes from (i - from)) at text cur stores lines text' (part bytes i (r.next - i)) q stores' lines' text'' X
-      (subst (λ (x : Fed). Follows x cur.at text' q stores' lines' text'') (sym (fed-taken f.scene f.rest cur.pending bytes i r T)) B))
+      (subst (λ (x : Fed). Follows x cur.at text' q stores' lines' text'') (sym (fed_taken f.scene f.rest cur.pending bytes i r T)) B))
 
   -- it has not ended
-  pub line-waits : r.ended ≡ false → Follows (fed g l (part bytes from (r.next - from))) at text (record { sessions = cur.sessions; board = cur.board; pending = r.pending; at = cur.at; wrote = cur.wrote }) stores lines text'
+  pub line_waits : r.ended ≡ false → Follows (fed g l (part bytes from (r.next - from))) at text (record { sessions = cur.sessions; board = cur.board; pending = r.pending; at = cur.at; wrote = cur.wrote }) stores lines text'
   unfolding fed
-  line-waits e =
+  line_waits e =
       on _ stores lines text'
       (subst (λ (t : Bool). Follows (fed f.scene rest (cond t (10 ∷ []) [])) cur.at text' (record { sessions = cur.sessions; board = cur.board; pending = r.pending; at = cur.at; wrote = cur.wrote }) stores lines text') (sym e)
-      (record { shows = X.shows; pending = T.pending f.rest X.pending; at-is = sym (add-zero cur.at); text-is = refl }))
+      (record { shows = X.shows; pending = T.pending f.rest X.pending; at_is = sym (add-zero cur.at); text_is = refl }))
 
   -- it was played
   module _ (e : r.ended ≡ true) (line : Line) (is : line ≡ parsed r.pending) (out : List ℕ) (long : length out ≡ 1751)
-      (ss' : List Session) (b' : Board) (blank : Pending) (at' : ℕ) (stores' lines' out' text'' : List ℕ) (none : blank ≡ pendingOf [])
+      (ss' : List Session) (b' : Board) (blank : Pending) (at' : ℕ) (stores' lines' out' text'' : List ℕ) (none : blank ≡ pending_of [])
       (P : Turn line cur.sessions cur.board cur.at stores lines out text' ss' b' at' stores' lines' out' text'') where
     asked : line ≡ line_of rest
-    asked = is ∙ ap parsed (T.pending f.rest X.pending) ∙ parse-whole rest
+    asked = is ∙ ap parsed (T.pending f.rest X.pending) ∙ parse_whole rest
 
-    A : Plays-alike (play out f.scene (line_of rest)) (play outRow f.scene (line_of rest))
-    A = play-alike out outRow long f.scene (line_of rest)
+    A : Plays-alike (play out f.scene (line_of rest)) (play out_row f.scene (line_of rest))
+    A = play_alike out out_row long f.scene (line_of rest)
 
-    said : P.reply ≡ (play outRow f.scene (line_of rest)).1
+    said : P.reply ≡ (play out_row f.scene (line_of rest)).1
     said = (P.plays f.scene X.shows).reply ∙ ap (λ (x : Line). (play out f.scene x).1) asked ∙ A.reply
 
     text_of : List ℕ
-    text_of = replyBytes (play outRow f.scene (line_of rest)).1
+    text_of = reply_bytes (play out_row f.scene (line_of rest)).1
 
-    pub line-played : Follows (fed g l (part bytes from (r.next - from))) at text (record { sessions = ss'; board = b'; pending = blank; at = at'; wrote = true }) stores' lines' text''
+    pub line_played : Follows (fed g l (part bytes from (r.next - from))) at text (record { sessions = ss'; board = b'; pending = blank; at = at'; wrote = true }) stores' lines' text''
     unfolding fed text_of
-    line-played =
+    line_played =
         on _ stores' lines' text''
         (subst (λ (t : Bool). Follows (fed f.scene rest (cond t (10 ∷ []) [])) cur.at text' (record { sessions = ss'; board = b'; pending = blank; at = at'; wrote = true }) stores' lines' text'') (sym e)
         (record {
           shows = shows_alike _ _ (desk ss' b') stores' lines' A.ring A.place (subst (λ (x : Line). Shows (play out f.scene x).0 (desk ss' b') stores' lines') asked (P.plays f.scene X.shows).shows);
           pending = none;
-          at-is = P.at-is ∙ ap (λ (x : Reply). cur.at + length (replyBytes x)) said ∙ ap (λ (x : List ℕ). cur.at + length x) (sym (append-nil text_of));
-          text-is = P.text-is ∙ ap (λ (x : Reply). sets text' cur.at (replyBytes x)) said ∙ ap (sets text' cur.at) (sym (append-nil text_of));
+          at_is = P.at_is ∙ ap (λ (x : Reply). cur.at + length (reply_bytes x)) said ∙ ap (λ (x : List ℕ). cur.at + length x) (sym (append-nil text_of));
+          text_is = P.text_is ∙ ap (λ (x : Reply). sets text' cur.at (reply_bytes x)) said ∙ ap (sets text' cur.at) (sym (append-nil text_of));
         }))
 
 -- ---- the loop over a chunk
 
-pub leads-none : (bytes : List ℕ) (r : Stage) (stores lines : List ℕ) (g : Scene) (l : List ℕ) → Shows g (deskOf r) stores lines → r.pending ≡ pendingOf l → Leads (fed g l (part bytes 0 0)) r stores lines
+pub leads_none : (bytes : List ℕ) (r : Stage) (stores lines : List ℕ) (g : Scene) (l : List ℕ) → Shows g (desk_of r) stores lines → r.pending ≡ pending_of l → Leads (fed g l (part bytes 0 0)) r stores lines
 unfolding part fed
-leads-none bytes r stores lines g l S e = record { shows = S; pending = e }
+leads_none bytes r stores lines g l S e = record { shows = S; pending = e }
 
-pub leads-then : (bytes : List ℕ) (from next : ℕ) → from ≤ next → (g : Scene) (l : List ℕ) (at : ℕ) (text : List ℕ) (q w : Stage) (stores' lines' text' : List ℕ)
-    → Follows (fed (fed g l (part bytes 0 from)).scene (fed g l (part bytes 0 from)).rest (part bytes from (next - from))) at text q stores' lines' text' → deskOf w ≡ deskOf q → w.pending ≡ q.pending
+pub leads_then : (bytes : List ℕ) (from next : ℕ) → from ≤ next → (g : Scene) (l : List ℕ) (at : ℕ) (text : List ℕ) (q w : Stage) (stores' lines' text' : List ℕ)
+    → Follows (fed (fed g l (part bytes 0 from)).scene (fed g l (part bytes 0 from)).rest (part bytes from (next - from))) at text q stores' lines' text' → desk_of w ≡ desk_of q → w.pending ≡ q.pending
     → Leads (fed g l (part bytes 0 next)) w stores' lines'
-leads-then bytes from next h g l at text q w stores' lines' text' B d p =
-    subst (λ (f : Fed). Leads f w stores' lines') (sym (fed-append g l (part bytes 0 from) (part bytes from (next - from))) ∙ ap (fed g l) whole)
+leads_then bytes from next h g l at text q w stores' lines' text' B d p =
+    subst (λ (f : Fed). Leads f w stores' lines') (sym (fed_append g l (part bytes 0 from) (part bytes from (next - from))) ∙ ap (fed g l) whole)
     (record { shows = subst (λ (x : Desk). Shows more.scene x stores' lines') (sym d) B.shows; pending = p ∙ B.pending })
   where
     more : Fed
@@ -241,40 +241,40 @@ leads-then bytes from next h g l at text q w stores' lines' text' B d p =
     whole : part bytes 0 from ++ part bytes from (next - from) ≡ part bytes 0 next
     whole =
         let e : from + (next - from) ≡ next = omega arith in
-        ap (λ (x : ℕ). part bytes 0 from ++ part bytes x (next - from)) (sym (zero-add from)) ∙ sym (part-add bytes 0 from (next - from)) ∙ ap (part bytes 0) e
+        ap (λ (x : ℕ). part bytes 0 from ++ part bytes x (next - from)) (sym (zero-add from)) ∙ sym (part_add bytes 0 from (next - from)) ∙ ap (part bytes 0) e
 
 -- ---- the end of the input
 
-empty-list : (l : List ℕ) → is_empty (pendingOf l) ≡ true → l ≡ []
-empty-list [] e = refl
-empty-list (b ∷ l) e = let k : suc (length l) ≡ 0 = eqb-true _ _ (sym (empty-is (b ∷ l)) ∙ e) in absurd (omega (arith, k))
+empty_list : (l : List ℕ) → is_empty (pending_of l) ≡ true → l ≡ []
+empty_list [] e = refl
+empty_list (b ∷ l) e = let k : suc (length l) ≡ 0 = eqb-true _ _ (sym (empty_is (b ∷ l)) ∙ e) in absurd (omega (arith, k))
 
-some-list : (l : List ℕ) → is_empty (pendingOf l) ≡ false → l ≡ [] → ⊥
-some-list l e n = eqb-false _ _ (sym (empty-is l) ∙ e) (ap length n)
+some_list : (l : List ℕ) → is_empty (pending_of l) ≡ false → l ≡ [] → ⊥
+some_list l e n = eqb-false _ _ (sym (empty_is l) ∙ e) (ap length n)
 
 last_some : (g : Scene) (l : List ℕ) → (l ≡ [] → ⊥)
-    → lastFed g l ≡ record { scene = (play outRow g (line_of l)).0; rest = []; text = replyBytes (play outRow g (line_of l)).1 }
-unfolding lastFed
+    → last_fed g l ≡ record { scene = (play out_row g (line_of l)).0; rest = []; text = reply_bytes (play out_row g (line_of l)).1 }
+unfolding last_fed
 last_some g [] some = absurd (some refl)
 last_some g (b ∷ l) some = refl
 
-pub nothing-finishes : (g : Scene) (l text : List ℕ) (r : Stage) (stores lines : List ℕ) → Shows g (deskOf r) stores lines → r.pending ≡ pendingOf l
+pub nothing_finishes : (g : Scene) (l text : List ℕ) (r : Stage) (stores lines : List ℕ) → Shows g (desk_of r) stores lines → r.pending ≡ pending_of l
     → is_empty r.pending ≡ true → Finishes g l text r stores lines text
-unfolding lastFed
-nothing-finishes g l text r stores lines S e h =
-    let none : l ≡ [] = empty-list l (ap is_empty (sym e) ∙ h) in
+unfolding last_fed
+nothing_finishes g l text r stores lines S e h =
+    let none : l ≡ [] = empty_list l (ap is_empty (sym e) ∙ h) in
     subst (λ (x : List ℕ). Finishes g x text r stores lines text) (sym none)
-    (record { leads = record { shows = S; pending = e ∙ ap pendingOf none }; text-is = refl })
+    (record { leads = record { shows = S; pending = e ∙ ap pending_of none }; text_is = refl })
 
 -- the last line, by a newline that did not come
-pub last-finishes : (g : Scene) (l : List ℕ) (at : ℕ) (text : List ℕ) (q r : Stage) (stores lines text' : List ℕ) (p : Pending) (next : ℕ) → p ≡ pendingOf l → is_empty p ≡ false → at ≡ 0 → 0 < next → next ≤ 1
-    → Follows (fed g l (part (10 ∷ []) 0 (next - 0))) at text q stores lines text' → deskOf r ≡ deskOf q → r.pending ≡ q.pending → Finishes g l text r stores lines text'
+pub last_finishes : (g : Scene) (l : List ℕ) (at : ℕ) (text : List ℕ) (q r : Stage) (stores lines text' : List ℕ) (p : Pending) (next : ℕ) → p ≡ pending_of l → is_empty p ≡ false → at ≡ 0 → 0 < next → next ≤ 1
+    → Follows (fed g l (part (10 ∷ []) 0 (next - 0))) at text q stores lines text' → desk_of r ≡ desk_of q → r.pending ≡ q.pending → Finishes g l text r stores lines text'
 unfolding fed part
-last-finishes g l at text q r stores lines text' p next e h z some one F d w =
+last_finishes g l at text q r stores lines text' p next e h z some one F d w =
     let n : next - 0 ≡ 1 = omega arith in
     let E : Follows (fed g l (10 ∷ [])) at text q stores lines text' = subst (λ (k : ℕ). Follows (fed g l (take k (10 ∷ []))) at text q stores lines text') n F in
-    let is = last_some g l (some-list l (ap is_empty (sym e) ∙ h)) in
+    let is = last_some g l (some_list l (ap is_empty (sym e) ∙ h)) in
     record {
-      leads = subst (λ (f : Fed). Leads f r stores lines) (sym is) (record { shows = subst (λ (x : Desk). Shows (play outRow g (line_of l)).0 x stores lines) (sym d) E.shows; pending = w ∙ E.pending });
-      text-is = E.text-is ∙ (λ i. sets text (z i) (append-nil (replyBytes (play outRow g (line_of l)).1) i)) ∙ (λ i. sets text 0 (sym is i).text);
+      leads = subst (λ (f : Fed). Leads f r stores lines) (sym is) (record { shows = subst (λ (x : Desk). Shows (play out_row g (line_of l)).0 x stores lines) (sym d) E.shows; pending = w ∙ E.pending });
+      text_is = E.text_is ∙ (λ i. sets text (z i) (append-nil (reply_bytes (play out_row g (line_of l)).1) i)) ∙ (λ i. sets text 0 (sym is i).text);
     }

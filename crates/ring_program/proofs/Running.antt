@@ -9,23 +9,23 @@ use native.Mathlib.Omega.{arith}
 use lib.ListN.{length, length-append, take}
 use lib.Seq.{take-append-add, take-length}
 use Rattle.causal.specs.Lists.{part}
-use Rattle.script.specs.Pendings.{pendingOf}
+use Rattle.script.specs.Pendings.{pending_of}
 use Rattle.player.specs.Play.{Scene, opening}
-use Rattle.player.specs.Shows.{Shows, storesIn}
+use Rattle.player.specs.Shows.{Shows, stores_in}
 use Rattle.ring_program.specs.declared.ending.Closed.{Closed}
 use Rattle.ring_program.specs.declared.ending.Ending.{Ending}
 use Rattle.ring_program.specs.declared.ending.Ending.TheVariants.{Done, ReadFailed, TooLong, WriteFailed}
 use Rattle.ring_program.specs.declared.feed.Stage.{Stage}
-use Rattle.ring_program.specs.Fed.{Fed, Leads, Staged, deskOf, fed}
+use Rattle.ring_program.specs.Fed.{Fed, Leads, Staged, desk_of, fed}
 use Rattle.ring_program.specs.Promises.{Closes, Ends, RunPromise}
-use Rattle.ring_program.proofs.Feeding.{fed-append}
+use Rattle.ring_program.proofs.Feeding.{fed_append}
 
 -- since the stage s₀ bytes were read, as many as left₀ fell, and the stage is what they lead to
 pub record Running (s₀ : Stage) (stores₀ lines₀ : List ℕ) (left₀ : ℕ) (s : Stage) (stores lines : List ℕ) (left : ℕ) : Type 0 where
   pub bytes : List ℕ
   pub counted : length bytes + left ≡ left₀
   pub wrote : s.wrote ≡ true
-  pub leads : (g : Scene) → Shows g (deskOf s₀) stores₀ lines₀ → s₀.pending ≡ pendingOf [] → Leads (fed g [] bytes) s stores lines
+  pub leads : (g : Scene) → Shows g (desk_of s₀) stores₀ lines₀ → s₀.pending ≡ pending_of [] → Leads (fed g [] bytes) s stores lines
 
 pub starts : (s : Stage) (stores lines : List ℕ) (left : ℕ) → s.wrote ≡ true → Running s stores lines left s stores lines left
 unfolding fed
@@ -36,17 +36,17 @@ module _ (s₀ : Stage) (stores₀ lines₀ : List ℕ) (left₀ : ℕ) (s : Sta
   bs = R.bytes
 
   -- some scene is shown, and some bytes are pending
-  pub stands : (g : Scene) → Shows g (deskOf s₀) stores₀ lines₀ → s₀.pending ≡ pendingOf [] → Staged s stores lines
+  pub stands : (g : Scene) → Shows g (desk_of s₀) stores₀ lines₀ → s₀.pending ≡ pending_of [] → Staged s stores lines
   stands g S e = let X = R.leads g S e in (_, _, X.shows, X.pending)
 
   -- a chunk was read, and its first bytes were fed
   module _ (cs : List ℕ) (left' : ℕ) (came : length cs + left' ≡ left) (next : ℕ) (q : Stage) (stores' lines' : List ℕ)
-      (Q : (g : Scene) (l : List ℕ) → Shows g (deskOf s) stores lines → s.pending ≡ pendingOf l → Leads (fed g l (part cs 0 next)) q stores' lines') where
-    then : (g : Scene) → Shows g (deskOf s₀) stores₀ lines₀ → s₀.pending ≡ pendingOf [] → Leads (fed g [] (bs ++ part cs 0 next)) q stores' lines'
+      (Q : (g : Scene) (l : List ℕ) → Shows g (desk_of s) stores lines → s.pending ≡ pending_of l → Leads (fed g l (part cs 0 next)) q stores' lines') where
+    then : (g : Scene) → Shows g (desk_of s₀) stores₀ lines₀ → s₀.pending ≡ pending_of [] → Leads (fed g [] (bs ++ part cs 0 next)) q stores' lines'
     then g S e =
         let X = R.leads g S e in
         let Y = Q (fed g [] bs).scene (fed g [] bs).rest X.shows X.pending in
-        subst (λ (f : Fed). Leads f q stores' lines') (sym (fed-append g [] bs (part cs 0 next))) (record { shows = Y.shows; pending = Y.pending })
+        subst (λ (f : Fed). Leads f q stores' lines') (sym (fed_append g [] bs (part cs 0 next))) (record { shows = Y.shows; pending = Y.pending })
 
     counts : length (bs ++ cs) + left' ≡ left₀
     counts = omega (arith, length-append bs cs, came, R.counted)
@@ -62,7 +62,7 @@ module _ (s₀ : Stage) (stores₀ lines₀ : List ℕ) (left₀ : ℕ) (s : Sta
         }
 
     -- a write failed
-    pub breaks : (entry : List ℕ) → Shows (opening (storesIn entry)) (deskOf s₀) stores₀ lines₀ → s₀.pending ≡ pendingOf [] → left₀ ≡ 18446744073709551615 → q.wrote ≡ false
+    pub breaks : (entry : List ℕ) → Shows (opening (stores_in entry)) (desk_of s₀) stores₀ lines₀ → s₀.pending ≡ pending_of [] → left₀ ≡ 18446744073709551615 → q.wrote ≡ false
         → (brought : ℕ) (failed : Bool) (text' : List ℕ)
         → RunPromise entry (record { ending = WriteFailed; left = left'; brought = brought; failed = failed; stage = q }) stores' lines' text'
     unfolding part
@@ -70,12 +70,12 @@ module _ (s₀ : Stage) (stores₀ lines₀ : List ℕ) (left₀ : ℕ) (s : Sta
         record {
           bytes = bs ++ cs;
           counted = counts ∙ full;
-          ends = (w, inl (length bs + next, subst (λ (x : List ℕ). Leads (fed (opening (storesIn entry)) [] x) q stores' lines') (sym (take-append-add bs cs next)) (then (opening (storesIn entry)) S e)));
+          ends = (w, inl (length bs + next, subst (λ (x : List ℕ). Leads (fed (opening (stores_in entry)) [] x) q stores' lines') (sym (take-append-add bs cs next)) (then (opening (stores_in entry)) S e)));
         }
 
-  module _ (entry : List ℕ) (S : Shows (opening (storesIn entry)) (deskOf s₀) stores₀ lines₀) (e : s₀.pending ≡ pendingOf []) (full : left₀ ≡ 18446744073709551615) where
+  module _ (entry : List ℕ) (S : Shows (opening (stores_in entry)) (desk_of s₀) stores₀ lines₀) (e : s₀.pending ≡ pending_of []) (full : left₀ ≡ 18446744073709551615) where
     abbrev g : Scene
-    g = opening (storesIn entry)
+    g = opening (stores_in entry)
 
     -- no more bytes come
     closes : (ending : Ending) (brought : ℕ) (failed : Bool) (text : List ℕ) (r : Stage) (stores' lines' text' : List ℕ) → brought ≡ 0
@@ -86,7 +86,7 @@ module _ (s₀ : Stage) (stores₀ lines₀ : List ℕ) (left₀ : ℕ) (s : Sta
     closes TooLong brought failed text r stores' lines' text' b C = absurd C
 
     pub ends : (r : Closed) (brought : ℕ) (failed : Bool) (left' : ℕ) → brought ≡ 0 → left' ≡ left → (text stores' lines' text' : List ℕ)
-        → ((h : Scene) (l : List ℕ) → Shows h (deskOf s) stores lines → s.pending ≡ pendingOf l → Closes r.ending failed h l text r.stage stores' lines' text')
+        → ((h : Scene) (l : List ℕ) → Shows h (desk_of s) stores lines → s.pending ≡ pending_of l → Closes r.ending failed h l text r.stage stores' lines' text')
         → RunPromise entry (record { ending = r.ending; left = left'; brought = brought; failed = failed; stage = r.stage }) stores' lines' text'
     ends r brought failed left' b same text stores' lines' text' C =
         let X = R.leads g S e in

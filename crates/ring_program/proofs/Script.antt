@@ -11,29 +11,29 @@ use Rattle.causal.proofs.Lists.{part_length}
 use Rattle.script.specs.declared.line.Line.{Line}
 use Rattle.script.specs.declared.reply.Reply.TheVariants.{Refused}
 use Rattle.player.specs.Desks.{Desk}
-use Rattle.player.specs.Play.{Scene, opening, playAll}
-use Rattle.player.specs.Shows.{Shows, storesIn}
-use Rattle.player.proofs.Never.{script-never-8}
-use Rattle.player.proofs.Runs.{Ran, script-holds}
+use Rattle.player.specs.Play.{Scene, opening, play_all}
+use Rattle.player.specs.Shows.{Shows, stores_in}
+use Rattle.player.proofs.Never.{script_never_8}
+use Rattle.player.proofs.Runs.{Ran, script_holds}
 use Rattle.ring_program.specs.declared.Outcome.{Outcome}
 use Rattle.ring_program.specs.declared.ending.Ending.{Ending}
 use Rattle.ring_program.specs.declared.ending.Ending.TheVariants.{Done, ReadFailed, TooLong, WriteFailed}
-use Rattle.ring_program.specs.Fed.{deskOf, fed, linesIn, lines_of, outRow, rowed, text_of, wholeFed}
+use Rattle.ring_program.specs.Fed.{desk_of, fed, lines_in, lines_of, out_row, rowed, text_of, whole_fed}
 use Rattle.ring_program.specs.Promises.{Ends, Finished, RunPromise}
-use Rattle.ring_program.proofs.Whole.{fed-plays, whole-plays}
+use Rattle.ring_program.proofs.Whole.{fed_plays, whole_plays}
 
 -- the script bs was played to its end: the scene that its lines lead to is shown; what they lead to as text (each part of which is settled before it
 -- is written: `Follows`, `Finishes`) is that of their replies, in order
 pub record Answered (rows : ℕ → List ℕ) (bs : List ℕ) (d : Desk) (stores' lines' : List ℕ) : Type 0 where
-  pub shows : Shows (playAll (opening rows) (rowed (lines_of [] bs))).0 d stores' lines'
-  pub text : (wholeFed (opening rows) [] bs).text ≡ text_of (playAll (opening rows) (rowed (lines_of [] bs))).1
-  pub ring : Ran rows (playAll (opening rows) (rowed (lines_of [] bs))).0.ring
+  pub shows : Shows (play_all (opening rows) (rowed (lines_of [] bs))).0 d stores' lines'
+  pub text : (whole_fed (opening rows) [] bs).text ≡ text_of (play_all (opening rows) (rowed (lines_of [] bs))).1
+  pub ring : Ran rows (play_all (opening rows) (rowed (lines_of [] bs))).0.ring
   -- "it never prints refusal 8"
-  pub never-8 : Memᴰ (Refused 8) (playAll (opening rows) (rowed (lines_of [] bs))).1 → ⊥
+  pub never_8 : Memᴰ (Refused 8) (play_all (opening rows) (rowed (lines_of [] bs))).1 → ⊥
 
 module _ (stores : List ℕ) (long : length stores ≡ 5241) (r : Outcome) (stores' lines' text' : List ℕ) where
   abbrev rows : ℕ → List ℕ
-  rows = storesIn stores
+  rows = stores_in stores
 
   abbrev g : Scene
   g = opening rows
@@ -41,23 +41,23 @@ module _ (stores : List ℕ) (long : length stores ≡ 5241) (r : Outcome) (stor
   enough : (o : ℕ) → o < 3 → 1747 ≤ length (rows o)
   enough o h = let e = part_length stores (1747 * o) 1747 (omega arith) in omega (arith, e)
 
-  whole-shows : (bs : List ℕ) → Finished g bs r.stage stores' lines' text' → Shows (playAll g (rowed (lines_of [] bs))).0 (deskOf r.stage) stores' lines'
-  whole-shows bs F = subst (λ (x : Scene). Shows x (deskOf r.stage) stores' lines') (whole-plays g [] bs).scene F.1.leads.shows
+  whole_shows : (bs : List ℕ) → Finished g bs r.stage stores' lines' text' → Shows (play_all g (rowed (lines_of [] bs))).0 (desk_of r.stage) stores' lines'
+  whole_shows bs F = subst (λ (x : Scene). Shows x (desk_of r.stage) stores' lines') (whole_plays g [] bs).scene F.1.leads.shows
 
   -- "it never prints refusal 8": to no list of lines
-  never-8 : (ls : List Line) → Memᴰ (Refused 8) (playAll g (rowed ls)).1 → ⊥
-  never-8 ls =
-      script-never-8 rows enough (rowed ls) (λ x m.
-      let t = Memᴰ.of_map (λ (y : Line). (outRow, y)) ls m in
+  never_8 : (ls : List Line) → Memᴰ (Refused 8) (play_all g (rowed ls)).1 → ⊥
+  never_8 ls =
+      script_never_8 rows enough (rowed ls) (λ x m.
+      let t = Memᴰ.of_map (λ (y : Line). (out_row, y)) ls m in
       ap (λ (z : List ℕ × Line). length z.0) (sym t.2))
 
-  pub ran-answers : (P : RunPromise stores r stores' lines' text') → r.ending ≡ Done → Answered rows P.bytes (deskOf r.stage) stores' lines'
-  ran-answers P e =
+  pub ran_answers : (P : RunPromise stores r stores' lines' text') → r.ending ≡ Done → Answered rows P.bytes (desk_of r.stage) stores' lines'
+  ran_answers P e =
       record {
-        shows = whole-shows bs (subst (λ (x : Ending). Ends x g bs r.left r.brought r.failed r.stage stores' lines' text') e P.ends).3;
-        text = (whole-plays g [] bs).text;
-        ring = script-holds rows enough (rowed (lines_of [] bs));
-        never-8 = never-8 (lines_of [] bs);
+        shows = whole_shows bs (subst (λ (x : Ending). Ends x g bs r.left r.brought r.failed r.stage stores' lines' text') e P.ends).3;
+        text = (whole_plays g [] bs).text;
+        ring = script_holds rows enough (rowed (lines_of [] bs));
+        never_8 = never_8 (lines_of [] bs);
       }
     where
       bs : List ℕ
@@ -66,24 +66,24 @@ module _ (stores : List ℕ) (long : length stores ≡ 5241) (r : Outcome) (stor
   -- however the program ends: what is shown is the scene of some lines, its ring is a run, and no reply to them is refusal 8
   abbrev pub Kept : Type 0
   Kept =
-      (ls : List Line) × Shows (playAll g (rowed ls)).0 (deskOf r.stage) stores' lines'
-      × Ran rows (playAll g (rowed ls)).0.ring
-      × (Memᴰ (Refused 8) (playAll g (rowed ls)).1 → ⊥)
+      (ls : List Line) × Shows (play_all g (rowed ls)).0 (desk_of r.stage) stores' lines'
+      × Ran rows (play_all g (rowed ls)).0.ring
+      × (Memᴰ (Refused 8) (play_all g (rowed ls)).1 → ⊥)
 
-  played : (ls : List Line) → Shows (playAll g (rowed ls)).0 (deskOf r.stage) stores' lines' → Kept
-  played ls S = (ls, S, script-holds rows enough (rowed ls), never-8 ls)
+  played : (ls : List Line) → Shows (play_all g (rowed ls)).0 (desk_of r.stage) stores' lines' → Kept
+  played ls S = (ls, S, script_holds rows enough (rowed ls), never_8 ls)
 
-  fed-kept : (bs : List ℕ) → Shows (fed g [] bs).scene (deskOf r.stage) stores' lines' → Kept
-  fed-kept bs S = played (linesIn [] bs) (subst (λ (x : Scene). Shows x (deskOf r.stage) stores' lines') (fed-plays g [] bs).scene S)
+  fed_kept : (bs : List ℕ) → Shows (fed g [] bs).scene (desk_of r.stage) stores' lines' → Kept
+  fed_kept bs S = played (lines_in [] bs) (subst (λ (x : Scene). Shows x (desk_of r.stage) stores' lines') (fed_plays g [] bs).scene S)
 
-  whole-kept : (bs : List ℕ) → Finished g bs r.stage stores' lines' text' → Kept
-  whole-kept bs F = played (lines_of [] bs) (whole-shows bs F)
+  whole_kept : (bs : List ℕ) → Finished g bs r.stage stores' lines' text' → Kept
+  whole_kept bs F = played (lines_of [] bs) (whole_shows bs F)
 
   kept_by : (e : Ending) (bs : List ℕ) → Ends e g bs r.left r.brought r.failed r.stage stores' lines' text' → Kept
-  kept_by Done bs E = whole-kept bs E.3
-  kept_by ReadFailed bs E = fed-kept bs E.3.shows
-  kept_by TooLong bs E = fed-kept bs E.1.shows
-  kept_by WriteFailed bs E = ⊎_elim (λ x. fed-kept (take x.0 bs) x.1.shows) (whole-kept bs) E.1
+  kept_by Done bs E = whole_kept bs E.3
+  kept_by ReadFailed bs E = fed_kept bs E.3.shows
+  kept_by TooLong bs E = fed_kept bs E.1.shows
+  kept_by WriteFailed bs E = ⊎_elim (λ x. fed_kept (take x.0 bs) x.1.shows) (whole_kept bs) E.1
 
-  pub ran-holds : RunPromise stores r stores' lines' text' → Kept
-  ran-holds P = kept_by r.ending P.bytes P.ends
+  pub ran_holds : RunPromise stores r stores' lines' text' → Kept
+  ran_holds P = kept_by r.ending P.bytes P.ends

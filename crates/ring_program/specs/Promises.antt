@@ -2,7 +2,7 @@
 -- some, as many as were counted; all that the program shows is what these lead to. Assumes nothing.
 use Rattle.std.specs.Prelude.{ℕ, ◌+◌, ◌<◌, Bool, false, true, List, [], ◌⊎◌, ◌≡◌, length, take}
 use Rattle.player.specs.Play.{Scene, opening}
-use Rattle.player.specs.Shows.{storesIn}
+use Rattle.player.specs.Shows.{stores_in}
 use Rattle.ring_program.specs.declared.Outcome.{Outcome}
 use Rattle.ring_program.specs.declared.ending.Ending.{Ending}
 use Rattle.ring_program.specs.declared.ending.Ending.TheVariants.{Done, ReadFailed, TooLong, WriteFailed}
@@ -35,4 +35,4 @@ Ends WriteFailed g bs left brought failed r stores lines text' =
 pub record RunPromise (stores : List ℕ) (r : Outcome) (stores' lines' text' : List ℕ) : Type 0 where
   pub bytes : List ℕ
   pub counted : length bytes + r.left ≡ 18446744073709551615
-  pub ends : Ends r.ending (opening (storesIn stores)) bytes r.left r.brought r.failed r.stage stores' lines' text'
+  pub ends : Ends r.ending (opening (stores_in stores)) bytes r.left r.brought r.failed r.stage stores' lines' text'

@@ -1,9 +1,9 @@
 // How the program ends.
 ghost use Rattle.std.specs.Prelude.{◌≡◌, true, List, ℕ, length};
-ghost use Rattle.script.specs.Pendings.{pendingOf};
+ghost use Rattle.script.specs.Pendings.{pending_of};
 ghost use Rattle.player.specs.Play.{Scene};
 ghost use Rattle.player.specs.Shows.{Shows};
-ghost use Rattle.ring_program.specs.Fed.{Staged, deskOf};
+ghost use Rattle.ring_program.specs.Fed.{Staged, desk_of};
 ghost use Rattle.ring_program.specs.Promises.{Closes};
 
 use crate::feed::{Stage, finish};
@@ -34,7 +34,7 @@ pub fn close(
     text: &mut [u8],
 ) -> Closed
     requires { (length out.old ≡ 1751) × (length text.old ≡ 8192) × (stage.at ≡ 0) × Staged stage stores.old lines.old × (stage.wrote ≡ true) }
-    ensures { (g : Scene) (l : List ℕ) → Shows g (deskOf stage) stores.old lines.old → stage.pending ≡ pendingOf l → Closes result.ending chunk.failed g l text.old result.stage stores.new lines.new text.new }
+    ensures { (g : Scene) (l : List ℕ) → Shows g (desk_of stage) stores.old lines.old → stage.pending ≡ pending_of l → Closes result.ending chunk.failed g l text.old result.stage stores.new lines.new text.new }
 {
     if chunk.failed {
         return Closed {

@@ -1,10 +1,10 @@
 // Bytes of a script fed to the player, and the text of the replies.
 ghost use Rattle.std.specs.Prelude.{◌≡◌, List, ℕ, ◌+◌, ◌-◌, ◌<◌, ◌≤◌, length, true};
 ghost use Rattle.causal.specs.Lists.{part};
-ghost use Rattle.script.specs.Pendings.{pendingOf};
+ghost use Rattle.script.specs.Pendings.{pending_of};
 ghost use Rattle.player.specs.Play.{Scene};
 ghost use Rattle.player.specs.Shows.{Shows};
-ghost use Rattle.ring_program.specs.Fed.{Finishes, Follows, Leads, Staged, deskOf, fed};
+ghost use Rattle.ring_program.specs.Fed.{Finishes, Follows, Leads, Staged, desk_of, fed};
 
 use frame::session::Session;
 use player::board::Board;
@@ -61,7 +61,7 @@ pub fn feed_some(
     text: &mut [u8],
 ) -> Reached
     requires { (length out.old ≡ 1751) × (stage.at + 40 ≤ length text.old) × (from < length bytes.now) × Staged stage stores.old lines.old × (stage.wrote ≡ true) }
-    ensures { (from < result.next) × (result.next ≤ length bytes.now) × (result.stage.at ≤ length text.old) × (result.stage.wrote ≡ true) × ((g : Scene) (l : List ℕ) → Shows g (deskOf stage) stores.old lines.old → stage.pending ≡ pendingOf l → Follows (fed g l (part bytes.now from (result.next - from))) stage.at text.old result.stage stores.new lines.new text.new) }
+    ensures { (from < result.next) × (result.next ≤ length bytes.now) × (result.stage.at ≤ length text.old) × (result.stage.wrote ≡ true) × ((g : Scene) (l : List ℕ) → Shows g (desk_of stage) stores.old lines.old → stage.pending ≡ pending_of l → Follows (fed g l (part bytes.now from (result.next - from))) stage.at text.old result.stage stores.new lines.new text.new) }
 {
     let mut sessions = stage.sessions;
     let mut board = stage.board;
@@ -133,7 +133,7 @@ pub fn feed_some(
 // The text goes out: the one place that writes replies.
 pub fn write_out(stage: Stage, text: &[u8]) -> Stage
     requires { stage.at ≤ length text.now }
-    ensures { (deskOf result ≡ deskOf stage) × (result.pending ≡ stage.pending) × (result.at ≡ 0) }
+    ensures { (desk_of result ≡ desk_of stage) × (result.pending ≡ stage.pending) × (result.at ≡ 0) }
 {
     let at = stage.at;
     let wrote = io::write_all(1, &text[..at]);
@@ -153,7 +153,7 @@ pub fn feed_all(
     text: &mut [u8],
 ) -> Reached
     requires { (length out.old ≡ 1751) × (length text.old ≡ 8192) × (stage.at ≡ 0) × Staged stage stores.old lines.old × (stage.wrote ≡ true) }
-    ensures { (result.stage.at ≡ 0) × (result.next ≤ length bytes.now) × (result.stage.wrote ≡ true → result.next ≡ length bytes.now) × ((g : Scene) (l : List ℕ) → Shows g (deskOf stage) stores.old lines.old → stage.pending ≡ pendingOf l → Leads (fed g l (part bytes.now 0 result.next)) result.stage stores.new lines.new) }
+    ensures { (result.stage.at ≡ 0) × (result.next ≤ length bytes.now) × (result.stage.wrote ≡ true → result.next ≡ length bytes.now) × ((g : Scene) (l : List ℕ) → Shows g (desk_of stage) stores.old lines.old → stage.pending ≡ pending_of l → Leads (fed g l (part bytes.now 0 result.next)) result.stage stores.new lines.new) }
 {
     let mut cur = stage;
     let mut from = 0;
@@ -193,7 +193,7 @@ pub fn finish(
     text: &mut [u8],
 ) -> Stage
     requires { (length out.old ≡ 1751) × (length text.old ≡ 8192) × (stage.at ≡ 0) × Staged stage stores.old lines.old × (stage.wrote ≡ true) }
-    ensures { (g : Scene) (l : List ℕ) → Shows g (deskOf stage) stores.old lines.old → stage.pending ≡ pendingOf l → Finishes g l text.old result stores.new lines.new text.new }
+    ensures { (g : Scene) (l : List ℕ) → Shows g (desk_of stage) stores.old lines.old → stage.pending ≡ pending_of l → Finishes g l text.old result stores.new lines.new text.new }
 {
     let pending = stage.pending;
     if is_empty(pending) {

@@ -3,10 +3,10 @@ use Prim.Native.Nat.{ℕ}
 use mathlib.Core.Path.{◌≡◌, refl}
 use mathlib.Core.List.{List, [], ◌∷◌, map}
 use Rattle.causal.specs.Tests.{both}
-use Rattle.causal.specs.Lists.{eqWords}
-use Rattle.script.specs.Fields.{fields, inFront, isDigit, allDigits, proper, value_of, isBelow}
-use Rattle.script.specs.Lines.{lineIn, line_of}
-use Rattle.script.specs.Replies.{decimal, digitsIn, nameBytes, numbered, replyBytes}
+use Rattle.causal.specs.Lists.{eq_words}
+use Rattle.script.specs.Fields.{fields, in_front, is_digit, all_digits, proper, value_of, is_below}
+use Rattle.script.specs.Lines.{line_in, line_of}
+use Rattle.script.specs.Replies.{decimal, digits_in, name_bytes, numbered, reply_bytes}
 use Rattle.script.specs.declared.line.Line.{Line}
 use Rattle.script.specs.declared.line.Line.TheVariants.{Write, Read, Move, Receive, Other}
 use Rattle.script.specs.declared.reply.Reply.{Reply}
@@ -15,8 +15,8 @@ use Rattle.script.specs.declared.reply.Reply.TheVariants.{Wrote, Found, NoEntry,
 -- ---- the table of 01
 
 -- its input, line by line, as bytes
-abbrev pub tableInput : List (List ℕ)
-tableInput =
+abbrev pub table_input : List (List ℕ)
+table_input =
     (87 ∷ 32 ∷ 48 ∷ 32 ∷ 53 ∷ 32 ∷ 55 ∷ 48 ∷ 57 ∷ []) ∷  -- W 0 5 709
     (77 ∷ 32 ∷ 48 ∷ 32 ∷ 49 ∷ []) ∷  -- M 0 1
     (87 ∷ 32 ∷ 48 ∷ 32 ∷ 54 ∷ 32 ∷ 49 ∷ []) ∷  -- W 0 6 1
@@ -31,8 +31,8 @@ tableInput =
     []
 
 -- what each line asks for
-abbrev pub tableLines : List Line
-tableLines =
+abbrev pub table_lines : List Line
+table_lines =
     Write 0 5 709
     ∷ Move 0 1
     ∷ Write 0 6 1
@@ -46,13 +46,13 @@ tableLines =
     ∷ Read 1 5
     ∷ []
 
-pub table-asks : map line_of tableInput ≡ tableLines
-unfolding line_of lineIn fields inFront isDigit allDigits proper value_of isBelow both eqWords
-table-asks = refl
+pub table_asks : map line_of table_input ≡ table_lines
+unfolding line_of line_in fields in_front is_digit all_digits proper value_of is_below both eq_words
+table_asks = refl
 
 -- its output, as replies
-abbrev pub tableReplies : List Reply
-tableReplies = Wrote 0 1
+abbrev pub table_replies : List Reply
+table_replies = Wrote 0 1
     ∷ Moved
     ∷ Wrote 1 1
     ∷ NoEntry
@@ -66,8 +66,8 @@ tableReplies = Wrote 0 1
     ∷ []
 
 -- and as bytes, each with its newline
-abbrev pub tableOutput : List (List ℕ)
-tableOutput =
+abbrev pub table_output : List (List ℕ)
+table_output =
     (87 ∷ 32 ∷ 48 ∷ 46 ∷ 49 ∷ 10 ∷ []) ∷  -- W 0.1
     (77 ∷ 32 ∷ 111 ∷ 107 ∷ 10 ∷ []) ∷  -- M ok
     (87 ∷ 32 ∷ 49 ∷ 46 ∷ 49 ∷ 10 ∷ []) ∷  -- W 1.1
@@ -81,30 +81,30 @@ tableOutput =
     (82 ∷ 32 ∷ 55 ∷ 48 ∷ 57 ∷ 32 ∷ 48 ∷ 46 ∷ 49 ∷ 10 ∷ []) ∷  -- R 709 0.1
     []
 
-pub table-prints : map replyBytes tableReplies ≡ tableOutput
-unfolding replyBytes nameBytes numbered decimal digitsIn
-table-prints = refl
+pub table_prints : map reply_bytes table_replies ≡ table_output
+unfolding reply_bytes name_bytes numbered decimal digits_in
+table_prints = refl
 
 -- the other replies: none waits, a refusal, full, a line that is none
-pub others-print : map replyBytes (NoFrame ∷ Refused 12 ∷ Full ∷ Odd ∷ [])
+pub others_print : map reply_bytes (NoFrame ∷ Refused 12 ∷ Full ∷ Odd ∷ [])
     ≡ (72 ∷ 32 ∷ 110 ∷ 111 ∷ 110 ∷ 101 ∷ 10 ∷ [])
     ∷ (114 ∷ 101 ∷ 102 ∷ 117 ∷ 115 ∷ 101 ∷ 100 ∷ 32 ∷ 49 ∷ 50 ∷ 10 ∷ [])
     ∷ (102 ∷ 117 ∷ 108 ∷ 108 ∷ 10 ∷ [])
     ∷ (108 ∷ 105 ∷ 110 ∷ 101 ∷ 63 ∷ 10 ∷ [])
     ∷ []
-unfolding replyBytes nameBytes numbered decimal digitsIn
-others-print = refl
+unfolding reply_bytes name_bytes numbered decimal digits_in
+others_print = refl
 
 -- ---- more lines
 
 -- W 3 4294967295 4294967295, the longest
 pub longest : line_of (87 ∷ 32 ∷ 51 ∷ 32 ∷ 52 ∷ 50 ∷ 57 ∷ 52 ∷ 57 ∷ 54 ∷ 55 ∷ 50 ∷ 57 ∷ 53 ∷ 32 ∷ 52 ∷ 50 ∷ 57 ∷ 52 ∷ 57 ∷ 54 ∷ 55 ∷ 50 ∷ 57 ∷ 53 ∷ []) ≡ Write 3 4294967295 4294967295
-unfolding line_of lineIn fields inFront isDigit allDigits proper value_of isBelow both eqWords
+unfolding line_of line_in fields in_front is_digit all_digits proper value_of is_below both eq_words
 longest = refl
 
 -- lines that are none
-abbrev pub oddLines : List (List ℕ)
-oddLines =
+abbrev pub odd_lines : List (List ℕ)
+odd_lines =
     (87 ∷ 32 ∷ 48 ∷ 32 ∷ 48 ∷ 53 ∷ 32 ∷ 55 ∷ []) ∷  -- `W 0 05 7`
     (87 ∷ 32 ∷ 48 ∷ 32 ∷ 53 ∷ 32 ∷ 32 ∷ 55 ∷ []) ∷  -- `W 0 5  7`
     (87 ∷ 32 ∷ 48 ∷ 32 ∷ 53 ∷ 32 ∷ 55 ∷ 32 ∷ []) ∷  -- `W 0 5 7 `
@@ -128,9 +128,9 @@ oddLines =
     (87 ∷ 32 ∷ 48 ∷ 48 ∷ 32 ∷ 53 ∷ 32 ∷ 55 ∷ []) ∷  -- `W 00 5 7`
     []
 
-pub odd-asks : map line_of oddLines ≡ map (λ l. Other) oddLines
-unfolding line_of lineIn fields inFront isDigit allDigits proper value_of isBelow both eqWords
-odd-asks = refl
+pub odd_asks : map line_of odd_lines ≡ map (λ l. Other) odd_lines
+unfolding line_of line_in fields in_front is_digit all_digits proper value_of is_below both eq_words
+odd_asks = refl
 
 -- ---- numbers in decimal: 0, 7, 10, 709 and 4294967295
 
@@ -141,5 +141,5 @@ pub decimals : map decimal (0 ∷ 7 ∷ 10 ∷ 709 ∷ 4294967295 ∷ [])
     ∷ (55 ∷ 48 ∷ 57 ∷ [])
     ∷ (52 ∷ 50 ∷ 57 ∷ 52 ∷ 57 ∷ 54 ∷ 55 ∷ 50 ∷ 57 ∷ 53 ∷ [])
     ∷ []
-unfolding decimal digitsIn
+unfolding decimal digits_in
 decimals = refl

@@ -5,24 +5,24 @@ use mathlib.Core.List.{List, [], ◌∷◌, ◌++◌}
 use native.Mathlib.Omega.{arith}
 use lib.ListN.{length, set, length-append}
 use lib.Seq.{sets}
-use Rattle.causal.proofs.Lists.{sets-append}
+use Rattle.causal.proofs.Lists.{sets_append}
 use Rattle.script.specs.Puts.{Put}
-use Rattle.script.specs.Replies.{replyBytes, ReplyFits}
+use Rattle.script.specs.Replies.{reply_bytes, ReplyFits}
 use Rattle.script.specs.declared.reply.Reply.{Reply}
-use Rattle.script.proofs.Decimals.{reply-length}
+use Rattle.script.proofs.Decimals.{reply_length}
 
 pub put_then : {row : List ℕ} {at : ℕ} {xs mid : List ℕ} {end : ℕ} {ys after : List ℕ} {stop : ℕ}
     → Put row at xs mid end → Put mid end ys after stop → Put row at (xs ++ ys) after stop
 put_then {row} {at} {xs} {mid} {end} {ys} {after} {stop} p q =
     record {
       ends = omega (arith, p.ends, q.ends, length-append xs ys);
-      holds = q.holds ∙ rw (p.holds, p.ends) (sym (sets-append row at xs ys));
+      holds = q.holds ∙ rw (p.holds, p.ends) (sym (sets_append row at xs ys));
     }
 
 pub put_one : (row : List ℕ) (at b : ℕ) → Put row at (b ∷ []) (set row at b) (at + 1)
 put_one row at b = record { ends = refl; holds = refl }
 
 -- the bytes of a reply, whose numbers have 32 bits
-pub put-reply : {row : List ℕ} {at : ℕ} {after : List ℕ} {end : ℕ} (r r' : Reply) → r ≡ r' → ReplyFits r' → Put row at (replyBytes r') after end
-    → (end ≡ at + length (replyBytes r)) × (after ≡ sets row at (replyBytes r)) × (end ≤ at + 40)
-put-reply r r' e f p = rw e (p.ends, p.holds, omega (arith, p.ends, reply-length r' f))
+pub put_reply : {row : List ℕ} {at : ℕ} {after : List ℕ} {end : ℕ} (r r' : Reply) → r ≡ r' → ReplyFits r' → Put row at (reply_bytes r') after end
+    → (end ≡ at + length (reply_bytes r)) × (after ≡ sets row at (reply_bytes r)) × (end ≤ at + 40)
+put_reply r r' e f p = rw e (p.ends, p.holds, omega (arith, p.ends, reply_length r' f))

@@ -1,6 +1,6 @@
 // The fields of a line: the bytes between its spaces, each a number in decimal.
 ghost use Rattle.std.specs.Prelude.{◌≡◌, ◌+◌, ◌≤◌, length, drop};
-ghost use Rattle.script.specs.Steps.{turned, capped, field_of, firstField, FieldAt};
+ghost use Rattle.script.specs.Steps.{turned, capped, field_of, first_field, FieldAt};
 
 // Stands for a field that is no number below 2^32.
 pub const NONE: u64 = 4294967296;
@@ -64,7 +64,7 @@ fn number(part: &[u8]) -> u64
 // Where the field that starts at from ends: at a space, or at the end of the line.
 pub fn field_end(bytes: &[u8], from: usize) -> usize
     requires { from ≤ length bytes.now }
-    ensures { (result ≡ from + length (firstField (drop from bytes.now))) × (result ≤ length bytes.now) }
+    ensures { (result ≡ from + length (first_field (drop from bytes.now))) × (result ≤ length bytes.now) }
 {
     let mut i = from;
     while i < bytes.len() {

@@ -1,7 +1,7 @@
 // A line of a script: what it asks for.
 ghost use Rattle.std.specs.Prelude.{◌≡◌};
 ghost use Rattle.script.specs.Lines.{line_of};
-ghost use Rattle.script.specs.Steps.{receiveOf, read_of, move_of, writeOf, one_of, twoOf, threeOf};
+ghost use Rattle.script.specs.Steps.{receive_of, read_of, move_of, write_of, one_of, two_of, three_of};
 
 use crate::field::{NONE, field_at, field_end};
 
@@ -24,7 +24,7 @@ pub enum Line {
 }
 
 fn receive(o: u64) -> Line
-    ensures { result ≡ receiveOf o }
+    ensures { result ≡ receive_of o }
 {
     if o >= OFFICES {
         return Line::Other;
@@ -57,7 +57,7 @@ fn move_to(s: u64, o: u64) -> Line
 }
 
 fn write(s: u64, p: u64, v: u64) -> Line
-    ensures { result ≡ writeOf s p v }
+    ensures { result ≡ write_of s p v }
 {
     if s >= SESSIONS {
         return Line::Other;
@@ -83,7 +83,7 @@ fn one(letter: u8, o: u64) -> Line
 
 // A letter and two fields.
 fn two(letter: u8, s: u64, x: u64) -> Line
-    ensures { result ≡ twoOf letter s x }
+    ensures { result ≡ two_of letter s x }
 {
     if letter == b'R' {
         return read(s, x);
@@ -96,7 +96,7 @@ fn two(letter: u8, s: u64, x: u64) -> Line
 
 // A letter and three fields.
 fn three(letter: u8, s: u64, p: u64, v: u64) -> Line
-    ensures { result ≡ threeOf letter s p v }
+    ensures { result ≡ three_of letter s p v }
 {
     if letter == b'W' {
         return write(s, p, v);

@@ -1,7 +1,7 @@
 // A line whose end has not come yet: its first 32 bytes, and its length, which stops at 33. The longest proper line has 25 bytes.
 ghost use Rattle.std.specs.Prelude.{◌≡◌, [], ◌≤◌, length};
 ghost use Rattle.script.specs.Lines.{Named};
-ghost use Rattle.script.specs.Pendings.{Takes, pendingOf, parsed, is_empty};
+ghost use Rattle.script.specs.Pendings.{Takes, pending_of, parsed, is_empty};
 
 use crate::line::{Line, parse_line};
 
@@ -12,7 +12,7 @@ pub struct Pending {
 }
 
 pub fn nothing() -> Pending
-    ensures { result ≡ pendingOf [] }
+    ensures { result ≡ pending_of [] }
 {
     Pending {
         bytes: [0u8; 32],

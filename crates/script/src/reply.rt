@@ -1,7 +1,7 @@
 // The reply to a line of a script, with a newline behind it.
 ghost use Rattle.std.specs.Prelude.{◌≡◌, ◌∷◌, [], ◌++◌, ◌+◌, ◌≤◌, length};
 ghost use Rattle.std.proofs.lemmas.List.Edits.{sets};
-ghost use Rattle.script.specs.Replies.{decimal, nameBytes, numbered, replyBytes};
+ghost use Rattle.script.specs.Replies.{decimal, name_bytes, numbered, reply_bytes};
 ghost use Rattle.script.specs.Puts.{Put};
 
 use crate::put::{put_decimal, put_text};
@@ -31,7 +31,7 @@ pub enum Reply {
 // A name: office.serial, and the newline.
 fn put_name(o: u32, s: u32, out: &mut [u8], at: usize) -> usize
     requires { at + 22 ≤ length out.old }
-    ensures { Put out.old at (nameBytes o s ++ (10 ∷ [])) out.new result }
+    ensures { Put out.old at (name_bytes o s ++ (10 ∷ [])) out.new result }
 {
     let dot = put_decimal(o, &mut *out, at);
     let from = put_text(b".", &mut *out, dot);
@@ -51,7 +51,7 @@ fn put_numbered(text: &[u8], n: u32, out: &mut [u8], at: usize) -> usize
 
 fn put_wrote(o: u32, s: u32, out: &mut [u8], at: usize) -> usize
     requires { at + 40 ≤ length out.old }
-    ensures { Put out.old at (87 ∷ 32 ∷ nameBytes o s ++ (10 ∷ [])) out.new result }
+    ensures { Put out.old at (87 ∷ 32 ∷ name_bytes o s ++ (10 ∷ [])) out.new result }
 {
     let from = put_text(b"W ", &mut *out, at);
     put_name(o, s, &mut *out, from)
@@ -59,7 +59,7 @@ fn put_wrote(o: u32, s: u32, out: &mut [u8], at: usize) -> usize
 
 fn put_found(v: u32, o: u32, s: u32, out: &mut [u8], at: usize) -> usize
     requires { at + 40 ≤ length out.old }
-    ensures { Put out.old at (82 ∷ 32 ∷ decimal v ++ (32 ∷ nameBytes o s ++ (10 ∷ []))) out.new result }
+    ensures { Put out.old at (82 ∷ 32 ∷ decimal v ++ (32 ∷ name_bytes o s ++ (10 ∷ []))) out.new result }
 {
     let from = put_text(b"R ", &mut *out, at);
     let end = put_decimal(v, &mut *out, from);
@@ -70,7 +70,7 @@ fn put_found(v: u32, o: u32, s: u32, out: &mut [u8], at: usize) -> usize
 // Puts the reply at `at`, and answers where it ends.
 pub fn put_reply(reply: Reply, out: &mut [u8], at: usize) -> usize
     requires { at + 40 ≤ length out.old }
-    ensures { (result ≡ at + length (replyBytes reply)) × (out.new ≡ sets out.old at (replyBytes reply)) × (result ≤ at + 40) }
+    ensures { (result ≡ at + length (reply_bytes reply)) × (out.new ≡ sets out.old at (reply_bytes reply)) × (result ≤ at + 40) }
 {
     match reply {
         Reply::Wrote(o, s) => put_wrote(o, s, out, at),

@@ -1,47 +1,47 @@
 -- A sum of digits grows by one where one digit turns from 0 to 1; digits without gaps are 1 just below their sum. Assumes nothing.
 use Rattle.std.proofs.Common.{◌≡◌, ℕ, zero, suc, ◌+◌, ◌<◌, ◌≤◌, max, ◌⊎◌, sym, refl, ap, ◌∙◌, inl, inr, ⊎_elim, arith}
-use Rattle.causal.specs.Lists.{sumBelow}
-use Rattle.causal.proofs.Bits.{same, same-eq, same-ne}
-use Rattle.causal.proofs.Lists.{sum-le}
-use Rattle.causal.proofs.Tests.{eq-or-ne, split}
+use Rattle.causal.specs.Lists.{sum_below}
+use Rattle.causal.proofs.Bits.{same, same_eq, same_ne}
+use Rattle.causal.proofs.Lists.{sum_le}
+use Rattle.causal.proofs.Tests.{eq_or_ne, split}
 
 module _ (f g : ℕ → ℕ) (k : ℕ) (z : f k ≡ 0) (e : (j : ℕ) → g j ≡ max (f j) (same j k)) where
-  sum_same : (n : ℕ) → n ≤ k → sumBelow n g ≡ sumBelow n f
-  unfolding sumBelow
+  sum_same : (n : ℕ) → n ≤ k → sum_below n g ≡ sum_below n f
+  unfolding sum_below
   sum_same zero h = refl
-  sum_same (suc n) h = omega (arith, sum_same n (omega arith), e n, same-ne n k (λ p. omega arith))
+  sum_same (suc n) h = omega (arith, sum_same n (omega arith), e n, same_ne n k (λ p. omega arith))
 
-  pub sum_more : (n : ℕ) → k < n → sumBelow n g ≡ sumBelow n f + 1
-  unfolding sumBelow
+  pub sum_more : (n : ℕ) → k < n → sum_below n g ≡ sum_below n f + 1
+  unfolding sum_below
   sum_more zero h = absurd (omega arith)
   sum_more (suc n) h = ⊎_elim (λ l. there l (sum_more n l)) here (split k n h)
     where
-      here : k ≡ n → sumBelow (suc n) g ≡ sumBelow (suc n) f + 1
+      here : k ≡ n → sum_below (suc n) g ≡ sum_below (suc n) f + 1
       here p =
           let zn : f n ≡ 0 = ap f (sym p) ∙ z in
-          omega (arith, sum_same n (omega arith), e n, same-eq n k (sym p))
+          omega (arith, sum_same n (omega arith), e n, same_eq n k (sym p))
 
-      there : k < n → sumBelow n g ≡ sumBelow n f + 1 → sumBelow (suc n) g ≡ sumBelow (suc n) f + 1
-      there l ih = omega (arith, e n, same-ne n k (λ p. omega arith))
+      there : k < n → sum_below n g ≡ sum_below n f + 1 → sum_below (suc n) g ≡ sum_below (suc n) f + 1
+      there l ih = omega (arith, e n, same_ne n k (λ p. omega arith))
 
 -- ---- a count without gaps
 
 module _ (f : ℕ → ℕ) (two : (i : ℕ) → f i < 2) where
   pub record Counted (m : ℕ) : Type 0 where
-    pub below : (s : ℕ) → s < m → f s ≡ 1 → s < sumBelow m f
-    pub all : (s : ℕ) → s < sumBelow m f → f s ≡ 1
+    pub below : (s : ℕ) → s < m → f s ≡ 1 → s < sum_below m f
+    pub all : (s : ℕ) → s < sum_below m f → f s ≡ 1
 
   pub counted : (m : ℕ) → ((s : ℕ) → suc s < m → f (s + 1) ≡ 1 → f s ≡ 1) → Counted m
-  unfolding sumBelow
+  unfolding sum_below
   counted zero gap = record { below = λ s l h. absurd (omega arith); all = λ s l. absurd (omega arith) }
-  counted (suc m) gap = go (counted m (λ s l h. gap s (omega arith) h)) (eq-or-ne (f m) 1)
+  counted (suc m) gap = go (counted m (λ s l h. gap s (omega arith) h)) (eq_or_ne (f m) 1)
     where
-      full : (j : ℕ) → m ≡ j → Counted m → f m ≡ 1 → sumBelow m f ≡ m
+      full : (j : ℕ) → m ≡ j → Counted m → f m ≡ 1 → sum_below m f ≡ m
       full zero e c h = rw e
       full (suc j) e c h =
           let q : j + 1 ≡ m = omega arith in
           let g : f j ≡ 1 = gap j (omega arith) (ap f q ∙ h) in
-          omega (arith, c.below j (omega arith) g, sum-le f two m)
+          omega (arith, c.below j (omega arith) g, sum_le f two m)
 
       go : Counted m → (f m ≡ 1) ⊎ (f m ≡ 1 → ⊥) → Counted (suc m)
       go c (inl h) =

@@ -3,32 +3,32 @@ use Rattle.std.proofs.Common.{◌≡◌, ℕ, zero, suc, ◌+◌, ◌*◌, ◌/�
 use lib.Bits.{bit_and, and_step, and_le_l, and_self}
 use Rattle.causal.specs.Tests.{both, implies, all_below}
 use Rattle.causal.specs.Sets.{bit}
-use Rattle.causal.proofs.Tests.{lt-or-le, same_test, all-at, all-intro, all-ext, implies-intro, implies-elim, all-front}
-use Rattle.causal.proofs.Bits.{bit-lt, bit-low, bit-suc, bit-zero-word, bits-ext}
-use Rattle.store.specs.Slots.{noGap}
+use Rattle.causal.proofs.Tests.{lt_or_le, same_test, all_at, all_intro, all_ext, implies_intro, implies_elim, all_front}
+use Rattle.causal.proofs.Bits.{bit_lt, bit_low, bit_suc, bit_zero_word, bits_ext}
+use Rattle.store.specs.Slots.{no_gap}
 
 -- bit s is set where the next one is
 unfoldable gap : ℕ → ℕ → Bool
 gap w s = implies (eqb (bit w (s + 1)) 1) (eqb (bit w s) 1)
 
 -- no bit is set above a clear lowest one
-all-clear : (w n : ℕ) → w % 2 ≡ 0 → all_below n (gap w) ≡ true → (s : ℕ) → s ≤ n → bit w s ≡ 0
+all_clear : (w n : ℕ) → w % 2 ≡ 0 → all_below n (gap w) ≡ true → (s : ℕ) → s ≤ n → bit w s ≡ 0
 unfolding gap
-all-clear w n e a zero l = bit-low w ∙ e
-all-clear w n e a (suc s) l =
-    let below : bit w s ≡ 0 = all-clear w n e a s (omega arith) in
-    let g = all-at (gap w) n a s (omega arith) in
+all_clear w n e a zero l = bit_low w ∙ e
+all_clear w n e a (suc s) l =
+    let below : bit w s ≡ 0 = all_clear w n e a s (omega arith) in
+    let g = all_at (gap w) n a s (omega arith) in
     ⊎_elim
     (λ (h : bit w (suc s) ≡ 1).
     let one : bit w (s + 1) ≡ 1 = ap (bit w) (add-one s) ∙ h in
-    let z = eqb-true (bit w s) 1 (implies-elim _ _ g (eq-eqb _ 1 one)) in
+    let z = eqb-true (bit w s) 1 (implies_elim _ _ g (eq-eqb _ 1 one)) in
     absurd (omega arith))
-    (λ (h : bit w (suc s) ≡ 1 → ⊥). omega (arith, bit-lt w (suc s)))
-    (Rattle.causal.proofs.Tests.eq-or-ne (bit w (suc s)) 1)
+    (λ (h : bit w (suc s) ≡ 1 → ⊥). omega (arith, bit_lt w (suc s)))
+    (Rattle.causal.proofs.Tests.eq_or_ne (bit w (suc s)) 1)
 
-even-case : (k w : ℕ) → w < 2 ^ suc k → w % 2 ≡ 0 → eqb (bit_and w (w + 1)) 0 ≡ all_below k (gap w)
+even_case : (k w : ℕ) → w < 2 ^ suc k → w % 2 ≡ 0 → eqb (bit_and w (w + 1)) 0 ≡ all_below k (gap w)
 unfolding gap
-even-case k w h e = ap (λ (x : ℕ). eqb x 0) whole ∙ same_test _ _ none all
+even_case k w h e = ap (λ (x : ℕ). eqb x 0) whole ∙ same_test _ _ none all
   where
     whole : bit_and w (w + 1) ≡ w
     whole =
@@ -38,29 +38,29 @@ even-case k w h e = ap (λ (x : ℕ). eqb x 0) whole ∙ same_test _ _ none all
         omega (arith, and_self (w / 2))
 
     none : eqb w 0 ≡ true → all_below k (gap w) ≡ true
-    none z = let q : w ≡ 0 = eqb-true w 0 z in all-intro (gap w) k (λ s l. implies-intro _ _ (λ t. absurd (clash q s t)))
+    none z = let q : w ≡ 0 = eqb-true w 0 z in all_intro (gap w) k (λ s l. implies_intro _ _ (λ t. absurd (clash q s t)))
       where
         clash : w ≡ 0 → (s : ℕ) → eqb (bit w (s + 1)) 1 ≡ true → ⊥
         clash q s t =
             let o = eqb-true (bit w (s + 1)) 1 t in
-            let z : bit w (s + 1) ≡ 0 = ap (λ (x : ℕ). bit x (s + 1)) q ∙ bit-zero-word (s + 1) in
+            let z : bit w (s + 1) ≡ 0 = ap (λ (x : ℕ). bit x (s + 1)) q ∙ bit_zero_word (s + 1) in
             omega arith
 
     all : all_below k (gap w) ≡ true → eqb w 0 ≡ true
-    all a = eq-eqb w 0 (bits-ext (suc k) w 0 h (pow_pos (suc k)) (λ i l. all-clear w k e a i (omega arith) ∙ sym (bit-zero-word i)))
+    all a = eq-eqb w 0 (bits_ext (suc k) w 0 h (pow_pos (suc k)) (λ i l. all_clear w k e a i (omega arith) ∙ sym (bit_zero_word i)))
 
-low-test : (k w : ℕ) → w < 2 ^ suc k → eqb (bit_and w (w + 1)) 0 ≡ all_below k (gap w)
+low_test : (k w : ℕ) → w < 2 ^ suc k → eqb (bit_and w (w + 1)) 0 ≡ all_below k (gap w)
 unfolding all_below both gap
-low-test zero w h = let l : w < 2 = h in eq-eqb (bit_and w (w + 1)) 0 (omega (arith, and_step w (w + 1), and_le_l (w / 2) ((w + 1) / 2)))
-low-test (suc k) w h = ⊎_elim (even-case (suc k) w h) (odd-case (low-test k (w / 2))) (Rattle.causal.proofs.Tests.eq-or-ne (w % 2) 0)
+low_test zero w h = let l : w < 2 = h in eq-eqb (bit_and w (w + 1)) 0 (omega (arith, and_step w (w + 1), and_le_l (w / 2) ((w + 1) / 2)))
+low_test (suc k) w h = ⊎_elim (even_case (suc k) w h) (odd_case (low_test k (w / 2))) (Rattle.causal.proofs.Tests.eq_or_ne (w % 2) 0)
   where
     half : w < 2 ^ suc k * 2
     half = rw pow-suc at h
 
-    odd-case : (w / 2 < 2 ^ suc k → eqb (bit_and (w / 2) (w / 2 + 1)) 0 ≡ all_below k (gap (w / 2))) → (w % 2 ≡ 0 → ⊥) → eqb (bit_and w (w + 1)) 0 ≡ all_below (suc k) (gap w)
-    odd-case ih o =
+    odd_case : (w / 2 < 2 ^ suc k → eqb (bit_and (w / 2) (w / 2 + 1)) 0 ≡ all_below k (gap (w / 2))) → (w % 2 ≡ 0 → ⊥) → eqb (bit_and w (w + 1)) 0 ≡ all_below (suc k) (gap w)
+    odd_case ih o =
         ap (λ (x : ℕ). eqb x 0) twice ∙ doubled (bit_and (w / 2) (w / 2 + 1)) ∙ ih (omega (arith, half))
-        ∙ all-ext (gap (w / 2)) (λ s. gap w (suc s)) k (λ s l. shifted s) ∙ sym (first (gap w 0) (all_below k (λ s. gap w (suc s))) low) ∙ sym (all-front (gap w) k)
+        ∙ all_ext (gap (w / 2)) (λ s. gap w (suc s)) k (λ s l. shifted s) ∙ sym (first (gap w 0) (all_below k (λ s. gap w (suc s))) low) ∙ sym (all_front (gap w) k)
       where
         twice : bit_and w (w + 1) ≡ bit_and (w / 2) (w / 2 + 1) * 2
         twice =
@@ -76,27 +76,27 @@ low-test (suc k) w h = ⊎_elim (even-case (suc k) w h) (odd-case (low-test k (w
 
         shifted : (s : ℕ) → gap (w / 2) s ≡ gap w (suc s)
         shifted s =
-            let a : bit (w / 2) (s + 1) ≡ bit w (suc s + 1) = sym (bit-suc w (s + 1)) ∙ ap (bit w) (let z : suc (s + 1) ≡ suc s + 1 = omega arith in z) in
-            let b : bit (w / 2) s ≡ bit w (suc s) = sym (bit-suc w s) in
+            let a : bit (w / 2) (s + 1) ≡ bit w (suc s + 1) = sym (bit_suc w (s + 1)) ∙ ap (bit w) (let z : suc (s + 1) ≡ suc s + 1 = omega arith in z) in
+            let b : bit (w / 2) s ≡ bit w (suc s) = sym (bit_suc w s) in
             ap₂ (λ (x y : ℕ). implies (eqb x 1) (eqb y 1)) a b
 
         low : gap w 0 ≡ true
-        low = implies-intro _ _ (λ t. eq-eqb (bit w 0) 1 (bit-low w ∙ (let z : w % 2 ≡ 1 = omega arith in z)))
+        low = implies_intro _ _ (λ t. eq-eqb (bit w 0) 1 (bit_low w ∙ (let z : w % 2 ≡ 1 = omega arith in z)))
 
         first : (a b : Bool) → a ≡ true → both a b ≡ b
         first a b e = rw e
 
-full : noGap 4294967295 ≡ true
-unfolding noGap all_below both implies bit
+full : no_gap 4294967295 ≡ true
+unfolding no_gap all_below both implies bit
 full = refl
 
 -- as the machine adds
-pub no_gap : (w : ℕ) → w < 2 ^ 32 → eqb (bit_and w ((w + 1) % 2 ^ 32)) 0 ≡ noGap w
-unfolding noGap gap
-no_gap w h = ⊎_elim within over (lt-or-le (w + 1) (2 ^ 32))
+pub no_gap_lem : (w : ℕ) → w < 2 ^ 32 → eqb (bit_and w ((w + 1) % 2 ^ 32)) 0 ≡ no_gap w
+unfolding no_gap gap
+no_gap_lem w h = ⊎_elim within over (lt_or_le (w + 1) (2 ^ 32))
   where
-    within : w + 1 < 2 ^ 32 → eqb (bit_and w ((w + 1) % 2 ^ 32)) 0 ≡ noGap w
-    within l = ap (λ (x : ℕ). eqb (bit_and w x) 0) (mod-eq_of_lt l) ∙ low-test 31 w h
+    within : w + 1 < 2 ^ 32 → eqb (bit_and w ((w + 1) % 2 ^ 32)) 0 ≡ no_gap w
+    within l = ap (λ (x : ℕ). eqb (bit_and w x) 0) (mod-eq_of_lt l) ∙ low_test 31 w h
 
-    over : 2 ^ 32 ≤ w + 1 → eqb (bit_and w ((w + 1) % 2 ^ 32)) 0 ≡ noGap w
+    over : 2 ^ 32 ≤ w + 1 → eqb (bit_and w ((w + 1) % 2 ^ 32)) 0 ≡ no_gap w
     over l = let q : w ≡ 4294967295 = omega arith in rw q (sym full)

@@ -1,42 +1,42 @@
 -- The current entry by its id: the turns of the search for it, and that it is the entry that the rules call current. Assumes nothing.
 use Rattle.std.proofs.Common.{◌≡◌, ℕ, zero, suc, ◌+◌, ◌*◌, ◌<◌, ◌≤◌, Bool, true, false, cond, eqb, ◌⊎◌, List, get_or, sym, refl, ap, ◌∙◌, ap₂, inl, inr, ⊎_elim, add-zero, add-suc, add-one, arith, eq-eqb, ne_eqb}
 use Rattle.causal.specs.Tests.{both}
-use Rattle.causal.specs.Sets.{bit, has, isIn}
+use Rattle.causal.specs.Sets.{bit, has, is_in}
 use Rattle.causal.proofs.Sets.{in_is}
 use Rattle.causal.proofs.Walk.{Passed, Next, fold_next, fold_end, has_word}
 use Rattle.frame.specs.Entries.{outranks}
-use Rattle.store.specs.Offices.{Office, slot_at, entry_at, Some, better, consider, bestTo, current}
-use Rattle.store.specs.Current.{InSlots, betterAt, weighed, placeTo, place_in, currentAt, found_at}
+use Rattle.store.specs.Offices.{Office, slot_at, entry_at, Some, better, consider, best_to, current}
+use Rattle.store.specs.Current.{InSlots, better_at, weighed, place_to, place_in, current_at, found_at}
 use Rattle.store.specs.declared.current.Place.{Place}
 use Rattle.store.specs.declared.current.Place.TheVariants.{At, Nowhere}
 
 -- ---- one id
 
 module _ (ws : List ℕ) (plot k : ℕ) (best : Place) (x : ℕ) (e : x ≡ (entry_at ws k).plot) where
-  pub weigh-skip : (x ≡ plot → ⊥) → best ≡ weighed ws plot k best
+  pub weigh_skip : (x ≡ plot → ⊥) → best ≡ weighed ws plot k best
   unfolding weighed
-  weigh-skip n = rw (ne_eqb (entry_at ws k).plot plot (λ q. n (e ∙ q)))
+  weigh_skip n = rw (ne_eqb (entry_at ws k).plot plot (λ q. n (e ∙ q)))
 
-  pub weigh-first : x ≡ plot → best ≡ Nowhere → At k ≡ weighed ws plot k best
-  unfolding weighed betterAt
-  weigh-first h b = rw (eq-eqb (entry_at ws k).plot plot (sym e ∙ h), b)
+  pub weigh_first : x ≡ plot → best ≡ Nowhere → At k ≡ weighed ws plot k best
+  unfolding weighed better_at
+  weigh_first h b = rw (eq-eqb (entry_at ws k).plot plot (sym e ∙ h), b)
 
-  pub weigh-new : (b : ℕ) (r : Bool) → x ≡ plot → best ≡ At b → r ≡ outranks (entry_at ws k) (entry_at ws b) → r ≡ true → At k ≡ weighed ws plot k best
-  unfolding weighed betterAt
-  weigh-new b r h o f t = rw (eq-eqb (entry_at ws k).plot plot (sym e ∙ h), o, sym f ∙ t)
+  pub weigh_new : (b : ℕ) (r : Bool) → x ≡ plot → best ≡ At b → r ≡ outranks (entry_at ws k) (entry_at ws b) → r ≡ true → At k ≡ weighed ws plot k best
+  unfolding weighed better_at
+  weigh_new b r h o f t = rw (eq-eqb (entry_at ws k).plot plot (sym e ∙ h), o, sym f ∙ t)
 
-  pub weigh-old : (b : ℕ) (r : Bool) → x ≡ plot → best ≡ At b → r ≡ outranks (entry_at ws k) (entry_at ws b) → r ≡ false → At b ≡ weighed ws plot k best
-  unfolding weighed betterAt
-  weigh-old b r h o f t = rw (eq-eqb (entry_at ws k).plot plot (sym e ∙ h), o, sym f ∙ t)
+  pub weigh_old : (b : ℕ) (r : Bool) → x ≡ plot → best ≡ At b → r ≡ outranks (entry_at ws k) (entry_at ws b) → r ≡ false → At b ≡ weighed ws plot k best
+  unfolding weighed better_at
+  weigh_old b r h o f t = rw (eq-eqb (entry_at ws k).plot plot (sym e ∙ h), o, sym f ∙ t)
 
-pub in-slots-at : (m : ℕ) (best : Place) (b : ℕ) → InSlots m best → best ≡ At b → (b < 256) × (slot_at b + 18 ≤ m)
-in-slots-at m best b h e = rw e at h
+pub in_slots_at : (m : ℕ) (best : Place) (b : ℕ) → InSlots m best → best ≡ At b → (b < 256) × (slot_at b + 18 ≤ m)
+in_slots_at m best b h e = rw e at h
 
-pub in-slots : (ws : List ℕ) (m plot k : ℕ) (best : Place) → k < 256 → slot_at k + 18 ≤ m → InSlots m best → InSlots m (weighed ws plot k best)
-unfolding weighed betterAt
-in-slots ws m plot k best l h o = go (eqb (entry_at ws k).plot plot)
+pub in_slots : (ws : List ℕ) (m plot k : ℕ) (best : Place) → k < 256 → slot_at k + 18 ≤ m → InSlots m best → InSlots m (weighed ws plot k best)
+unfolding weighed better_at
+in_slots ws m plot k best l h o = go (eqb (entry_at ws k).plot plot)
   where
-    one : (c : Place) → InSlots m c → InSlots m (betterAt ws k c)
+    one : (c : Place) → InSlots m c → InSlots m (better_at ws k c)
     one Nowhere i = (l, h)
     one (At b) i = two (outranks (entry_at ws k) (entry_at ws b))
       where
@@ -44,7 +44,7 @@ in-slots ws m plot k best l h o = go (eqb (entry_at ws k).plot plot)
         two true = (l, h)
         two false = i
 
-    go : (t : Bool) → InSlots m (cond t (betterAt ws k best) best)
+    go : (t : Bool) → InSlots m (cond t (better_at ws k best) best)
     go true = one best o
     go false = o
 
@@ -55,103 +55,103 @@ module _ (ws : List ℕ) (plot i w : ℕ) (before : Place) where
   unfolding place_in
   place_same b l z = rw z
 
-  place-taken : (t : ℕ) → bit w t ≡ 1 → place_in ws plot i w (suc t) before ≡ weighed ws plot (32 * i + t) (place_in ws plot i w t before)
+  place_taken : (t : ℕ) → bit w t ≡ 1 → place_in ws plot i w (suc t) before ≡ weighed ws plot (32 * i + t) (place_in ws plot i w t before)
   unfolding place_in
-  place-taken t o = rw o
+  place_taken t o = rw o
 
-  pub place-more : (b rest t : ℕ) (best r : Place) → Next w b rest t → best ≡ place_in ws plot i w b before → r ≡ weighed ws plot (32 * i + t) best
+  pub place_more : (b rest t : ℕ) (best r : Place) → Next w b rest t → best ≡ place_in ws plot i w b before → r ≡ weighed ws plot (32 * i + t) best
       → r ≡ place_in ws plot i w (t + 1) before
-  place-more b rest t best r x e f =
+  place_more b rest t best r x e f =
       f ∙ ap (weighed ws plot (32 * i + t)) (e ∙ sym (fold_next (λ j. place_in ws plot i w j before) w place_same b rest t x))
-      ∙ sym (place-taken t x.member) ∙ ap (λ (j : ℕ). place_in ws plot i w j before) (sym (add-one t))
+      ∙ sym (place_taken t x.member) ∙ ap (λ (j : ℕ). place_in ws plot i w j before) (sym (add-one t))
 
-  pub place-done : (b rest : ℕ) (best : Place) → Passed w b rest → rest ≡ 0 → best ≡ place_in ws plot i w b before → best ≡ place_in ws plot i w 32 before
-  place-done b rest best x z e = e ∙ sym (fold_end (λ j. place_in ws plot i w j before) w place_same b rest x z)
+  pub place_done : (b rest : ℕ) (best : Place) → Passed w b rest → rest ≡ 0 → best ≡ place_in ws plot i w b before → best ≡ place_in ws plot i w 32 before
+  place_done b rest best x z e = e ∙ sym (fold_end (λ j. place_in ws plot i w j before) w place_same b rest x z)
 
 -- ---- all words
 
 module _ (ws v : List ℕ) (plot : ℕ) where
-  place-word : (i b : ℕ) → b ≤ 32 → placeTo ws v plot (32 * i + b) ≡ place_in ws plot i (get_or v i 0) b (placeTo ws v plot (32 * i))
-  unfolding placeTo place_in isIn
-  place-word i zero l = ap (placeTo ws v plot) (add-zero (32 * i))
-  place-word i (suc b) l =
-      let ih = place-word i b (omega arith) in
-      ap (placeTo ws v plot) (add-suc (32 * i) b)
+  place_word : (i b : ℕ) → b ≤ 32 → place_to ws v plot (32 * i + b) ≡ place_in ws plot i (get_or v i 0) b (place_to ws v plot (32 * i))
+  unfolding place_to place_in is_in
+  place_word i zero l = ap (place_to ws v plot) (add-zero (32 * i))
+  place_word i (suc b) l =
+      let ih = place_word i b (omega arith) in
+      ap (place_to ws v plot) (add-suc (32 * i) b)
       ∙ ap₂ (λ (x : ℕ) (y : Place). cond (eqb x 1) (weighed ws plot (32 * i + b) y) y) (has_word v i b (omega arith)) ih
 
   -- one word more
-  pub place-next : (i : ℕ) (best r : Place) → best ≡ placeTo ws v plot (32 * i) → r ≡ place_in ws plot i (get_or v i 0) 32 best → r ≡ placeTo ws v plot (32 * (i + 1))
-  place-next i best r e f =
+  pub place_next : (i : ℕ) (best r : Place) → best ≡ place_to ws v plot (32 * i) → r ≡ place_in ws plot i (get_or v i 0) 32 best → r ≡ place_to ws v plot (32 * (i + 1))
+  place_next i best r e f =
       let q : 32 * i + 32 ≡ 32 * (i + 1) = omega arith in
-      f ∙ ap (place_in ws plot i (get_or v i 0) 32) e ∙ sym (place-word i 32 (omega arith)) ∙ ap (placeTo ws v plot) q
+      f ∙ ap (place_in ws plot i (get_or v i 0) 32) e ∙ sym (place_word i 32 (omega arith)) ∙ ap (place_to ws v plot) q
 
-  pub place_none : Nowhere ≡ placeTo ws v plot (32 * 0)
-  unfolding placeTo
+  pub place_none : Nowhere ≡ place_to ws v plot (32 * 0)
+  unfolding place_to
   place_none = refl
 
-  pub place-in-slots : (m : ℕ) → ((k : ℕ) → has v k ≡ 1 → (k < 256) × (slot_at k + 18 ≤ m)) → (k : ℕ) → InSlots m (placeTo ws v plot k)
-  unfolding placeTo
-  place-in-slots m f zero = tt
-  place-in-slots m f (suc k) = go (isIn v k) refl (place-in-slots m f k)
+  pub place_in_slots : (m : ℕ) → ((k : ℕ) → has v k ≡ 1 → (k < 256) × (slot_at k + 18 ≤ m)) → (k : ℕ) → InSlots m (place_to ws v plot k)
+  unfolding place_to
+  place_in_slots m f zero = tt
+  place_in_slots m f (suc k) = go (is_in v k) refl (place_in_slots m f k)
     where
-      go : (t : Bool) → isIn v k ≡ t → InSlots m (placeTo ws v plot k) → InSlots m (cond t (weighed ws plot k (placeTo ws v plot k)) (placeTo ws v plot k))
-      go true e ih = let s = f k (in_is v k e) in in-slots ws m plot k (placeTo ws v plot k) s.0 s.1 ih
+      go : (t : Bool) → is_in v k ≡ t → InSlots m (place_to ws v plot k) → InSlots m (cond t (weighed ws plot k (place_to ws v plot k)) (place_to ws v plot k))
+      go true e ih = let s = f k (in_is v k e) in in_slots ws m plot k (place_to ws v plot k) s.0 s.1 ih
       go false e ih = ih
 
 -- ---- what is found there is what the rules call current
 
 module _ (O : Office) (ws : List ℕ) (same : (k : ℕ) → has O.visible k ≡ 1 → O.entry k ≡ entry_at ws k) where
-  pub best-at : (plot k : ℕ) → bestTo O plot k ≡ found_at ws (placeTo ws O.visible plot k)
-  unfolding bestTo placeTo found_at better betterAt consider weighed both
-  best-at plot zero = refl
-  best-at plot (suc k) = go (isIn O.visible k) refl (best-at plot k)
+  pub best_at : (plot k : ℕ) → best_to O plot k ≡ found_at ws (place_to ws O.visible plot k)
+  unfolding best_to place_to found_at better better_at consider weighed both
+  best_at plot zero = refl
+  best_at plot (suc k) = go (is_in O.visible k) refl (best_at plot k)
     where
-      better-at : (b : Place) → better (entry_at ws k) (found_at ws b) ≡ found_at ws (betterAt ws k b)
-      better-at Nowhere = refl
-      better-at (At b) = two (outranks (entry_at ws k) (entry_at ws b))
+      better_at_lem : (b : Place) → better (entry_at ws k) (found_at ws b) ≡ found_at ws (better_at ws k b)
+      better_at_lem Nowhere = refl
+      better_at_lem (At b) = two (outranks (entry_at ws k) (entry_at ws b))
         where
           two : (t : Bool) → cond t (Some (entry_at ws k)) (Some (entry_at ws b)) ≡ found_at ws (cond t (At k) (At b))
           two true = refl
           two false = refl
 
-      on-plot : (t : Bool) (b : Place) → consider t (entry_at ws k) (found_at ws b) ≡ found_at ws (cond t (betterAt ws k b) b)
-      on-plot true b = better-at b
-      on-plot false b = refl
+      on_plot : (t : Bool) (b : Place) → consider t (entry_at ws k) (found_at ws b) ≡ found_at ws (cond t (better_at ws k b) b)
+      on_plot true b = better_at_lem b
+      on_plot false b = refl
 
-      go : (t : Bool) → isIn O.visible k ≡ t → bestTo O plot k ≡ found_at ws (placeTo ws O.visible plot k)
-          → consider (both t (eqb (O.entry k).plot plot)) (O.entry k) (bestTo O plot k)
-          ≡ found_at ws (cond t (weighed ws plot k (placeTo ws O.visible plot k)) (placeTo ws O.visible plot k))
-      go true e ih = rw (ih, same k (in_is O.visible k e)) (on-plot (eqb (entry_at ws k).plot plot) (placeTo ws O.visible plot k))
+      go : (t : Bool) → is_in O.visible k ≡ t → best_to O plot k ≡ found_at ws (place_to ws O.visible plot k)
+          → consider (both t (eqb (O.entry k).plot plot)) (O.entry k) (best_to O plot k)
+          ≡ found_at ws (cond t (weighed ws plot k (place_to ws O.visible plot k)) (place_to ws O.visible plot k))
+      go true e ih = rw (ih, same k (in_is O.visible k e)) (on_plot (eqb (entry_at ws k).plot plot) (place_to ws O.visible plot k))
       go false e ih = ih
 
-  pub current-at : (plot : ℕ) → O.offices ≡ get_or ws 0 0 → current O plot ≡ found_at ws (currentAt ws O.visible plot)
-  unfolding current currentAt
-  current-at plot n = ap (λ (m : ℕ). bestTo O plot (32 * m)) n ∙ best-at plot (32 * get_or ws 0 0)
+  pub current_at_lem : (plot : ℕ) → O.offices ≡ get_or ws 0 0 → current O plot ≡ found_at ws (current_at ws O.visible plot)
+  unfolding current current_at
+  current_at_lem plot n = ap (λ (m : ℕ). best_to O plot (32 * m)) n ∙ best_at plot (32 * get_or ws 0 0)
 
 -- ---- the place found is that of a visible id, and its slot lies in the store
 
-weighed-from : (ws : List ℕ) (plot k j : ℕ) (best : Place) → weighed ws plot k best ≡ At j → (j ≡ k) ⊎ (best ≡ At j)
-unfolding weighed betterAt
-weighed-from ws plot k j best e = go (eqb (entry_at ws k).plot plot) e
+weighed_from : (ws : List ℕ) (plot k j : ℕ) (best : Place) → weighed ws plot k best ≡ At j → (j ≡ k) ⊎ (best ≡ At j)
+unfolding weighed better_at
+weighed_from ws plot k j best e = go (eqb (entry_at ws k).plot plot) e
   where
-    better-from : (b : Place) → betterAt ws k b ≡ At j → (j ≡ k) ⊎ (b ≡ At j)
-    better-from Nowhere f = let q : k ≡ j = cc in inl (sym q)
-    better-from (At b) f = two (outranks (entry_at ws k) (entry_at ws b)) f
+    better_from : (b : Place) → better_at ws k b ≡ At j → (j ≡ k) ⊎ (b ≡ At j)
+    better_from Nowhere f = let q : k ≡ j = cc in inl (sym q)
+    better_from (At b) f = two (outranks (entry_at ws k) (entry_at ws b)) f
       where
         two : (t : Bool) → cond t (At k) (At b) ≡ At j → (j ≡ k) ⊎ (At b ≡ At j)
         two true g = let q : k ≡ j = cc in inl (sym q)
         two false g = inr g
 
-    go : (t : Bool) → cond t (betterAt ws k best) best ≡ At j → (j ≡ k) ⊎ (best ≡ At j)
-    go true f = better-from best f
+    go : (t : Bool) → cond t (better_at ws k best) best ≡ At j → (j ≡ k) ⊎ (best ≡ At j)
+    go true f = better_from best f
     go false f = inr f
 
-pub place-visible : (ws v : List ℕ) (plot k j : ℕ) → placeTo ws v plot k ≡ At j → has v j ≡ 1
-unfolding placeTo
-place-visible ws v plot zero j e = let z : ◌≡◌ {A = ℕ} 0 1 = cc in absurd (omega arith)
-place-visible ws v plot (suc k) j e = go (isIn v k) refl e (place-visible ws v plot k j)
+pub place_visible : (ws v : List ℕ) (plot k j : ℕ) → place_to ws v plot k ≡ At j → has v j ≡ 1
+unfolding place_to
+place_visible ws v plot zero j e = let z : ◌≡◌ {A = ℕ} 0 1 = cc in absurd (omega arith)
+place_visible ws v plot (suc k) j e = go (is_in v k) refl e (place_visible ws v plot k j)
   where
-    go : (t : Bool) → isIn v k ≡ t → cond t (weighed ws plot k (placeTo ws v plot k)) (placeTo ws v plot k) ≡ At j
-        → (placeTo ws v plot k ≡ At j → has v j ≡ 1) → has v j ≡ 1
-    go true o f ih = ⊎_elim (λ q. ap (has v) q ∙ in_is v k o) ih (weighed-from ws plot k j (placeTo ws v plot k) f)
+    go : (t : Bool) → is_in v k ≡ t → cond t (weighed ws plot k (place_to ws v plot k)) (place_to ws v plot k) ≡ At j
+        → (place_to ws v plot k ≡ At j → has v j ≡ 1) → has v j ≡ 1
+    go true o f ih = ⊎_elim (λ q. ap (has v) q ∙ in_is v k o) ih (weighed_from ws plot k j (place_to ws v plot k) f)
     go false o f ih = ih f

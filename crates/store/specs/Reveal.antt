@@ -2,7 +2,7 @@
 -- id that is not visible, and what it depends on becomes pending. `Reached` says the same with no steps; proofs/Reached.antt: they agree.
 -- Assumes nothing.
 use Rattle.std.specs.Prelude.{◌≡◌, ℕ, zero, suc, ◌+◌, ◌*◌, List}
-use Rattle.causal.specs.Sets.{has, unite, minus, inserted, lowestOf}
+use Rattle.causal.specs.Sets.{has, unite, minus, inserted, lowest_of}
 use Rattle.causal.specs.declared.set.Lowest.TheVariants.{At, Empty}
 use Rattle.store.specs.declared.reveal.Revealed.{Revealed}
 
@@ -10,7 +10,7 @@ use Rattle.store.specs.declared.reveal.Revealed.{Revealed}
 unfoldable pub steps : ℕ → (ℕ → List ℕ) → List ℕ → List ℕ → ℕ → Revealed
 steps zero D p v c = record { visible = v; steps = c }
 steps (suc f) D p v c =
-    elim (lowestOf (minus p v)) [
+    elim (lowest_of (minus p v)) [
       | At k ↦ steps f D (unite p (D k)) (inserted v k) (c + 1)
       | Empty ↦ record { visible = v; steps = c }
     ]

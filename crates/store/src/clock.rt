@@ -1,16 +1,16 @@
 // The office's clock.
 ghost use Rattle.std.specs.Prelude.{◌≡◌, ◌<◌, true, length};
-ghost use Rattle.store.specs.Offices.{officeOf, soundStore, made as made_of, clockOf};
+ghost use Rattle.store.specs.Offices.{office_of, sound_store, made as made_of, clock_of};
 ghost use Rattle.store.specs.Slots.{Laid};
 ghost use Rattle.store.specs.Current.{WordReaches};
-ghost use Rattle.store.specs.Tops.{topsIn};
+ghost use Rattle.store.specs.Tops.{tops_in};
 
 use crate::layout;
 
 // How many entries the office made.
 pub fn made(store: &[u32]) -> u32
     requires { Laid store.now }
-    ensures { result ≡ made_of (officeOf store.now) }
+    ensures { result ≡ made_of (office_of store.now) }
 {
     let own = store[1] as usize;
     u32::count_ones(store[3 + own])
@@ -19,7 +19,7 @@ pub fn made(store: &[u32]) -> u32
 // w is word i of a set: the join of the clocks of its ids and of the clock before.
 fn tops_in(store: &[u32], i: usize, w: u32, before: [u32; 8]) -> [u32; 8]
     requires { (i < 8) × WordReaches (length store.now) i w }
-    ensures { result ≡ topsIn store.now i w 32 before }
+    ensures { result ≡ tops_in store.now i w 32 before }
 {
     let mut tops = before;
     let mut rest = w;
@@ -35,8 +35,8 @@ fn tops_in(store: &[u32], i: usize, w: u32, before: [u32; 8]) -> [u32; 8]
 
 // At its own place how many entries it made, elsewhere the greatest number among visible entries.
 pub fn office_clock(store: &[u32]) -> [u32; 8]
-    requires { soundStore store.now ≡ true }
-    ensures { result ≡ clockOf (officeOf store.now) }
+    requires { sound_store store.now ≡ true }
+    ensures { result ≡ clock_of (office_of store.now) }
 {
     let visible = layout::set_at(store, 11);
     let n = store[0] as usize;

@@ -1,10 +1,10 @@
 // The current entry on a plot: of the visible ones the one that no other outranks.
 ghost use Rattle.std.specs.Prelude.{◌≡◌, ◌+◌, ◌<◌, ◌≤◌, true, length};
 ghost use Rattle.causal.specs.Lists.{part};
-ghost use Rattle.causal.specs.Sets.{subsetOf};
+ghost use Rattle.causal.specs.Sets.{subset_of};
 ghost use Rattle.frame.specs.Entries.{outranks};
-ghost use Rattle.store.specs.Offices.{slot_at, entry_at, soundStore};
-ghost use Rattle.store.specs.Current.{WordReaches, InSlots, weighed, place_in, currentAt};
+ghost use Rattle.store.specs.Offices.{slot_at, entry_at, sound_store};
+ghost use Rattle.store.specs.Current.{WordReaches, InSlots, weighed, place_in, current_at};
 
 use crate::layout;
 
@@ -60,8 +60,8 @@ fn best_in(store: &[u32], plot: u32, i: usize, w: u32, before: Place) -> Place
 
 // The id of the current entry where the visible set is the one given.
 pub fn current(store: &[u32], visible: [u32; 8], plot: u32) -> Place
-    requires { (soundStore store.now ≡ true) × (subsetOf visible (part store.now 3 8) ≡ true) }
-    ensures { result ≡ currentAt store.now visible plot }
+    requires { (sound_store store.now ≡ true) × (subset_of visible (part store.now 3 8) ≡ true) }
+    ensures { result ≡ current_at store.now visible plot }
 {
     let n = store[0] as usize;
     let mut best = Place::Nowhere;

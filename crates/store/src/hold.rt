@@ -2,8 +2,8 @@
 ghost use Rattle.std.specs.Prelude.{◌≡◌, ◌+◌, ◌≤◌, length};
 ghost use Rattle.std.proofs.lemmas.List.Edits.{sets};
 ghost use Rattle.frame.specs.Entries.{id_of};
-ghost use Rattle.store.specs.Offices.{slot_at, entryWords};
-ghost use Rattle.store.specs.Slots.{holdWords};
+ghost use Rattle.store.specs.Offices.{slot_at, entry_words};
+ghost use Rattle.store.specs.Slots.{hold_words};
 
 use crate::layout;
 use frame::entry::Entry;
@@ -11,8 +11,8 @@ use frame::entry::Entry;
 // The words of an entry, from `at` on.
 fn put_entry(store: &mut [u32], at: usize, e: Entry)
     requires { at + 18 ≤ length store.old }
-    ensures store_after { store.new ≡ sets store.old at (entryWords e) }
-    ensures e_len { length (entryWords e) ≡ 18 }
+    ensures store_after { store.new ≡ sets store.old at (entry_words e) }
+    ensures e_len { length (entry_words e) ≡ 18 }
 {
     let clock = e.clock;
     let deps = e.deps;
@@ -25,7 +25,7 @@ fn put_entry(store: &mut [u32], at: usize, e: Entry)
 // One more held entry. Nothing else changes.
 pub fn hold(store: &mut [u32], e: Entry)
     requires { slot_at (id_of e) + 18 ≤ length store.old }
-    ensures { store.new ≡ holdWords store.old e }
+    ensures { store.new ≡ hold_words store.old e }
 {
     let k = frame::entry::id_of(e);
     let held = layout::set_at(&store[..], 3);

@@ -3,13 +3,13 @@
 ghost use Rattle.std.specs.Prelude.{◌≡◌, ◌+◌, ◌<◌, ◌≤◌, length};
 ghost use Rattle.std.proofs.lemmas.List.Edits.{sets};
 ghost use Rattle.causal.specs.Lists.{part};
-ghost use Rattle.store.specs.Offices.{need, slot_at, entry_at, settingsOk};
+ghost use Rattle.store.specs.Offices.{need, slot_at, entry_at, settings_ok};
 
 use frame::entry::Entry;
 
 // Offices 2 to 8, plots 1 to 64, the own office one of the ring.
 pub fn settings_ok(offices: u32, own: u32, plots: u32) -> bool
-    ensures { result ≡ settingsOk offices own plots }
+    ensures { result ≡ settings_ok offices own plots }
 {
     if !frame::entry::ring_ok(offices, plots) {
         return false;

@@ -2,9 +2,9 @@
 ghost use Rattle.std.specs.Prelude.{◌≡◌, ◌≤◌, true, length, slice_index};
 ghost use Rattle.std.proofs.lemmas.List.Edits.{sets};
 ghost use Rattle.causal.specs.Lists.{part};
-ghost use Rattle.causal.specs.Sets.{subsetOf};
+ghost use Rattle.causal.specs.Sets.{subset_of};
 ghost use Rattle.store.specs.Reveal.{revealed};
-ghost use Rattle.store.specs.Offices.{officeOf, soundStore};
+ghost use Rattle.store.specs.Offices.{office_of, sound_store};
 
 use crate::layout;
 
@@ -16,8 +16,8 @@ pub struct Revealed {
 
 // Step by step: each reveals the lowest pending id that is not visible.
 fn reveal_on(store: &[u32], seeds: [u32; 8]) -> Revealed
-    requires { (soundStore store.now ≡ true) × (subsetOf seeds (part store.now 3 8) ≡ true) }
-    ensures { result ≡ revealed (λ k. ((officeOf store.now).entry k).deps) (slice_index store.now 0) (part store.now 11 8) seeds }
+    requires { (sound_store store.now ≡ true) × (subset_of seeds (part store.now 3 8) ≡ true) }
+    ensures { result ≡ revealed (λ k. ((office_of store.now).entry k).deps) (slice_index store.now 0) (part store.now 11 8) seeds }
 {
     let mut visible = layout::set_at(store, 11);
     let mut pending = seeds;
@@ -39,8 +39,8 @@ fn reveal_on(store: &[u32], seeds: [u32; 8]) -> Revealed
 
 // The visible set once all seeds are revealed, and how many ids it has more. Most often that is none, and no step is taken.
 pub fn revealed_by(store: &[u32], seeds: [u32; 8]) -> Revealed
-    requires { (soundStore store.now ≡ true) × (subsetOf seeds (part store.now 3 8) ≡ true) }
-    ensures { result ≡ revealed (λ k. ((officeOf store.now).entry k).deps) (slice_index store.now 0) (part store.now 11 8) seeds }
+    requires { (sound_store store.now ≡ true) × (subset_of seeds (part store.now 3 8) ≡ true) }
+    ensures { result ≡ revealed (λ k. ((office_of store.now).entry k).deps) (slice_index store.now 0) (part store.now 11 8) seeds }
 {
     let visible = layout::set_at(store, 11);
     if causal::set::subset(seeds, visible) {

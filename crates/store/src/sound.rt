@@ -1,17 +1,17 @@
 // Is a store sound? Asked at every call: only held slots are looked at, their words where they stand.
 ghost use Rattle.std.specs.Prelude.{◌≡◌, ◌+◌, ◌*◌, ◌<◌, ◌≤◌, true, length};
 ghost use Rattle.causal.specs.Tests.{all_below};
-ghost use Rattle.causal.specs.Sets.{subsetOf};
-ghost use Rattle.frame.specs.Entries.{clockOk, underOk};
-ghost use Rattle.store.specs.Offices.{need, slot_at, officeOf, soundOffice, soundStore};
-ghost use Rattle.store.specs.Slots.{Laid, noGap, slotOk};
-ghost use Rattle.store.specs.Deps.{Looks, LooksAll, idsFine, loneOk};
+ghost use Rattle.causal.specs.Sets.{subset_of};
+ghost use Rattle.frame.specs.Entries.{clock_ok, under_ok};
+ghost use Rattle.store.specs.Offices.{need, slot_at, office_of, sound_office, sound_store};
+ghost use Rattle.store.specs.Slots.{Laid, no_gap, slot_ok};
+ghost use Rattle.store.specs.Deps.{Looks, LooksAll, ids_fine, lone_ok};
 
 use crate::layout;
 
 // Are the bits of w that are set the lowest ones?
-fn no_gap(w: u32) -> bool
-    ensures { result ≡ noGap w }
+fn no_gap_lem(w: u32) -> bool
+    ensures { result ≡ no_gap w }
 {
     w & std::num::wrapping_add_u32(w, 1) == 0
 }
@@ -19,7 +19,7 @@ fn no_gap(w: u32) -> bool
 // The rules that single words of a slot say: the slot of serial b + 1 of office i.
 fn slot_ok(store: &[u32], p: u32, i: usize, b: u32) -> bool
     requires { (slot_at (32 * i + b) + 18 ≤ length store.now) × (i < 8) × (b < 32) }
-    ensures { result ≡ loneOk store.now p i b }
+    ensures { result ≡ lone_ok store.now p i b }
 {
     let at = 19 + 18 * (32 * i + b as usize);
     if store[at] >= p {
@@ -46,7 +46,7 @@ struct Looked {
 // Of the ids that word i of a set has, w, and those before; no clock may be over `most`.
 fn look(store: &[u32], most: [u32; 8], p: u32, i: usize, w: u32, before: Looked) -> Looked
     requires { (need i + 576 ≤ length store.now) × (i < 8) }
-    ensures { Looks store.now (underOk most) p i w before.bad before.deps result }
+    ensures { Looks store.now (under_ok most) p i w before.bad before.deps result }
 {
     let mut bad = before.bad;
     let mut deps = before.deps;
@@ -78,7 +78,7 @@ fn look(store: &[u32], most: [u32; 8], p: u32, i: usize, w: u32, before: Looked)
 // Of all ids of a set that are of the ring.
 fn look_all(store: &[u32], n: usize, p: u32, ids: [u32; 8]) -> Looked
     requires { (need n ≤ length store.now) × (n ≤ 8) }
-    ensures { LooksAll store.now (clockOk n) n p ids result }
+    ensures { LooksAll store.now (clock_ok n) n p ids result }
 {
     let most = frame::entry::mosts(n);
     let none = [0u32; 8];
@@ -100,7 +100,7 @@ fn look_all(store: &[u32], n: usize, p: u32, ids: [u32; 8]) -> Looked
 // Do the slots of a set of ids keep the rules, with their deps in another set?
 fn ids_fine(store: &[u32], n: usize, p: u32, ids: [u32; 8], all: [u32; 8]) -> bool
     requires { (need n ≤ length store.now) × (n ≤ 8) }
-    ensures { result ≡ idsFine store.now n p ids all }
+    ensures { result ≡ ids_fine store.now n p ids all }
 {
     let looked = look_all(store, n, p, ids);
     if !looked.ok {
@@ -117,8 +117,8 @@ fn ids_fine(store: &[u32], n: usize, p: u32, ids: [u32; 8], all: [u32; 8]) -> bo
 // All held slots: ids of the ring, the rules of each, deps of visible ones visible, deps of hidden ones held. So deps of visible ones are
 // held too, and deps are ids of the ring.
 fn slots_ok(store: &[u32], n: u32, p: u32, held: [u32; 8], visible: [u32; 8]) -> bool
-    requires { (need n ≤ length store.now) × (n ≤ 8) × (subsetOf visible held ≡ true) }
-    ensures { result ≡ all_below 256 (slotOk store.now n p held visible) }
+    requires { (need n ≤ length store.now) × (n ≤ 8) × (subset_of visible held ≡ true) }
+    ensures { result ≡ all_below 256 (slot_ok store.now n p held visible) }
 {
     let ring = n as usize;
     if !frame::entry::ids_ok(ring, held) {
@@ -134,7 +134,7 @@ fn slots_ok(store: &[u32], n: u32, p: u32, held: [u32; 8], visible: [u32; 8]) ->
 // What is visible is held, the held slots keep the rules, and the own serials have no gap. Nothing held, nothing to ask.
 fn content_ok(store: &[u32]) -> bool
     requires { Laid store.now }
-    ensures { result ≡ soundOffice (officeOf store.now) }
+    ensures { result ≡ sound_office (office_of store.now) }
 {
     let held = layout::set_at(store, 3);
     let visible = layout::set_at(store, 11);
@@ -148,12 +148,12 @@ fn content_ok(store: &[u32]) -> bool
         return false;
     }
     let own = store[1] as usize;
-    no_gap(held[own])
+    no_gap_lem(held[own])
 }
 
 // Long enough, settings in range, and the content sound.
 pub fn is_sound(store: &[u32]) -> bool
-    ensures { result ≡ soundStore store.now }
+    ensures { result ≡ sound_store store.now }
 {
     if store.len() < 19 {
         return false;

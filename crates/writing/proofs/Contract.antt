@@ -9,7 +9,7 @@ use types.Logic.{Logic}
 use seplogic.Ra.Ura.{Ura}
 use prog.Memory.{Memory}
 use prog.Routine.{Routine}
-use Rattle.frame.specs.Refusals.{replyOf}
+use Rattle.frame.specs.Refusals.{reply_of}
 use Rattle.frame.specs.declared.entry.Entry.{Entry}
 use Rattle.frame.specs.declared.session.Session.{Session}
 use Rattle.frame.proofs.Contract.{Row, Two}
@@ -23,32 +23,32 @@ use Rattle.writing.proofs.write.write as write
 
 module _ {M : Type 1} {𝓤 : Ura M} (𝓛 : Logic 𝓤) (mem : Memory → SProp 𝓤) (run : Routine → Fun 𝓤) where
   pub record WritingContracts : Type 2 where
-    pub write-met : write.Statement.statement M
-    pub write-is : (κs : Two) (ws : Row) (s : Session) (plot value : ℕ) (row : Row) (r : Wrote) (ws' row' : Row)
+    pub write_met : write.Statement.statement M
+    pub write_is : (κs : Two) (ws : Row) (s : Session) (plot value : ℕ) (row : Row) (r : Wrote) (ws' row' : Row)
         → (write.clauses 𝓛 mem run κs (ws, (s, (plot, (value, (row, tt)))))).ensures tt r (ws', (s, (plot, (value, (row', tt)))))
-        ≡ fact 𝓤 (WritePromise ws.now s plot value row.now (replyOf r.written) r.session ws'.now row'.now)
-    pub write-asks : (κs : Two) (ws : Row) (s : Session) (plot value : ℕ) (row : Row) → (write.clauses 𝓛 mem run κs (ws, (s, (plot, (value, (row, tt)))))).requires tt ≡ emp 𝓤
-    pub make-met : make.Statement.statement M
-    pub make-is : (κs : Two) (ws : Row) (s : Session) (plot value : ℕ) (row : Row) (r : Made) (ws' row' : Row)
+        ≡ fact 𝓤 (WritePromise ws.now s plot value row.now (reply_of r.written) r.session ws'.now row'.now)
+    pub write_asks : (κs : Two) (ws : Row) (s : Session) (plot value : ℕ) (row : Row) → (write.clauses 𝓛 mem run κs (ws, (s, (plot, (value, (row, tt)))))).requires tt ≡ emp 𝓤
+    pub make_met : make.Statement.statement M
+    pub make_is : (κs : Two) (ws : Row) (s : Session) (plot value : ℕ) (row : Row) (r : Made) (ws' row' : Row)
         → (make.clauses 𝓛 mem run κs (ws, (s, (plot, (value, (row, tt)))))).ensures tt r (ws', (s, (plot, (value, (row', tt)))))
         ≡ fact 𝓤 (MakePromise ws.now s plot value row.now r.written r.entry ws'.now row'.now)
-    pub make-asks : (κs : Two) (ws : Row) (s : Session) (plot value : ℕ) (row : Row) → (make.clauses 𝓛 mem run κs (ws, (s, (plot, (value, (row, tt)))))).requires tt ≡ emp 𝓤
-    pub make-alone-met : make-alone.Statement.statement M
-    pub make-alone-is : (κs : Two) (ws : Row) (n : ℕ) (clock read : List ℕ) (plot value : ℕ) (row : Row) (r : Made) (ws' row' : Row)
+    pub make_asks : (κs : Two) (ws : Row) (s : Session) (plot value : ℕ) (row : Row) → (make.clauses 𝓛 mem run κs (ws, (s, (plot, (value, (row, tt)))))).requires tt ≡ emp 𝓤
+    pub make_alone_met : make-alone.Statement.statement M
+    pub make_alone_is : (κs : Two) (ws : Row) (n : ℕ) (clock read : List ℕ) (plot value : ℕ) (row : Row) (r : Made) (ws' row' : Row)
         → (make-alone.clauses 𝓛 mem run κs (ws, (n, (clock, (read, (plot, (value, (row, tt)))))))).ensures tt r (ws', (n, (clock, (read, (plot, (value, (row', tt)))))))
         ≡ fact 𝓤 ((own : List Entry) → MakePromise ws.now (alone n clock read own) plot value row.now r.written r.entry ws'.now row'.now)
-    pub make-alone-asks : (κs : Two) (ws : Row) (n : ℕ) (clock read : List ℕ) (plot value : ℕ) (row : Row) → (make-alone.clauses 𝓛 mem run κs (ws, (n, (clock, (read, (plot, (value, (row, tt)))))))).requires tt ≡ emp 𝓤
+    pub make_alone_asks : (κs : Two) (ws : Row) (n : ℕ) (clock read : List ℕ) (plot value : ℕ) (row : Row) → (make-alone.clauses 𝓛 mem run κs (ws, (n, (clock, (read, (plot, (value, (row, tt)))))))).requires tt ≡ emp 𝓤
 
-  pub writing-contracts : WritingContracts
-  writing-contracts =
+  pub writing_contracts : WritingContracts
+  writing_contracts =
       record {
-        write-met = write.Met.met;
-        write-is = λ κs ws s plot value row r ws' row'. refl;
-        write-asks = λ κs ws s plot value row. refl;
-        make-met = make.Met.met;
-        make-is = λ κs ws s plot value row r ws' row'. refl;
-        make-asks = λ κs ws s plot value row. refl;
-        make-alone-met = make-alone.Met.met;
-        make-alone-is = λ κs ws n clock read plot value row r ws' row'. refl;
-        make-alone-asks = λ κs ws n clock read plot value row. refl;
+        write_met = write.Met.met;
+        write_is = λ κs ws s plot value row r ws' row'. refl;
+        write_asks = λ κs ws s plot value row. refl;
+        make_met = make.Met.met;
+        make_is = λ κs ws s plot value row r ws' row'. refl;
+        make_asks = λ κs ws s plot value row. refl;
+        make_alone_met = make-alone.Met.met;
+        make_alone_is = λ κs ws n clock read plot value row r ws' row'. refl;
+        make_alone_asks = λ κs ws n clock read plot value row. refl;
       }

@@ -1,12 +1,12 @@
 // The frames of a write: of the own writes that are not held, in order, then of the new entry.
 ghost use Rattle.std.specs.Prelude.{◌≡◌, true, ◌+◌, ◌-◌, ◌≤◌, length};
 ghost use Rattle.std.proofs.lemmas.List.Edits.{sets};
-ghost use Rattle.causal.specs.Sets.{isIn};
+ghost use Rattle.causal.specs.Sets.{is_in};
 ghost use Rattle.frame.specs.Entries.{id_of};
-ghost use Rattle.frame.specs.Frames.{frameOk, frameWords};
+ghost use Rattle.frame.specs.Frames.{frame_ok, frame_words};
 ghost use Rattle.frame.specs.Calls.{laid};
-ghost use Rattle.office.specs.Steps.{ownTo};
-ghost use Rattle.writing.specs.Writes.{started as startedOf, frameIf, framesIn, allFrames, AllHeld, Framed};
+ghost use Rattle.office.specs.Steps.{own_to};
+ghost use Rattle.writing.specs.Writes.{started as startedOf, frame_if, frames_in, all_frames, AllHeld, Framed};
 
 use frame::entry::{Entry, Frame};
 use frame::session::Session;
@@ -28,7 +28,7 @@ fn started(n: u32, e: Entry) -> Frame
 
 fn turn_words(held: [u32; 8], n: u32, e: Entry) -> usize
     requires { (2 ≤ n) × (n ≤ 8) }
-    ensures { result ≡ length (frameIf (isIn held (id_of e)) n e) }
+    ensures { result ≡ length (frame_if (is_in held (id_of e)) n e) }
 {
     let k = frame::entry::id_of(e);
     if causal::set::contains(held, k) {
@@ -39,7 +39,7 @@ fn turn_words(held: [u32; 8], n: u32, e: Entry) -> usize
 
 fn own_words(held: [u32; 8], n: u32, own: [Entry; 16], count: usize) -> usize
     requires { (count ≤ 16) × (2 ≤ n) × (n ≤ 8) }
-    ensures { result ≡ length (framesIn held n (ownTo own count)) }
+    ensures { result ≡ length (frames_in held n (own_to own count)) }
 {
     let mut words: usize = 0;
     for i in 0..count {
@@ -52,7 +52,7 @@ fn own_words(held: [u32; 8], n: u32, own: [Entry; 16], count: usize) -> usize
 // Here and in put_all: own writes are not looked at where none of them is new.
 pub fn all_words(none: bool, held: [u32; 8], n: u32, s: Session, e: Entry) -> usize
     requires { (s.count ≤ 16) × (2 ≤ n) × (n ≤ 8) × AllHeld none held s.own s.count }
-    ensures { result ≡ length (allFrames held n (ownTo s.own s.count) e) }
+    ensures { result ≡ length (all_frames held n (own_to s.own s.count) e) }
 {
     let last = frame::writer::words_of(started(n, e));
     if none {
@@ -65,7 +65,7 @@ pub fn all_words(none: bool, held: [u32; 8], n: u32, s: Session, e: Entry) -> us
 // The words of the new entry's frame alone.
 pub fn words_alone(n: u32, e: Entry) -> usize
     requires { (2 ≤ n) × (n ≤ 8) }
-    ensures { result ≡ length (frameWords (startedOf n e)) }
+    ensures { result ≡ length (frame_words (startedOf n e)) }
 {
     frame::writer::words_of(started(n, e))
 }
@@ -73,8 +73,8 @@ pub fn words_alone(n: u32, e: Entry) -> usize
 // ---- the words
 
 fn put_turn(held: [u32; 8], n: u32, e: Entry, out: &mut [u32], at: usize) -> usize
-    requires { (frameOk n 64 (startedOf n e) ≡ true) × (at + length (frameIf (isIn held (id_of e)) n e) ≤ length out.old) }
-    ensures { (result ≡ at + length (frameIf (isIn held (id_of e)) n e)) × (out.new ≡ sets out.old at (frameIf (isIn held (id_of e)) n e)) }
+    requires { (frame_ok n 64 (startedOf n e) ≡ true) × (at + length (frame_if (is_in held (id_of e)) n e) ≤ length out.old) }
+    ensures { (result ≡ at + length (frame_if (is_in held (id_of e)) n e)) × (out.new ≡ sets out.old at (frame_if (is_in held (id_of e)) n e)) }
 {
     let k = frame::entry::id_of(e);
     if causal::set::contains(held, k) {
@@ -84,8 +84,8 @@ fn put_turn(held: [u32; 8], n: u32, e: Entry, out: &mut [u32], at: usize) -> usi
 }
 
 fn put_own(held: [u32; 8], n: u32, own: [Entry; 16], count: usize, out: &mut [u32]) -> usize
-    requires { (count ≤ 16) × Framed n own count × (length (framesIn held n (ownTo own count)) ≤ length out.old) }
-    ensures { (result ≡ length (framesIn held n (ownTo own count))) × (out.new ≡ sets out.old 0 (framesIn held n (ownTo own count))) }
+    requires { (count ≤ 16) × Framed n own count × (length (frames_in held n (own_to own count)) ≤ length out.old) }
+    ensures { (result ≡ length (frames_in held n (own_to own count))) × (out.new ≡ sets out.old 0 (frames_in held n (own_to own count))) }
 {
     let mut at: usize = 0;
     for i in 0..count {
@@ -97,8 +97,8 @@ fn put_own(held: [u32; 8], n: u32, own: [Entry; 16], count: usize, out: &mut [u3
 
 // Each next frame right behind the one before; gives the number of words.
 pub fn put_all(none: bool, held: [u32; 8], n: u32, s: Session, e: Entry, out: &mut [u32]) -> usize
-    requires { (s.count ≤ 16) × Framed n s.own s.count × AllHeld none held s.own s.count × (frameOk n 64 (startedOf n e) ≡ true) × (length (allFrames held n (ownTo s.own s.count) e) ≤ length out.old) }
-    ensures { (result ≡ length (allFrames held n (ownTo s.own s.count) e)) × (out.new ≡ laid (allFrames held n (ownTo s.own s.count) e) out.old) }
+    requires { (s.count ≤ 16) × Framed n s.own s.count × AllHeld none held s.own s.count × (frame_ok n 64 (startedOf n e) ≡ true) × (length (all_frames held n (own_to s.own s.count) e) ≤ length out.old) }
+    ensures { (result ≡ length (all_frames held n (own_to s.own s.count) e)) × (out.new ≡ laid (all_frames held n (own_to s.own s.count) e) out.old) }
 {
     let last = started(n, e);
     if none {
@@ -111,8 +111,8 @@ pub fn put_all(none: bool, held: [u32; 8], n: u32, s: Session, e: Entry, out: &m
 
 // The new entry's frame alone.
 pub fn put_alone(n: u32, e: Entry, out: &mut [u32]) -> usize
-    requires { (frameOk n 64 (startedOf n e) ≡ true) × (length (frameWords (startedOf n e)) ≤ length out.old) }
-    ensures { (result ≡ length (frameWords (startedOf n e))) × (out.new ≡ laid (frameWords (startedOf n e)) out.old) }
+    requires { (frame_ok n 64 (startedOf n e) ≡ true) × (length (frame_words (startedOf n e)) ≤ length out.old) }
+    ensures { (result ≡ length (frame_words (startedOf n e))) × (out.new ≡ laid (frame_words (startedOf n e)) out.old) }
 {
     put_frame(started(n, e), &mut *out, 0)
 }

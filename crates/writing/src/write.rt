@@ -2,17 +2,17 @@
 ghost use Rattle.std.specs.Prelude.{◌≡◌, true, List, ◌+◌, ◌<◌, ◌≤◌, length, get_or};
 ghost use Rattle.causal.specs.Lists.{part};
 ghost use Rattle.causal.specs.Codes.{check};
-ghost use Rattle.frame.specs.Entries.{blankEntry, id_of};
-ghost use Rattle.frame.specs.Sessions.{Content, contentOf, ids_of};
-ghost use Rattle.store.specs.Offices.{slot_at, officeOf, soundStore};
-ghost use Rattle.store.specs.Slots.{Laid, holdWords};
-ghost use Rattle.office.specs.Calls.{newEntry};
+ghost use Rattle.frame.specs.Entries.{blank_entry, id_of};
+ghost use Rattle.frame.specs.Sessions.{Content, content_of, ids_of};
+ghost use Rattle.store.specs.Offices.{slot_at, office_of, sound_store};
+ghost use Rattle.store.specs.Slots.{Laid, hold_words};
+ghost use Rattle.office.specs.Calls.{new_entry};
 ghost use Rattle.office.specs.Answers.{extended_by};
-ghost use Rattle.office.specs.Steps.{ownTo, holdsIn, Slots};
-ghost use Rattle.writing.specs.Writes.{firstCodes, secondCodes, earlyCode, AllHeld};
+ghost use Rattle.office.specs.Steps.{own_to, holds_in, Slots};
+ghost use Rattle.writing.specs.Writes.{first_codes, second_codes, early_code, AllHeld};
 ghost use Rattle.office.specs.Decide.{alone, bare};
 ghost use Rattle.office.specs.Promises.{MakePromise, WritePromise};
-ghost use Rattle.frame.specs.Refusals.{replyOf};
+ghost use Rattle.frame.specs.Refusals.{reply_of};
 ghost use Rattle.frame.specs.declared.refusal.Written.TheVariants.{NotWritten};
 
 use frame::entry::Entry;
@@ -33,7 +33,7 @@ pub struct Made {
 }
 
 fn not_made(refusal: Refusal) -> Made
-    ensures { (result.written ≡ NotWritten refusal) × (result.entry ≡ blankEntry) }
+    ensures { (result.written ≡ NotWritten refusal) × (result.entry ≡ blank_entry) }
 {
     let entry = frame::entry::blank_entry();
     Made {
@@ -46,7 +46,7 @@ fn not_made(refusal: Refusal) -> Made
 
 // 2: store unsound; 3: session unsound for it; 4: plot out of range; 5: value too great.
 fn first_codes(store: &[u32], s: Session, plot: u32, value: u32) -> u32
-    ensures { result ≡ check (soundStore store.now) 2 (firstCodes (get_or store.now 0 0) (get_or store.now 2 0) (contentOf s) plot value) }
+    ensures { result ≡ check (sound_store store.now) 2 (first_codes (get_or store.now 0 0) (get_or store.now 2 0) (content_of s) plot value) }
 {
     let clock = s.clock;
     let read = s.read;
@@ -68,7 +68,7 @@ fn first_codes(store: &[u32], s: Session, plot: u32, value: u32) -> u32
 // 7: the session carries 16; 6: the office has made 32; 12: a read id is not held.
 fn second_codes(store: &[u32], held: [u32; 8], count: usize, read: [u32; 8]) -> u32
     requires { Laid store.now × (held ≡ part store.now 3 8) }
-    ensures { result ≡ secondCodes (officeOf store.now) count read }
+    ensures { result ≡ second_codes (office_of store.now) count read }
 {
     if count >= 16 {
         return 7;
@@ -83,7 +83,7 @@ fn second_codes(store: &[u32], held: [u32; 8], count: usize, read: [u32; 8]) -> 
 }
 
 pub fn early_code(store: &[u32], s: Session, plot: u32, value: u32) -> u32
-    ensures { result ≡ check (soundStore store.now) 2 (earlyCode (officeOf store.now) (contentOf s) plot value) }
+    ensures { result ≡ check (sound_store store.now) 2 (early_code (office_of store.now) (content_of s) plot value) }
 {
     let first = first_codes(store, s, plot, value);
     if first != 0 {
@@ -114,8 +114,8 @@ fn entry_by(
     plot: u32,
     value: u32,
 ) -> Entry
-    requires { soundStore store.now ≡ true }
-    ensures { (s : Content) → s.clock ≡ known → s.read ≡ read → ids_of s.own ≡ own → result ≡ newEntry (officeOf store.now) s plot value }
+    requires { sound_store store.now ≡ true }
+    ensures { (s : Content) → s.clock ≡ known → s.read ≡ read → ids_of s.own ≡ own → result ≡ new_entry (office_of store.now) s plot value }
 {
     let office = store[1];
     let serial = store::clock::made(store) + 1;
@@ -137,7 +137,7 @@ fn entry_by(
 // The own writes that are not held, then the new entry.
 fn hold_all(store: &mut [u32], none: bool, held: [u32; 8], s: Session, e: Entry)
     requires { (s.count ≤ 16) × Slots s.own s.count (length store.old) × AllHeld none held s.own s.count × (slot_at (id_of e) + 18 ≤ length store.old) }
-    ensures { store.new ≡ holdWords (holdsIn held store.old (ownTo s.own s.count)) e }
+    ensures { store.new ≡ hold_words (holds_in held store.old (own_to s.own s.count)) e }
 {
     if none {
         store::hold::hold(&mut *store, e);
@@ -200,7 +200,7 @@ fn alone_first(
     plot: u32,
     value: u32,
 ) -> u32
-    ensures { result ≡ check (soundStore store.now) 2 (firstCodes (get_or store.now 0 0) (get_or store.now 2 0) (bare offices clock read) plot value) }
+    ensures { result ≡ check (sound_store store.now) 2 (first_codes (get_or store.now 0 0) (get_or store.now 2 0) (bare offices clock read) plot value) }
 {
     let sound = store::sound::is_sound(store);
     let start = office::code::alone_code(store, sound, offices, clock, read);
@@ -224,7 +224,7 @@ fn alone_early(
     plot: u32,
     value: u32,
 ) -> u32
-    ensures { result ≡ check (soundStore store.now) 2 (earlyCode (officeOf store.now) (bare offices clock read) plot value) }
+    ensures { result ≡ check (sound_store store.now) 2 (early_code (office_of store.now) (bare offices clock read) plot value) }
 {
     let first = alone_first(store, offices, clock, read, plot, value);
     if first != 0 {
@@ -265,7 +265,7 @@ pub fn make_alone(
 
 // 01: write.
 pub fn write(store: &mut [u32], s: Session, plot: u32, value: u32, out: &mut [u32]) -> Wrote
-    ensures { WritePromise store.old s plot value out.old (replyOf result.written) result.session store.new out.new }
+    ensures { WritePromise store.old s plot value out.old (reply_of result.written) result.session store.new out.new }
 {
     let clock = s.clock;
     let read = s.read;

@@ -2,21 +2,21 @@ use native.Mathlib.Omega.{arith}
 use mathlib.Core.Path.{◌≡◌, refl, sym, ◌∙◌}
 use Prim.Native.Nat.{◌≤◌, ◌-◌}
 use lib.ListN.{drop}
-use Rattle.causal.specs.Rank.{higher, rank_of, ranksAbove}
-use Rattle.causal.proofs.Ranks.{rank_same, rank-differs, rank-end}
-use Rattle.causal.proofs.Array.{id-set}
+use Rattle.causal.specs.Rank.{higher, rank_of, ranks_above}
+use Rattle.causal.proofs.Ranks.{rank_same, rank_differs, rank_end}
+use Rattle.causal.proofs.Array.{id_set}
 use borrow.Author.Rules.{rules}
 use Rattle.causal.proofs.rank.outranks.Statement.{statement}
 use Rattle.causal.proofs.rank.outranks.Tie as tie
 
 abbrev invariant-loop : tie.invariant-loop
-invariant-loop o p c d j₀ j = (j ≤ 8) × (ranksAbove c o d p ≡ higher (rank_of (drop j c) o) (rank_of (drop j d) p))
+invariant-loop o p c d j₀ j = (j ≤ 8) × (ranks_above c o d p ≡ higher (rank_of (drop j c) o) (rank_of (drop j d) p))
 
 abbrev decreases-loop : tie.decreases-loop
 decreases-loop o p c d j₀ j = 8 - j
 
 loop-holds : tie.Need-loop-init invariant-loop decreases-loop
-unfolding ranksAbove
+unfolding ranks_above
 loop-holds c = (omega arith, refl)
 
 mul-if1 : tie.Need-overflow-mul-if1 invariant-loop decreases-loop
@@ -46,9 +46,9 @@ array-read-result-2 c = search rules
 returns : tie.Need-returns invariant-loop decreases-loop
 returns x =
     let z = x.before.before.before in
-    let l = (id-set z.args.t1 z.well-formed.0).eight in
-    let m = (id-set z.args.t3 z.well-formed.1.1.0).eight in
-    rank-differs z.args.t1 z.args.t3 z.args.o z.args.p x.before.before.loop.j (omega arith) (omega arith) x.if1.true
+    let l = (id_set z.args.t1 z.well-formed.0).eight in
+    let m = (id_set z.args.t3 z.well-formed.1.1.0).eight in
+    rank_differs z.args.t1 z.args.t3 z.args.o z.args.p x.before.before.loop.j (omega arith) (omega arith) x.if1.true
     ∙ sym x.before.before.loop.invariant.1
 
 add-j : tie.Need-overflow-add-j invariant-loop decreases-loop
@@ -60,16 +60,16 @@ loop-less c = search rules
 loop-again : tie.Need-loop-preserved invariant-loop decreases-loop
 loop-again x =
     let z = x.before.before.before in
-    let l = (id-set z.args.t1 z.well-formed.0).eight in
-    let m = (id-set z.args.t3 z.well-formed.1.1.0).eight in
+    let l = (id_set z.args.t1 z.well-formed.0).eight in
+    let m = (id_set z.args.t3 z.well-formed.1.1.0).eight in
     (omega arith, x.before.before.loop.invariant.1 ∙ rank_same z.args.t1 z.args.t3 z.args.o z.args.p x.before.before.loop.j (omega arith) (omega arith) x.if1.false)
 
 returns-2 : tie.Need-returns-2 invariant-loop decreases-loop
 returns-2 x =
     let z = x.before.before in
-    let l = (id-set z.args.t1 z.well-formed.0).eight in
-    let m = (id-set z.args.t3 z.well-formed.1.1.0).eight in
-    rank-end z.args.t1 z.args.t3 z.args.o z.args.p x.before.loop.j (omega arith) (omega arith) ∙ sym x.before.loop.invariant.1
+    let l = (id_set z.args.t1 z.well-formed.0).eight in
+    let m = (id_set z.args.t3 z.well-formed.1.1.0).eight in
+    rank_end z.args.t1 z.args.t3 z.args.o z.args.p x.before.loop.j (omega arith) (omega arith) ∙ sym x.before.loop.invariant.1
 
 pub outranks-spec : {M : Type 1} → statement M
 outranks-spec =

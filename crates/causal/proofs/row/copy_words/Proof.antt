@@ -6,7 +6,7 @@ use native.Mathlib.Omega.{arith}
 use lib.ListN.{get_or, length, length-set}
 use lib.Seq.{sets}
 use Rattle.causal.specs.Lists.{part}
-use Rattle.causal.proofs.Lists.{copy-none, copy_more}
+use Rattle.causal.proofs.Lists.{copy_none, copy_more}
 use borrow.Author.Rules.{rules}
 use Rattle.causal.proofs.row.copy_words.Statement.{statement}
 use Rattle.causal.proofs.row.copy_words.Tie as tie
@@ -18,7 +18,7 @@ abbrev decreases-loop : tie.decreases-loop
 decreases-loop from a to₀ b n j₀ to j = n - j
 
 loop-holds : tie.Need-loop-init invariant-loop decreases-loop
-loop-holds c = (omega arith, refl, copy-none _ _ _ _)
+loop-holds c = (omega arith, refl, copy_none _ _ _ _)
 
 add-to : tie.Need-overflow-add-to invariant-loop decreases-loop
 add-to c = search rules

@@ -3,14 +3,14 @@ use mathlib.Core.Path.{sym}
 use Prim.Native.Nat.{◌%◌}
 use Rattle.causal.specs.Sets.{unite}
 use Rattle.causal.proofs.Bits.{one_shl}
-use Rattle.causal.proofs.Sets.{inserted-past, insert-eight}
-use Rattle.causal.proofs.Array.{id-set}
+use Rattle.causal.proofs.Sets.{inserted_past, insert_eight}
+use Rattle.causal.proofs.Array.{id_set}
 use borrow.Author.Rules.{rules}
 use Rattle.causal.proofs.set.insert.Statement.{statement}
 use Rattle.causal.proofs.set.insert.Tie as tie
 
 returns : tie.Need-returns
-returns c = sym (inserted-past c.before.args.t1 c.before.args.k (omega (arith, (id-set c.before.args.t1 c.before.well-formed.0).eight)))
+returns c = sym (inserted_past c.before.args.t1 c.before.args.k (omega (arith, (id_set c.before.args.t1 c.before.well-formed.0).eight)))
 
 cast-w : tie.Need-overflow-cast-w
 cast-w c = search rules
@@ -71,7 +71,7 @@ unfolding unite
 returns-2 c = let z = c.before.before.before.before.before.before.before.before.before in
     let s = z.args.t1 in
     let k = z.args.k in
-    insert-eight s k _ (id-set s z.well-formed.0).eight (omega arith) (one_shl (k % 32) (omega arith)) _ _ _ _ _ _ _ _
+    insert_eight s k _ (id_set s z.well-formed.0).eight (omega arith) (one_shl (k % 32) (omega arith)) _ _ _ _ _ _ _ _
     c.before.before.before.before.before.before.before.at-word.ensures c.before.before.before.before.before.before.at-word2.ensures c.before.before.before.before.before.at-word3.ensures c.before.before.before.before.at-word4.ensures c.before.before.before.at-word5.ensures c.before.before.at-word6.ensures c.before.at-word7.ensures c.at-word8.ensures
 
 pub insert-spec : {M : Type 1} → statement M

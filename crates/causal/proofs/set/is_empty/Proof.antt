@@ -1,4 +1,4 @@
-use Rattle.causal.proofs.Sets.{or-eight}
+use Rattle.causal.proofs.Sets.{or_eight}
 use borrow.Author.Rules.{rules}
 use Rattle.causal.proofs.set.is_empty.Statement.{statement}
 use Rattle.causal.proofs.set.is_empty.Tie as tie
@@ -28,7 +28,7 @@ array-read-result-8 : tie.Need-array-read-result-8
 array-read-result-8 c = search rules
 
 returns : tie.Need-returns
-returns c = or-eight _
+returns c = or_eight _
 
 pub is_empty_spec : {M : Type 1} → statement M
 is_empty_spec =

@@ -1,27 +1,27 @@
 use Rattle.std.proofs.Common.{arith}
 use Rattle.causal.proofs.Chain.{chain}
-use Rattle.frame.specs.Entries.{boundsOk}
+use Rattle.frame.specs.Entries.{bounds_ok}
 use Rattle.frame.proofs.entry.bounds_ok.Statement.{statement}
 use Rattle.frame.proofs.entry.bounds_ok.Tie as tie
 
 returns : tie.Need-returns
-unfolding boundsOk
+unfolding bounds_ok
 returns c = search (chain, arith) depth 9
 
 returns-2 : tie.Need-returns-2
-unfolding boundsOk
+unfolding bounds_ok
 returns-2 c = search (chain, arith) depth 9
 
 returns-3 : tie.Need-returns-3
-unfolding boundsOk
+unfolding bounds_ok
 returns-3 c = search (chain, arith) depth 9
 
 returns-4 : tie.Need-returns-4
-unfolding boundsOk
+unfolding bounds_ok
 returns-4 c = search (chain, arith) depth 9
 
 returns-5 : tie.Need-returns-5
-unfolding boundsOk
+unfolding bounds_ok
 returns-5 c = search (chain, arith) depth 9
 
 pub bounds-ok-spec : {M : Type 1} → statement M

@@ -1,6 +1,6 @@
 use Rattle.std.proofs.Common.{◌∙◌, rules}
-use Rattle.causal.proofs.Sets.{eight-tests}
-use Rattle.frame.specs.Entries.{idsOk, idsPlaceOk}
+use Rattle.causal.proofs.Sets.{eight_tests}
+use Rattle.frame.specs.Entries.{ids_ok, ids_place_ok}
 use Rattle.frame.proofs.entry.ids_ok.Statement.{statement}
 use Rattle.frame.proofs.entry.ids_ok.Tie as tie
 
@@ -56,10 +56,10 @@ is-empty-requires : tie.Need-is-empty-requires
 is-empty-requires c κs = search rules
 
 returns : tie.Need-returns
-unfolding idsOk idsPlaceOk
+unfolding ids_ok ids_place_ok
 returns c =
     c.is-empty.ensures
-    ∙ eight-tests (idsPlaceOk c.before.before.before.before.before.before.before.before.before.args.n c.before.before.before.before.before.before.before.before.before.args.t2) _ _ _ _ _ _ _ _ c.before.before.before.before.before.before.before.before.beyond.ensures c.before.before.before.before.before.before.before.beyond2.ensures c.before.before.before.before.before.before.beyond3.ensures c.before.before.before.before.before.beyond4.ensures c.before.before.before.before.beyond5.ensures c.before.before.before.beyond6.ensures c.before.before.beyond7.ensures c.before.beyond8.ensures
+    ∙ eight_tests (ids_place_ok c.before.before.before.before.before.before.before.before.before.args.n c.before.before.before.before.before.before.before.before.before.args.t2) _ _ _ _ _ _ _ _ c.before.before.before.before.before.before.before.before.beyond.ensures c.before.before.before.before.before.before.before.beyond2.ensures c.before.before.before.before.before.before.beyond3.ensures c.before.before.before.before.before.beyond4.ensures c.before.before.before.before.beyond5.ensures c.before.before.before.beyond6.ensures c.before.before.beyond7.ensures c.before.beyond8.ensures
 
 pub ids-ok-spec : {M : Type 1} → statement M
 ids-ok-spec =

@@ -1,6 +1,6 @@
 use Rattle.std.proofs.Common.{leb, get_or, rules}
-use Rattle.causal.proofs.Sets.{eight-tests}
-use Rattle.frame.specs.Entries.{underOk}
+use Rattle.causal.proofs.Sets.{eight_tests}
+use Rattle.frame.specs.Entries.{under_ok}
 use Rattle.frame.proofs.entry.overs.Statement.{statement}
 use Rattle.frame.proofs.entry.overs.Tie as tie
 
@@ -77,10 +77,10 @@ over-requires-8 : tie.Need-over-requires-8
 over-requires-8 c κs = search rules
 
 returns : tie.Need-returns
-unfolding underOk
+unfolding under_ok
 returns c =
     let z = c.before.before.before.before.before.before.before.before.args in
-    eight-tests (λ j. leb (get_or z.t2 j 0) (get_or z.t1 j 0)) _ _ _ _ _ _ _ _ c.before.before.before.before.before.before.before.over.ensures c.before.before.before.before.before.before.over2.ensures c.before.before.before.before.before.over3.ensures c.before.before.before.before.over4.ensures c.before.before.before.over5.ensures c.before.before.over6.ensures c.before.over7.ensures c.over8.ensures
+    eight_tests (λ j. leb (get_or z.t2 j 0) (get_or z.t1 j 0)) _ _ _ _ _ _ _ _ c.before.before.before.before.before.before.before.over.ensures c.before.before.before.before.before.before.over2.ensures c.before.before.before.before.before.over3.ensures c.before.before.before.before.over4.ensures c.before.before.before.over5.ensures c.before.before.over6.ensures c.before.over7.ensures c.over8.ensures
 
 pub overs-spec : {M : Type 1} → statement M
 overs-spec =

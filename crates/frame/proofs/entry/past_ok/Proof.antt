@@ -1,6 +1,6 @@
 use Rattle.std.proofs.Common.{arith, rules}
 use Rattle.causal.proofs.Chain.{chain}
-use Rattle.frame.proofs.Words.{in-serial}
+use Rattle.frame.proofs.Words.{in_serial}
 use Rattle.frame.proofs.entry.past_ok.Statement.{statement}
 use Rattle.frame.proofs.entry.past_ok.Tie as tie
 
@@ -23,19 +23,19 @@ in-word-requires : tie.Need-in-word-requires
 in-word-requires c κs = search rules
 
 returns-2 : tie.Need-returns-2
-returns-2 c = let h = in-serial c.before.before.before.args.t5 c.before.before.before.args.office c.before.before.before.args.serial (omega arith) (omega arith) c.before.in-word.ensures in search (chain, arith) depth 9
+returns-2 c = let h = in_serial c.before.before.before.args.t5 c.before.before.before.args.office c.before.before.before.args.serial (omega arith) (omega arith) c.before.in-word.ensures in search (chain, arith) depth 9
 
 clock-ok-requires : tie.Need-clock-ok-requires
 clock-ok-requires c κs = search rules
 
 returns-3 : tie.Need-returns-3
-returns-3 c = let h = in-serial c.before.before.before.before.before.args.t5 c.before.before.before.before.before.args.office c.before.before.before.before.before.args.serial (omega arith) (omega arith) c.before.before.before.in-word.ensures in search (chain, arith) depth 9
+returns-3 c = let h = in_serial c.before.before.before.before.before.args.t5 c.before.before.before.before.before.args.office c.before.before.before.before.before.args.serial (omega arith) (omega arith) c.before.before.before.in-word.ensures in search (chain, arith) depth 9
 
 ids-ok-requires : tie.Need-ids-ok-requires
 ids-ok-requires c κs = search rules
 
 returns-4 : tie.Need-returns-4
-returns-4 c = let h = in-serial c.before.before.before.before.before.before.args.t5 c.before.before.before.before.before.before.args.office c.before.before.before.before.before.before.args.serial (omega arith) (omega arith) c.before.before.before.before.in-word.ensures in search (chain, arith) depth 9
+returns-4 c = let h = in_serial c.before.before.before.before.before.before.args.t5 c.before.before.before.before.before.before.args.office c.before.before.before.before.before.before.args.serial (omega arith) (omega arith) c.before.before.before.before.in-word.ensures in search (chain, arith) depth 9
 
 pub past-ok-spec : {M : Type 1} → statement M
 past-ok-spec =

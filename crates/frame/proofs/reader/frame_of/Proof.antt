@@ -1,5 +1,5 @@
 use Rattle.std.proofs.Common.{◌/◌, ◌%◌, rules}
-use Rattle.frame.specs.Words.{payAt}
+use Rattle.frame.specs.Words.{pay_at}
 use Rattle.frame.specs.Reading.{frame_at}
 use Rattle.frame.proofs.reader.frame_of.Statement.{statement}
 use Rattle.frame.proofs.reader.frame_of.Tie as tie
@@ -20,13 +20,13 @@ returns c = let s = c.before.before.before in
     λ i.
     record {
       offices = z.n;
-      hops = payAt z.ws.now 0 / 4096 % 16;
+      hops = pay_at z.ws.now 0 / 4096 % 16;
       entry =
           record {
-            office = payAt z.ws.now 0 / 16777216;
-            serial = payAt z.ws.now 0 / 65536 % 256;
-            plot = payAt z.ws.now 1;
-            value = payAt z.ws.now 2;
+            office = pay_at z.ws.now 0 / 16777216;
+            serial = pay_at z.ws.now 0 / 65536 % 256;
+            plot = pay_at z.ws.now 1;
+            value = pay_at z.ws.now 2;
             clock = s.requires.1 i;
             deps = z.deps;
           };

@@ -1,9 +1,9 @@
 use Rattle.std.proofs.Common.{◌≡◌, false, get_or, ◌∙◌, arith, rules}
 use Rattle.causal.specs.Tests.{both}
 use Rattle.causal.proofs.Chain.{chain}
-use Rattle.frame.specs.Words.{kindIs}
-use Rattle.frame.specs.Reading.{clocksIn}
-use Rattle.frame.proofs.Reading.{kinds-parts}
+use Rattle.frame.specs.Words.{kind_is}
+use Rattle.frame.specs.Reading.{clocks_in}
+use Rattle.frame.proofs.Reading.{kinds_parts}
 use Rattle.frame.proofs.reader.kinds_ok.Statement.{statement}
 use Rattle.frame.proofs.reader.kinds_ok.Tie as tie
 
@@ -17,8 +17,8 @@ returns : tie.Need-returns
 returns c =
     let z = c.before.before.before.before in
     let ws = z.args.ws.now in
-    let e : false ≡ both (kindIs 3 (get_or ws 1 0)) (both (kindIs 4 (get_or ws 2 0)) (clocksIn ws 3 z.args.n)) = search (chain, arith) depth 9 in
-    e ∙ kinds-parts z.args.n ws z.requires.0
+    let e : false ≡ both (kind_is 3 (get_or ws 1 0)) (both (kind_is 4 (get_or ws 2 0)) (clocks_in ws 3 z.args.n)) = search (chain, arith) depth 9 in
+    e ∙ kinds_parts z.args.n ws z.requires.0
 
 shared-slice-read-kind-is-2 : tie.Need-shared-slice-read-kind-is-2
 shared-slice-read-kind-is-2 c = search rules
@@ -30,8 +30,8 @@ returns-2 : tie.Need-returns-2
 returns-2 c =
     let z = c.before.before.before.before.before.before.before in
     let ws = z.args.ws.now in
-    let e : false ≡ both (kindIs 3 (get_or ws 1 0)) (both (kindIs 4 (get_or ws 2 0)) (clocksIn ws 3 z.args.n)) = search (chain, arith) depth 9 in
-    e ∙ kinds-parts z.args.n ws z.requires.0
+    let e : false ≡ both (kind_is 3 (get_or ws 1 0)) (both (kind_is 4 (get_or ws 2 0)) (clocks_in ws 3 z.args.n)) = search (chain, arith) depth 9 in
+    e ∙ kinds_parts z.args.n ws z.requires.0
 
 clock-words-requires : tie.Need-clock-words-requires
 clock-words-requires c κs = search rules
@@ -40,8 +40,8 @@ returns-3 : tie.Need-returns-3
 returns-3 c =
     let z = c.before.before.before.before.before.before.before.before in
     let ws = z.args.ws.now in
-    let e : c.clock-words.result ≡ both (kindIs 3 (get_or ws 1 0)) (both (kindIs 4 (get_or ws 2 0)) (clocksIn ws 3 z.args.n)) = search (chain, arith) depth 9 in
-    e ∙ kinds-parts z.args.n ws z.requires.0
+    let e : c.clock-words.result ≡ both (kind_is 3 (get_or ws 1 0)) (both (kind_is 4 (get_or ws 2 0)) (clocks_in ws 3 z.args.n)) = search (chain, arith) depth 9 in
+    e ∙ kinds_parts z.args.n ws z.requires.0
 
 pub kinds-ok-spec : {M : Type 1} → statement M
 kinds-ok-spec =

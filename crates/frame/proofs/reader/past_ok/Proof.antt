@@ -1,6 +1,6 @@
 use Rattle.std.proofs.Common.{not, ap, arith, rules}
-use Rattle.causal.proofs.Chain.{chain, eq-passes}
-use Rattle.frame.proofs.Words.{in-serial}
+use Rattle.causal.proofs.Chain.{chain, eq_passes}
+use Rattle.frame.proofs.Words.{in_serial}
 use Rattle.frame.proofs.reader.past_ok.Statement.{statement}
 use Rattle.frame.proofs.reader.past_ok.Tie as tie
 
@@ -25,8 +25,8 @@ in-word-requires c κs = search rules
 returns-2 : tie.Need-returns-2
 returns-2 c =
     let z = c.before.before.args in
-    let h = in-serial z.t4 z.office z.serial (omega arith) (omega arith) c.in-word.ensures in
-    eq-passes _ _ _ _ c.before.if1.false (ap not h)
+    let h = in_serial z.t4 z.office z.serial (omega arith) (omega arith) c.in-word.ensures in
+    eq_passes _ _ _ _ c.before.if1.false (ap not h)
 
 pub past-ok-spec : {M : Type 1} → statement M
 past-ok-spec =

@@ -1,5 +1,5 @@
 use Rattle.causal.specs.Lists.{zeros}
-use Rattle.frame.specs.Sessions.{sessionOf, filled}
+use Rattle.frame.specs.Sessions.{session_of, filled}
 use Rattle.std.proofs.Common.{replicate, rules}
 use Rattle.frame.proofs.session.blank_session.Statement.{statement}
 use Rattle.frame.proofs.session.blank_session.Tie as tie
@@ -8,7 +8,7 @@ blank-entry-requires : tie.Need-blank-entry-requires
 blank-entry-requires c κs = search rules
 
 returns : tie.Need-returns
-unfolding sessionOf filled
+unfolding session_of filled
 returns c = let e = c.blank-entry.ensures in λ i. record { offices = 0; clock = zeros; read = zeros; count = 0; own = replicate 16 (e i) }
 
 pub blank-session-spec : {M : Type 1} → statement M

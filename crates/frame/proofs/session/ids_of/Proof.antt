@@ -6,7 +6,7 @@ use Rattle.frame.proofs.session.ids_of.Statement.{statement}
 use Rattle.frame.proofs.session.ids_of.Tie as tie
 
 abbrev invariant-loop : tie.invariant-loop
-invariant-loop count own ids₀ i₀ ids i = (i ≤ count) × (ids ≡ ids_of (tab i (T.ownsOf own)))
+invariant-loop count own ids₀ i₀ ids i = (i ≤ count) × (ids ≡ ids_of (tab i (T.owns_of own)))
 
 abbrev decreases-loop : tie.decreases-loop
 decreases-loop count own ids₀ i₀ ids i = count - i
@@ -34,10 +34,10 @@ loop-less : tie.Need-loop-smaller invariant-loop decreases-loop
 loop-less c = search rules
 
 loop-again : tie.Need-loop-preserved invariant-loop decreases-loop
-loop-again c = let z = c.before.before.before.before.before.args in let l = c.before.before.before.before.loop in (search rules, T.ids-turn (T.ownsOf z.t1) l.i _ l.ids _ l.invariant.1 c.before.id-of.ensures c.insert.ensures)
+loop-again c = let z = c.before.before.before.before.before.args in let l = c.before.before.before.before.loop in (search rules, T.ids_turn (T.owns_of z.t1) l.i _ l.ids _ l.invariant.1 c.before.id-of.ensures c.insert.ensures)
 
 returns : tie.Need-returns invariant-loop decreases-loop
-returns c = let z = c.before.before.args in let l = c.before.loop in let e : l.i ≡ z.count = omega arith in l.invariant.1 ∙ ap (λ (k : ℕ). ids_of (tab k (T.ownsOf z.t1))) e
+returns c = let z = c.before.before.args in let l = c.before.loop in let e : l.i ≡ z.count = omega arith in l.invariant.1 ∙ ap (λ (k : ℕ). ids_of (tab k (T.owns_of z.t1))) e
 
 pub ids-of-spec : {M : Type 1} → statement M
 ids-of-spec =

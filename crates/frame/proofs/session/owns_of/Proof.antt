@@ -1,16 +1,16 @@
 use Rattle.std.proofs.Common.{◌≡◌, ℕ, ◌-◌, ◌≤◌, true, sym, refl, ap, ◌∙◌, arith, rules}
 use borrow.Author.Tests.{not-false}
-use Rattle.causal.proofs.Tests.{false-true, all_none, turn_more, turn-fails, turn-done}
+use Rattle.causal.proofs.Tests.{false_true, all_none, turn_more, turn_fails, turn_done}
 use Rattle.causal.specs.Tests.{all_below}
 use Rattle.causal.specs.Lists.{tab}
-use Rattle.frame.specs.Entries.{idsOk}
+use Rattle.frame.specs.Entries.{ids_ok}
 use Rattle.frame.specs.Sessions.{ids_of}
 use Rattle.frame.proofs.OwnTurns as T
 use Rattle.frame.proofs.session.owns_of.Statement.{statement}
 use Rattle.frame.proofs.session.owns_of.Tie as tie
 
 abbrev invariant-loop : tie.invariant-loop
-invariant-loop n p read count own most seen₀ i₀ seen i = (i ≤ count) × (seen ≡ ids_of (tab i (T.ownsOf own))) × (idsOk n seen ≡ true) × (all_below i (T.OwnAt n p read (T.ownsOf own)) ≡ true)
+invariant-loop n p read count own most seen₀ i₀ seen i = (i ≤ count) × (seen ≡ ids_of (tab i (T.owns_of own))) × (ids_ok n seen ≡ true) × (all_below i (T.OwnAt n p read (T.owns_of own)) ≡ true)
 
 abbrev decreases-loop : tie.decreases-loop
 decreases-loop n p read count own most seen₀ i₀ seen i = count - i
@@ -35,11 +35,11 @@ returns : tie.Need-returns invariant-loop decreases-loop
 returns c =
     let z = c.before.before.before.before.before.before.args in
     let l = c.before.before.before.before.loop in
-    let f = T.ownsOf z.t4 in (
-      turn-fails (T.OwnAt z.n z.p z.read f) z.count l.i _ (omega arith)
-          (T.own_turn z.n z.p z.read l.seen f l.i _ l.invariant.1 c.before.own-ok.ensures) c.if1.true
-          ∙ T.owns-below z.n z.p z.read f z.count,
-      λ h. false-true h,
+    let f = T.owns_of z.t4 in (
+      turn_fails (T.OwnAt z.n z.p z.read f) z.count l.i _ (omega arith)
+          (T.own_turn_lem z.n z.p z.read l.seen f l.i _ l.invariant.1 c.before.own-ok.ensures) c.if1.true
+          ∙ T.owns_below z.n z.p z.read f z.count,
+      λ h. false_true h,
     )
 
 id-of-requires : tie.Need-id-of-requires invariant-loop decreases-loop
@@ -55,16 +55,16 @@ loop-less : tie.Need-loop-smaller invariant-loop decreases-loop
 loop-less c = search rules
 
 loop-again : tie.Need-loop-preserved invariant-loop decreases-loop
-loop-again c = let z = c.before.before.before.before.before.before.before.before.args in let l = c.before.before.before.before.before.before.loop in let f = T.ownsOf z.t4 in (search rules, T.ids-turn f l.i _ l.seen _ l.invariant.1 c.before.id-of.ensures c.insert.ensures, T.ids-turn-ok z.n z.p z.read l.seen (f l.i) _ _ l.invariant.2 (sym c.before.before.before.own-ok.ensures ∙ not-false _ c.before.before.if1.false) c.before.id-of.ensures c.insert.ensures, turn_more (T.OwnAt z.n z.p z.read f) l.i _ l.invariant.3 (T.own_turn z.n z.p z.read l.seen f l.i _ l.invariant.1 c.before.before.before.own-ok.ensures) c.before.before.if1.false)
+loop-again c = let z = c.before.before.before.before.before.before.before.before.args in let l = c.before.before.before.before.before.before.loop in let f = T.owns_of z.t4 in (search rules, T.ids_turn f l.i _ l.seen _ l.invariant.1 c.before.id-of.ensures c.insert.ensures, T.ids_turn_ok z.n z.p z.read l.seen (f l.i) _ _ l.invariant.2 (sym c.before.before.before.own-ok.ensures ∙ not-false _ c.before.before.if1.false) c.before.id-of.ensures c.insert.ensures, turn_more (T.OwnAt z.n z.p z.read f) l.i _ l.invariant.3 (T.own_turn_lem z.n z.p z.read l.seen f l.i _ l.invariant.1 c.before.before.before.own-ok.ensures) c.before.before.if1.false)
 
 returns-2 : tie.Need-returns-2 invariant-loop decreases-loop
 returns-2 c =
     let z = c.before.before.before.args in
     let l = c.before.loop in
-    let f = T.ownsOf z.t4 in
+    let f = T.owns_of z.t4 in
     let q : l.i ≡ z.count = omega arith in (
-      turn-done (T.OwnAt z.n z.p z.read f) z.count l.i l.invariant.3 (omega arith) (omega arith)
-          ∙ T.owns-below z.n z.p z.read f z.count,
+      turn_done (T.OwnAt z.n z.p z.read f) z.count l.i l.invariant.3 (omega arith) (omega arith)
+          ∙ T.owns_below z.n z.p z.read f z.count,
       λ h. l.invariant.1 ∙ ap (λ (i : ℕ). ids_of (tab i f)) q,
     )
 

@@ -1,10 +1,10 @@
 use Rattle.std.proofs.Common.{length, sym, ap, rules}
-use Rattle.frame.proofs.TokenTurns.{rows-of-none}
+use Rattle.frame.proofs.TokenTurns.{rows_of_none}
 use Rattle.frame.proofs.token.carried_words.Statement.{statement}
 use Rattle.frame.proofs.token.carried_words.Tie as tie
 
 returns : tie.Need-returns
-returns c = let z = c.before.before.args.s in ap length (sym (rows-of-none z.offices z.own z.count c.if1.true))
+returns c = let z = c.before.before.args.s in ap length (sym (rows_of_none z.offices z.own z.count c.if1.true))
 
 own-words-requires : tie.Need-own-words-requires
 own-words-requires c κs = search rules

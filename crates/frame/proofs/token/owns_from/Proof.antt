@@ -1,9 +1,9 @@
 use Rattle.std.proofs.Common.{◌≡◌, ℕ, ◌-◌, true, List, take, drop, sym, ap, ◌∙◌, arith, rules}
-use Rattle.frame.specs.Tokens.{frameLength}
-use Rattle.frame.specs.TokenReading.{ownFrameOk}
+use Rattle.frame.specs.Tokens.{frame_length}
+use Rattle.frame.specs.TokenReading.{own_frame_ok}
 use Rattle.frame.specs.Frames.{frame_of}
 use borrow.Author.Tests.{not-true, not-false}
-use Rattle.causal.proofs.Tests.{false-true}
+use Rattle.causal.proofs.Tests.{false_true}
 use Rattle.frame.proofs.TokenTurns as T
 use Rattle.frame.proofs.token.owns_from.Statement.{statement}
 use Rattle.frame.proofs.token.owns_from.Tie as tie
@@ -18,7 +18,7 @@ blank-entry-requires : tie.Need-blank-entry-requires invariant-loop decreases-lo
 blank-entry-requires c κs = search rules
 
 loop-holds : tie.Need-loop-init invariant-loop decreases-loop
-loop-holds c = let z = c.before.before.args in T.turn-first z.ws.now z.n z.p z.count _ c.blank-entry.ensures
+loop-holds c = let z = c.before.before.args in T.turn_first z.ws.now z.n z.p z.count _ c.blank-entry.ensures
 
 mul-own-from : tie.Need-overflow-mul-own-from invariant-loop decreases-loop
 mul-own-from c = search rules
@@ -36,7 +36,7 @@ own-from-requires : tie.Need-own-from-requires invariant-loop decreases-loop
 own-from-requires c κs = c.before.before.before.before.before.requires.0
 
 returns : tie.Need-returns invariant-loop decreases-loop
-returns c = let z = c.before.before.before.before.before.before.before.before.args in let n = z.n in let p = z.p in let ws = z.ws.now in let l = c.before.before.before.before.before.loop in (sym (T.turn-fails ws n p z.count l.own l.at l.i l.invariant (omega arith) (ap (ownFrameOk n p) (sym (T.lent-rest ws n p z.count l.at)) ∙ sym c.before.before.own-from.ensures.0 ∙ not-true _ c.if1.true)), λ q. false-true q)
+returns c = let z = c.before.before.before.before.before.before.before.before.args in let n = z.n in let p = z.p in let ws = z.ws.now in let l = c.before.before.before.before.before.loop in (sym (T.turn_fails ws n p z.count l.own l.at l.i l.invariant (omega arith) (ap (own_frame_ok n p) (sym (T.lent_rest ws n p z.count l.at)) ∙ sym c.before.before.own_from.ensures.0 ∙ not-true _ c.if1.true)), λ q. false_true q)
 
 mul-own : tie.Need-overflow-mul-own invariant-loop decreases-loop
 mul-own c = search rules
@@ -45,7 +45,7 @@ array-set-from-own : tie.Need-array-set-from-own invariant-loop decreases-loop
 array-set-from-own c = search rules
 
 add_at : tie.Need-overflow-add-at invariant-loop decreases-loop
-add_at c = let z = c.before.before.before.before.before.before.before.before.before.before.args in let n = z.n in let p = z.p in let ws = z.ws.now in let l = c.before.before.before.before.before.before.before.loop in let k = T.lent-rest ws n p z.count l.at in let q = not-false _ c.before.before.if1.false in let ok : ownFrameOk n p (drop l.at ws) ≡ true = ap (ownFrameOk n p) (sym k) ∙ sym c.before.before.before.before.own-from.ensures.0 ∙ q in let e = c.before.before.before.before.own-from.ensures.1 q in let words : c.before.before.before.before.own-from.result.words ≡ frameLength n (drop l.at ws) = e.0 ∙ ap (frameLength n) k in omega (arith, words, T.own-fits ws n p z.count l.own l.at l.i l.invariant (omega arith) ok)
+add_at c = let z = c.before.before.before.before.before.before.before.before.before.before.args in let n = z.n in let p = z.p in let ws = z.ws.now in let l = c.before.before.before.before.before.before.before.loop in let k = T.lent_rest ws n p z.count l.at in let q = not-false _ c.before.before.if1.false in let ok : own_frame_ok n p (drop l.at ws) ≡ true = ap (own_frame_ok n p) (sym k) ∙ sym c.before.before.before.before.own_from.ensures.0 ∙ q in let e = c.before.before.before.before.own_from.ensures.1 q in let words : c.before.before.before.before.own_from.result.words ≡ frame_length n (drop l.at ws) = e.0 ∙ ap (frame_length n) k in omega (arith, words, T.own_fits ws n p z.count l.own l.at l.i l.invariant (omega arith) ok)
 
 add-i : tie.Need-overflow-add-i invariant-loop decreases-loop
 add-i c = search rules
@@ -54,7 +54,7 @@ loop-less : tie.Need-loop-smaller invariant-loop decreases-loop
 loop-less c = search rules
 
 loop-again : tie.Need-loop-preserved invariant-loop decreases-loop
-loop-again c = let z = c.before.before.before.before.before.before.before.before.before.before.args in let n = z.n in let p = z.p in let ws = z.ws.now in let l = c.before.before.before.before.before.before.before.loop in let k = T.lent-rest ws n p z.count l.at in let q = not-false _ c.before.before.if1.false in let ok : ownFrameOk n p (drop l.at ws) ≡ true = ap (ownFrameOk n p) (sym k) ∙ sym c.before.before.before.before.own-from.ensures.0 ∙ q in let e = c.before.before.before.before.own-from.ensures.1 q in let words : c.before.before.before.before.own-from.result.words ≡ frameLength n (drop l.at ws) = e.0 ∙ ap (frameLength n) k in T.turn-next ws n p z.count l.own l.at l.i l.invariant (omega arith) ok c.before.before.before.before.before.before.before.before.before.before.requires.1 _ _ words (e.1 ∙ ap (λ (r : List ℕ). (frame_of (take (frameLength n r) r)).entry) k)
+loop-again c = let z = c.before.before.before.before.before.before.before.before.before.before.args in let n = z.n in let p = z.p in let ws = z.ws.now in let l = c.before.before.before.before.before.before.before.loop in let k = T.lent_rest ws n p z.count l.at in let q = not-false _ c.before.before.if1.false in let ok : own_frame_ok n p (drop l.at ws) ≡ true = ap (own_frame_ok n p) (sym k) ∙ sym c.before.before.before.before.own_from.ensures.0 ∙ q in let e = c.before.before.before.before.own_from.ensures.1 q in let words : c.before.before.before.before.own_from.result.words ≡ frame_length n (drop l.at ws) = e.0 ∙ ap (frame_length n) k in T.turn_next ws n p z.count l.own l.at l.i l.invariant (omega arith) ok c.before.before.before.before.before.before.before.before.before.before.requires.1 _ _ words (e.1 ∙ ap (λ (r : List ℕ). (frame_of (take (frame_length n r) r)).entry) k)
 
 sub-t22 : tie.Need-overflow-sub-t22 invariant-loop decreases-loop
 sub-t22 c = c.before.loop.invariant.within

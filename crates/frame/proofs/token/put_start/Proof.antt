@@ -1,10 +1,10 @@
 use Rattle.std.proofs.Common.{◌≡◌, ℕ, ◌+◌, ◌-◌, ◌%◌, List, ◌∷◌, ◌++◌, length, set, ap, ◌∙◌, arith, length-set, rules}
 use lib.Seq.{sets}
-use Rattle.causal.proofs.Sets.{size-le}
-use Rattle.frame.specs.Words.{clockWords, idWords, total}
-use Rattle.frame.specs.Tokens.{tokenHead}
-use Rattle.frame.proofs.Words.{ids-size, sum_added, sum_first}
-use Rattle.frame.proofs.Turns.{set-sets}
+use Rattle.causal.proofs.Sets.{size_le}
+use Rattle.frame.specs.Words.{clock_words, id_words, total}
+use Rattle.frame.specs.Tokens.{token_head}
+use Rattle.frame.proofs.Words.{ids_size, sum_added, sum_first}
+use Rattle.frame.proofs.Turns.{set_sets}
 use Rattle.frame.proofs.token.put_start.Statement.{statement}
 use Rattle.frame.proofs.token.put_start.Tie as tie
 
@@ -27,10 +27,10 @@ cast-head-word : tie.Need-overflow-cast-head-word
 cast-head-word c = search rules
 
 cast-head-word-2 : tie.Need-overflow-cast-head-word-2
-cast-head-word-2 c = let r = c.before.before.before.before.before.before.before.before.before.args.read in omega (arith, c.before.before.put-ids.ensures.0, ids-size r, size-le r)
+cast-head-word-2 c = let r = c.before.before.before.before.before.before.before.before.before.args.read in omega (arith, c.before.before.put-ids.ensures.0, ids_size r, size_le r)
 
 head-word-requires : tie.Need-head-word-requires
-head-word-requires c κs = let z = c.before.before.before.before.before.before.before.before.before in let r = z.args.read in (z.requires.0, z.requires.1, omega (arith, c.before.before.put-ids.ensures.0, ids-size r, size-le r))
+head-word-requires c κs = let z = c.before.before.before.before.before.before.before.before.before in let r = z.args.read in (z.requires.0, z.requires.1, omega (arith, c.before.before.put-ids.ensures.0, ids_size r, size_le r))
 
 slice-write-out : tie.Need-slice-write-out
 slice-write-out c = let z = c.before.before.before.before.before.before.before.before.before.before in omega (arith, z.requires.3, c.before.before.before.put-ids.auto.1.0, c.before.before.before.before.before.before.before.put-clock.auto.1.1.0)
@@ -50,15 +50,15 @@ returns c =
     let i = c.before.before.before.before.before.put-ids.ensures in
     let k = c.before.before.before.before.before.before.before.before.before.put-clock.ensures in
     let w = c.before.before.head-word.result in
-    let U : List ℕ = clockWords z.n z.clock in
-    let D : List ℕ = idWords z.read in
+    let U : List ℕ = clock_words z.n z.clock in
+    let D : List ℕ = id_words z.read in
     let e : c.before.before.before.before.before.put-ids.result.to - 1 - z.n ≡ length D = omega (arith, i.0) in
-    let h = c.before.before.head-word.ensures ∙ ap (tokenHead z.n z.count) e in
+    let h = c.before.before.head-word.ensures ∙ ap (token_head z.n z.count) e in
     let s = ap (λ (x : ℕ). x % 268435456) c.before.wrapping-add-u32.ensures ∙ sum_added c.before.before.before.before.before.before.before.before.before.put-clock.result c.before.before.before.before.before.put-ids.result.sum U D k.0 i.1 in (
       i.0,
       ap (λ (x : ℕ). x % 268435456) c.wrapping-add-u322.ensures ∙ sum_first c.before.wrapping-add-u32.result w (U ++ D) s ∙ ap (λ (x : ℕ). total (x ∷ (U ++ D)) % 268435456) h,
-      ap (λ (l : List ℕ). set l 0 w) (i.2 ∙ ap (λ (l : List ℕ). sets l (1 + z.n) D) k.1) ∙ set-sets (sets z.out.now 1 U) (1 + z.n) D 0 w (omega arith)
-          ∙ ap (λ (l : List ℕ). sets l (1 + z.n) D) (set-sets z.out.now 1 U 0 w (omega arith)) ∙ ap (λ (x : ℕ). sets (sets (set z.out.now 0 x) 1 U) (1 + z.n) D) h,
+      ap (λ (l : List ℕ). set l 0 w) (i.2 ∙ ap (λ (l : List ℕ). sets l (1 + z.n) D) k.1) ∙ set_sets (sets z.out.now 1 U) (1 + z.n) D 0 w (omega arith)
+          ∙ ap (λ (l : List ℕ). sets l (1 + z.n) D) (set_sets z.out.now 1 U 0 w (omega arith)) ∙ ap (λ (x : ℕ). sets (sets (set z.out.now 0 x) 1 U) (1 + z.n) D) h,
     )
 
 pub put-start-spec : {M : Type 1} → statement M

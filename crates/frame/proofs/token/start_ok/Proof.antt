@@ -2,28 +2,28 @@ use Rattle.std.proofs.Common.{◌+◌, ◌≤◌, length, sym, ap, ◌∙◌, ar
 use borrow.Author.Tests.{not-false}
 use Rattle.causal.proofs.Chain.{chain}
 use Rattle.frame.specs.Reading.{ascends}
-use Rattle.frame.specs.Tokens.{tokenReads}
-use Rattle.frame.specs.TokenReading.{startOk}
+use Rattle.frame.specs.Tokens.{token_reads}
+use Rattle.frame.specs.TokenReading.{start_ok}
 use Rattle.frame.proofs.TokenReads as R
-use Rattle.frame.proofs.TokenChecks.{Shape, shape-facts}
+use Rattle.frame.proofs.TokenChecks.{Shape, shape_facts}
 use Rattle.frame.proofs.token.start_ok.Statement.{statement}
 use Rattle.frame.proofs.token.start_ok.Tie as tie
 
 shape : (c : tie.Else1) → Shape c.before.before.before.args.n c.before.before.before.args.ws.now
-shape c = shape-facts c.before.before.before.args.n c.before.before.before.args.ws.now (sym c.before.shape-ok.ensures ∙ not-false _ c.if1.false)
+shape c = shape_facts c.before.before.before.args.n c.before.before.before.args.ws.now (sym c.before.shape-ok.ensures ∙ not-false _ c.if1.false)
 
 shape-ok-requires : tie.Need-shape-ok-requires
 shape-ok-requires c κs = search rules
 
 returns : tie.Need-returns
-unfolding startOk
+unfolding start_ok
 returns c = search (chain, arith) depth 9
 
 clock-kinds-requires : tie.Need-clock-kinds-requires
 clock-kinds-requires c κs = omega (arith, (shape c).room)
 
 returns-2 : tie.Need-returns-2
-unfolding startOk
+unfolding start_ok
 returns-2 c = search (chain, arith) depth 9
 
 add-from : tie.Need-overflow-add-from
@@ -48,21 +48,21 @@ part-ids-ascend-start : tie.Need-slice-bounds-ids-ascend-start
 part-ids-ascend-start c = search rules
 
 part-ids-ascend-end : tie.Need-slice-bounds-ids-ascend-end
-part-ids-ascend-end c = let h : 1 + c.before.before.before.before.before.before.args.n + tokenReads c.before.before.before.before.before.before.args.ws.now ≤ length c.before.before.before.before.before.before.args.ws.now = omega (arith, (shape c.before.before.before).room) in h
+part-ids-ascend-end c = let h : 1 + c.before.before.before.before.before.before.args.n + token_reads c.before.before.before.before.before.before.args.ws.now ≤ length c.before.before.before.before.before.before.args.ws.now = omega (arith, (shape c.before.before.before).room) in h
 
 ids-ascend-requires : tie.Need-ids-ascend-requires
 ids-ascend-requires c κs = search rules
 
 returns-3 : tie.Need-returns-3
-unfolding startOk
-returns-3 c = let h = c.before.ids-ascend.ensures ∙ ap (ascends c.before.before.before.before.before.before.before.before.before.args.n 0) (R.reads-between c.before.before.before.before.before.before.before.before.before.args.n 0 c.before.before.before.before.before.before.before.before.before.args.ws.now) in search (chain, arith) depth 9
+unfolding start_ok
+returns-3 c = let h = c.before.ids-ascend.ensures ∙ ap (ascends c.before.before.before.before.before.before.before.before.before.args.n 0) (R.reads_between c.before.before.before.before.before.before.before.before.before.args.n 0 c.before.before.before.before.before.before.before.before.before.args.ws.now) in search (chain, arith) depth 9
 
 sum-ok-requires : tie.Need-sum-ok-requires
 sum-ok-requires c κs = omega (arith, (shape c.before.before.before.before.before.before).room)
 
 returns-4 : tie.Need-returns-4
-unfolding startOk
-returns-4 c = let h = c.before.before.ids-ascend.ensures ∙ ap (ascends c.before.before.before.before.before.before.before.before.before.before.args.n 0) (R.reads-between c.before.before.before.before.before.before.before.before.before.before.args.n 0 c.before.before.before.before.before.before.before.before.before.before.args.ws.now) in search (chain, arith) depth 9
+unfolding start_ok
+returns-4 c = let h = c.before.before.ids-ascend.ensures ∙ ap (ascends c.before.before.before.before.before.before.before.before.before.before.args.n 0) (R.reads_between c.before.before.before.before.before.before.before.before.before.before.args.n 0 c.before.before.before.before.before.before.before.before.before.before.args.ws.now) in search (chain, arith) depth 9
 
 pub start-ok-spec : {M : Type 1} → statement M
 start-ok-spec =

@@ -1,5 +1,5 @@
 use Rattle.std.proofs.Common.{◌≡◌, ℕ, ◌-◌, ◌%◌, ◌≤◌, List, length, get_or, take, sym, refl, ap, ◌∙◌, arith, take_all, rules}
-use Rattle.frame.proofs.Words.{total-take, wrapped}
+use Rattle.frame.proofs.Words.{total_take, wrapped}
 use Rattle.frame.specs.Words.{total}
 use Rattle.frame.proofs.word.check_sum.Statement.{statement}
 use Rattle.frame.proofs.word.check_sum.Tie as tie
@@ -35,7 +35,7 @@ loop-again c =
     let ws = c.before.before.before.before.before.args.ws.now in (
       omega arith,
       refl,
-      ap (λ (x : ℕ). x % 268435456) c.wrapping-add-u32.ensures ∙ wrapped l.sum (get_or ws l.i 0) (total (take l.i ws)) l.invariant.2 ∙ ap (λ (x : ℕ). x % 268435456) (sym (total-take ws l.i (omega arith))),
+      ap (λ (x : ℕ). x % 268435456) c.wrapping-add-u32.ensures ∙ wrapped l.sum (get_or ws l.i 0) (total (take l.i ws)) l.invariant.2 ∙ ap (λ (x : ℕ). x % 268435456) (sym (total_take ws l.i (omega arith))),
     )
 
 returns : tie.Need-returns invariant-loop decreases-loop

@@ -1,14 +1,14 @@
 use Rattle.std.proofs.Common.{◌≡◌, ℕ, ◌+◌, ◌-◌, ◌≤◌, List, set, sym, refl, ap, ◌∙◌, zero-add, arith, rules}
-use Rattle.frame.proofs.Turns.{clock-whole}
+use Rattle.frame.proofs.Turns.{clock_whole}
 use lib.Seq.{sets}
 use Rattle.causal.specs.Lists.{tab, zeros}
-use Rattle.causal.proofs.Lists.{sets-tab}
-use Rattle.frame.specs.Words.{payAt}
+use Rattle.causal.proofs.Lists.{sets_tab}
+use Rattle.frame.specs.Words.{pay_at}
 use Rattle.frame.proofs.word.clock_from.Statement.{statement}
 use Rattle.frame.proofs.word.clock_from.Tie as tie
 
 abbrev invariant-loop : tie.invariant-loop
-invariant-loop ws at n clock₀ j₀ clock j = (j ≤ n) × (clock ≡ sets zeros 0 (tab j (λ i. payAt ws (at + i))))
+invariant-loop ws at n clock₀ j₀ clock j = (j ≤ n) × (clock ≡ sets zeros 0 (tab j (λ i. pay_at ws (at + i))))
 
 abbrev decreases-loop : tie.decreases-loop
 decreases-loop ws at n clock₀ j₀ clock j = n - j
@@ -42,13 +42,13 @@ loop-again : tie.Need-loop-preserved invariant-loop decreases-loop
 loop-again c =
     let z = c.before.before.before.args in
     let j = c.before.before.loop.j in
-    (omega arith, ap (λ (l : List ℕ). set l j (payAt z.ws.now (z.at + j))) c.before.before.loop.invariant.1 ∙ ap (λ (k : ℕ). set (sets zeros 0 (tab j (λ (i : ℕ). payAt z.ws.now (z.at + i)))) k (payAt z.ws.now (z.at + j))) (sym (zero-add j)) ∙ sets-tab zeros 0 (λ (i : ℕ). payAt z.ws.now (z.at + i)) j)
+    (omega arith, ap (λ (l : List ℕ). set l j (pay_at z.ws.now (z.at + j))) c.before.before.loop.invariant.1 ∙ ap (λ (k : ℕ). set (sets zeros 0 (tab j (λ (i : ℕ). pay_at z.ws.now (z.at + i)))) k (pay_at z.ws.now (z.at + j))) (sym (zero-add j)) ∙ sets_tab zeros 0 (λ (i : ℕ). pay_at z.ws.now (z.at + i)) j)
 
 returns : tie.Need-returns invariant-loop decreases-loop
 returns c = let z = c.before.before.args in
     let e : c.before.loop.j ≡ z.n = omega arith in
-    let i : c.before.loop.clock ≡ sets zeros 0 (tab z.n (λ (i : ℕ). payAt z.ws.now (z.at + i))) = rw e at c.before.loop.invariant.1 in
-    i ∙ clock-whole z.ws.now z.at z.n c.before.before.requires.0
+    let i : c.before.loop.clock ≡ sets zeros 0 (tab z.n (λ (i : ℕ). pay_at z.ws.now (z.at + i))) = rw e at c.before.loop.invariant.1 in
+    i ∙ clock_whole z.ws.now z.at z.n c.before.before.requires.0
 
 pub clock-from-spec : {M : Type 1} → statement M
 clock-from-spec =

@@ -1,13 +1,13 @@
 use Rattle.std.proofs.Common.{◌≡◌, ℕ, ◌+◌, ◌-◌, ◌≤◌, true, get_or, arith, rules}
 use Rattle.causal.specs.Tests.{all_below}
-use Rattle.frame.specs.Words.{kindIs}
-use Rattle.frame.specs.Reading.{clockKinds}
-use Rattle.causal.proofs.Tests.{all_none, turn_more, turn-fails, turn-done}
+use Rattle.frame.specs.Words.{kind_is}
+use Rattle.frame.specs.Reading.{clock_kinds}
+use Rattle.causal.proofs.Tests.{all_none, turn_more, turn_fails, turn_done}
 use Rattle.frame.proofs.word.clock_kinds.Statement.{statement}
 use Rattle.frame.proofs.word.clock_kinds.Tie as tie
 
 abbrev invariant-loop : tie.invariant-loop
-invariant-loop ws at n j₀ j = (j ≤ n) × (all_below j (λ i. kindIs 5 (get_or ws (at + i) 0)) ≡ true)
+invariant-loop ws at n j₀ j = (j ≤ n) × (all_below j (λ i. kind_is 5 (get_or ws (at + i) 0)) ≡ true)
 
 abbrev decreases-loop : tie.decreases-loop
 decreases-loop ws at n j₀ j = n - j
@@ -28,9 +28,9 @@ kind-is-requires : tie.Need-kind-is-requires invariant-loop decreases-loop
 kind-is-requires c κs = search rules
 
 returns : tie.Need-returns invariant-loop decreases-loop
-unfolding clockKinds
+unfolding clock_kinds
 returns c = let z = c.before.before.before.before.before.before.args in
-    turn-fails (λ (i : ℕ). kindIs 5 (get_or z.ws.now (z.at + i) 0)) z.n c.before.before.before.before.loop.j c.before.kind-is.result (omega arith) c.before.kind-is.ensures c.if1.true
+    turn_fails (λ (i : ℕ). kind_is 5 (get_or z.ws.now (z.at + i) 0)) z.n c.before.before.before.before.loop.j c.before.kind-is.result (omega arith) c.before.kind-is.ensures c.if1.true
 
 add-j : tie.Need-overflow-add-j invariant-loop decreases-loop
 add-j c = search rules
@@ -41,12 +41,12 @@ loop-less c = search rules
 loop-again : tie.Need-loop-preserved invariant-loop decreases-loop
 loop-again c =
     let z = c.before.before.before.before.before.before.args in
-    (omega arith, turn_more (λ (i : ℕ). kindIs 5 (get_or z.ws.now (z.at + i) 0)) c.before.before.before.before.loop.j c.before.kind-is.result c.before.before.before.before.loop.invariant.1 c.before.kind-is.ensures c.if1.false)
+    (omega arith, turn_more (λ (i : ℕ). kind_is 5 (get_or z.ws.now (z.at + i) 0)) c.before.before.before.before.loop.j c.before.kind-is.result c.before.before.before.before.loop.invariant.1 c.before.kind-is.ensures c.if1.false)
 
 returns-2 : tie.Need-returns-2 invariant-loop decreases-loop
-unfolding clockKinds
+unfolding clock_kinds
 returns-2 c = let z = c.before.before.before.args in
-    turn-done (λ (i : ℕ). kindIs 5 (get_or z.ws.now (z.at + i) 0)) z.n c.before.loop.j c.before.loop.invariant.1 (omega arith) (omega arith)
+    turn_done (λ (i : ℕ). kind_is 5 (get_or z.ws.now (z.at + i) 0)) z.n c.before.loop.j c.before.loop.invariant.1 (omega arith) (omega arith)
 
 pub clock-kinds-spec : {M : Type 1} → statement M
 clock-kinds-spec =

@@ -1,13 +1,13 @@
 use Rattle.std.proofs.Common.{◌≡◌, ℕ, ◌+◌, ◌-◌, ◌≤◌, true, leb, get_or, arith, rules}
 use Rattle.causal.specs.Tests.{all_below, both}
-use Rattle.frame.specs.Words.{kindIs, payAt}
-use Rattle.frame.specs.Reading.{clocksIn}
-use Rattle.causal.proofs.Tests.{all_none, turn_more, turn-fails, turn-done}
+use Rattle.frame.specs.Words.{kind_is, pay_at}
+use Rattle.frame.specs.Reading.{clocks_in}
+use Rattle.causal.proofs.Tests.{all_none, turn_more, turn_fails, turn_done}
 use Rattle.frame.proofs.word.clock_words.Statement.{statement}
 use Rattle.frame.proofs.word.clock_words.Tie as tie
 
 abbrev invariant-loop : tie.invariant-loop
-invariant-loop ws at n j₀ j = (j ≤ n) × (all_below j (λ i. both (kindIs 5 (get_or ws (at + i) 0)) (leb (payAt ws (at + i)) 32)) ≡ true)
+invariant-loop ws at n j₀ j = (j ≤ n) × (all_below j (λ i. both (kind_is 5 (get_or ws (at + i) 0)) (leb (pay_at ws (at + i)) 32)) ≡ true)
 
 abbrev decreases-loop : tie.decreases-loop
 decreases-loop ws at n j₀ j = n - j
@@ -28,9 +28,9 @@ clock-word-requires : tie.Need-clock-word-requires invariant-loop decreases-loop
 clock-word-requires c κs = search rules
 
 returns : tie.Need-returns invariant-loop decreases-loop
-unfolding clocksIn
+unfolding clocks_in
 returns c = let z = c.before.before.before.before.before.before.args in
-    turn-fails (λ (i : ℕ). both (kindIs 5 (get_or z.ws.now (z.at + i) 0)) (leb (payAt z.ws.now (z.at + i)) 32)) z.n c.before.before.before.before.loop.j c.before.clock-word.result (omega arith) c.before.clock-word.ensures c.if1.true
+    turn_fails (λ (i : ℕ). both (kind_is 5 (get_or z.ws.now (z.at + i) 0)) (leb (pay_at z.ws.now (z.at + i)) 32)) z.n c.before.before.before.before.loop.j c.before.clock_word_lem.result (omega arith) c.before.clock_word_lem.ensures c.if1.true
 
 add-j : tie.Need-overflow-add-j invariant-loop decreases-loop
 add-j c = search rules
@@ -41,12 +41,12 @@ loop-less c = search rules
 loop-again : tie.Need-loop-preserved invariant-loop decreases-loop
 loop-again c =
     let z = c.before.before.before.before.before.before.args in
-    (omega arith, turn_more (λ (i : ℕ). both (kindIs 5 (get_or z.ws.now (z.at + i) 0)) (leb (payAt z.ws.now (z.at + i)) 32)) c.before.before.before.before.loop.j c.before.clock-word.result c.before.before.before.before.loop.invariant.1 c.before.clock-word.ensures c.if1.false)
+    (omega arith, turn_more (λ (i : ℕ). both (kind_is 5 (get_or z.ws.now (z.at + i) 0)) (leb (pay_at z.ws.now (z.at + i)) 32)) c.before.before.before.before.loop.j c.before.clock_word_lem.result c.before.before.before.before.loop.invariant.1 c.before.clock_word_lem.ensures c.if1.false)
 
 returns-2 : tie.Need-returns-2 invariant-loop decreases-loop
-unfolding clocksIn
+unfolding clocks_in
 returns-2 c = let z = c.before.before.before.args in
-    turn-done (λ (i : ℕ). both (kindIs 5 (get_or z.ws.now (z.at + i) 0)) (leb (payAt z.ws.now (z.at + i)) 32)) z.n c.before.loop.j c.before.loop.invariant.1 (omega arith) (omega arith)
+    turn_done (λ (i : ℕ). both (kind_is 5 (get_or z.ws.now (z.at + i) 0)) (leb (pay_at z.ws.now (z.at + i)) 32)) z.n c.before.loop.j c.before.loop.invariant.1 (omega arith) (omega arith)
 
 pub clock-words-spec : {M : Type 1} → statement M
 clock-words-spec =

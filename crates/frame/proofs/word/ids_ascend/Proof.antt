@@ -2,8 +2,8 @@ use Rattle.std.proofs.Common.{◌≡◌, ℕ, ◌+◌, ◌-◌, ◌≤◌, Bool,
 use lib.Seq.{take-length}
 use borrow.Author.Tests.{not-true, not-false}
 use Rattle.causal.specs.Tests.{both}
-use Rattle.causal.proofs.Bits.{or-is-zero}
-use Rattle.frame.proofs.Ascents.{steps, steps_first, steps-more, ascends_none, first-wrong, last-wrong, office-wrong, all_right}
+use Rattle.causal.proofs.Bits.{or_is_zero}
+use Rattle.frame.proofs.Ascents.{steps, steps_first, steps_more, ascends_none, first_wrong, last_wrong, office_wrong, all_right}
 use Rattle.frame.proofs.word.ids_ascend.Statement.{statement}
 use Rattle.frame.proofs.word.ids_ascend.Tie as tie
 
@@ -32,16 +32,16 @@ kind-is-requires : tie.Need-kind-is-requires invariant-loop decreases-loop
 kind-is-requires c κs = search rules
 
 returns-2 : tie.Need-returns-2 invariant-loop decreases-loop
-returns-2 c = first-wrong c.before.before.before.before.before.before.args.n c.before.before.before.before.before.before.args.ws.now (omega arith) (sym c.before.kind-is.ensures ∙ not-true _ c.if2.true)
+returns-2 c = first_wrong c.before.before.before.before.before.before.args.n c.before.before.before.before.before.before.args.ws.now (omega arith) (sym c.before.kind-is.ensures ∙ not-true _ c.if2.true)
 
 kind-is-requires-2 : tie.Need-kind-is-requires-2 invariant-loop decreases-loop
 kind-is-requires-2 c κs = search rules
 
 returns-3 : tie.Need-returns-3 invariant-loop decreases-loop
-returns-3 c = last-wrong c.before.before.before.before.before.before.before.before.args.n c.before.before.before.before.before.before.before.before.args.ws.now (omega arith) (sym c.before.kind-is2.ensures ∙ not-true _ c.if3.true)
+returns-3 c = last_wrong c.before.before.before.before.before.before.before.before.args.n c.before.before.before.before.before.before.before.before.args.ws.now (omega arith) (sym c.before.kind-is2.ensures ∙ not-true _ c.if3.true)
 
 returns-4 : tie.Need-returns-4 invariant-loop decreases-loop
-returns-4 c = office-wrong c.before.before.before.before.before.before.before.before.before.args.n c.before.before.before.before.before.before.before.before.before.args.ws.now (omega arith) c.if4.true
+returns-4 c = office_wrong c.before.before.before.before.before.before.before.before.before.args.n c.before.before.before.before.before.before.before.before.before.args.ws.now (omega arith) c.if4.true
 
 not-next-requires : tie.Need-not-next-requires invariant-loop decreases-loop
 not-next-requires c κs = search rules
@@ -79,10 +79,10 @@ loop-again c =
     let ws = c.before.before.before.before.before.before.before.before.before.before.before.before.before.before.before.args.ws.now in (
       omega arith,
       omega arith,
-      or-is-zero l.wrong c.not-next2.result
+      or_is_zero l.wrong c.not-next2.result
           ∙ ap (λ (x : Bool). both x (eqb c.not-next2.result 0)) l.invariant.2
           ∙ ap (both (steps 1610612736 (take (l.i + 1) ws))) c.not-next2.ensures
-          ∙ sym (steps-more 1610612736 ws l.i (omega arith)),
+          ∙ sym (steps_more 1610612736 ws l.i (omega arith)),
     )
 
 returns-5 : tie.Need-returns-5 invariant-loop decreases-loop

@@ -1,22 +1,22 @@
 use Rattle.std.proofs.Common.{◌≡◌, ℕ, ◌-◌, ◌/◌, ◌%◌, ◌≤◌, length, get_or, take, set, refl, ap, ◌∙◌, arith, take_all, rules}
 use lib.Bits.{bit_or}
-use Rattle.frame.proofs.Words.{ids-from-set}
-use Rattle.frame.proofs.Ascents.{ascends-at, eight-fit, ids-four, ids_next, ids-run}
+use Rattle.frame.proofs.Words.{ids_from_set}
+use Rattle.frame.proofs.Ascents.{ascends_at, eight_fit, ids_four, ids_next, ids_run}
 use borrow.Author.Tests.{not-false}
-use Rattle.frame.specs.Words.{idsFrom}
+use Rattle.frame.specs.Words.{ids_from}
 use Rattle.frame.proofs.word.ids_from.Statement.{statement}
 use Rattle.frame.proofs.word.ids_from.Tie as tie
 
 -- z: at the start; l: at the loop's head; f: it is known whether four of one office begin here, r: whether a run does
 
 abbrev invariant-loop : tie.invariant-loop
-invariant-loop ws ids₀ i₀ ids i = (i ≤ length ws) × (ids ≡ idsFrom (take i ws))
+invariant-loop ws ids₀ i₀ ids i = (i ≤ length ws) × (ids ≡ ids_from (take i ws))
 
 abbrev decreases-loop : tie.decreases-loop
 decreases-loop ws ids₀ i₀ ids i = length ws - i
 
 loop-holds : tie.Need-loop-init invariant-loop decreases-loop
-unfolding idsFrom
+unfolding ids_from
 loop-holds c = (omega arith, refl)
 
 mul-w : tie.Need-overflow-mul-w invariant-loop decreases-loop
@@ -40,7 +40,7 @@ array-read-ids c = search rules
 bit-of-requires : tie.Need-bit-of-requires invariant-loop decreases-loop
 bit-of-requires c κs =
     let l = c.before.before.before.before in
-    let f = (ascends-at 8 0 l.before.before.args.ws.now l.before.before.requires l.loop.i (omega arith)).2 in
+    let f = (ascends_at 8 0 l.before.before.args.ws.now l.before.before.requires l.loop.i (omega arith)).2 in
     omega (arith, f.from)
 
 mul-ids-2 : tie.Need-overflow-mul-ids-2 invariant-loop decreases-loop
@@ -63,7 +63,7 @@ loop-again c =
     let ids = l.loop.ids in
     let i = l.loop.i in
     let is = l.loop.invariant.1 in
-    let eight = ap length is ∙ (ids-from-set (take i ws)).eight in
+    let eight = ap length is ∙ (ids_from_set (take i ws)).eight in
     let j = get_or ws i 0 / 256 % 8 in
     let put = ap (λ (x : ℕ). set ids j (bit_or (get_or ids j 0) x)) c.bit-of.ensures in
     (omega arith, put ∙ ids_next ws up ids eight i (omega arith) is)
@@ -80,7 +80,7 @@ array-read-with-eight c = search rules
 sub-with-eight : tie.Need-overflow-sub-with-eight invariant-loop decreases-loop
 sub-with-eight c =
     let l = c.before.before.before.before.before.before in
-    let f = (ascends-at 8 0 l.before.before.args.ws.now l.before.before.requires l.loop.i (omega arith)).2 in
+    let f = (ascends_at 8 0 l.before.before.args.ws.now l.before.before.requires l.loop.i (omega arith)).2 in
     omega (arith, f.from)
 
 with-eight-requires : tie.Need-with-eight-requires invariant-loop decreases-loop
@@ -92,9 +92,9 @@ with-eight-requires c κs =
     let ids = l.loop.ids in
     let i = l.loop.i in
     let is = l.loop.invariant.1 in
-    let eight = ap length is ∙ (ids-from-set (take i ws)).eight in
+    let eight = ap length is ∙ (ids_from_set (take i ws)).eight in
     let run = r.is-run.ensures c.if2.true in
-    eight-fit ws up ids eight i (omega arith) is run.0 run.1
+    eight_fit ws up ids eight i (omega arith) is run.0 run.1
 
 mul-ids-3 : tie.Need-overflow-mul-ids-3 invariant-loop decreases-loop
 mul-ids-3 c = search rules
@@ -117,10 +117,10 @@ loop-again-2 c =
     let ids = l.loop.ids in
     let i = l.loop.i in
     let is = l.loop.invariant.1 in
-    let eight = ap length is ∙ (ids-from-set (take i ws)).eight in
+    let eight = ap length is ∙ (ids_from_set (take i ws)).eight in
     let run = r.is-run.ensures c.before.if2.true in
     let put = ap (λ (x : ℕ). set ids (get_or ws i 0 / 256 % 8) x) c.with-eight.ensures in
-    (omega (arith, run.0), put ∙ ids-run ws up ids eight i (omega arith) is run.0 run.1)
+    (omega (arith, run.0), put ∙ ids_run ws up ids eight i (omega arith) is run.0 run.1)
 
 mul-with-four : tie.Need-overflow-mul-with-four invariant-loop decreases-loop
 mul-with-four c = search rules
@@ -155,13 +155,13 @@ loop-again-3 c =
     let ids = l.loop.ids in
     let i = l.loop.i in
     let is = l.loop.invariant.1 in
-    let eight = ap length is ∙ (ids-from-set (take i ws)).eight in
+    let eight = ap length is ∙ (ids_from_set (take i ws)).eight in
     let four = f.is-four.ensures (not-false _ t.if1.false) in
     let put = ap (λ (x : ℕ). set ids (get_or ws i 0 / 256 % 8) x) c.with-four.ensures in
-    (omega (arith, four.0), put ∙ ids-four ws up ids eight i (omega arith) is four.0 four.1)
+    (omega (arith, four.0), put ∙ ids_four ws up ids eight i (omega arith) is four.0 four.1)
 
 returns : tie.Need-returns invariant-loop decreases-loop
-returns c = c.before.loop.invariant.1 ∙ ap idsFrom (take_all c.before.loop.i c.before.before.before.args.ws.now (omega arith))
+returns c = c.before.loop.invariant.1 ∙ ap ids_from (take_all c.before.loop.i c.before.before.before.args.ws.now (omega arith))
 
 pub ids-from-spec : {M : Type 1} → statement M
 ids-from-spec =

@@ -1,5 +1,5 @@
 use Rattle.std.proofs.Common.{◌+◌, ◌-◌, get_or, arith, rules, eqb-true}
-use Rattle.causal.proofs.Tests.{false-true}
+use Rattle.causal.proofs.Tests.{false_true}
 use Rattle.frame.proofs.Ascents.{rises}
 use Rattle.frame.proofs.word.is_run.Statement.{statement}
 use Rattle.frame.proofs.word.is_run.Tie as tie
@@ -8,7 +8,7 @@ sub-if1 : tie.Need-overflow-sub-if1
 sub-if1 c = search rules
 
 returns : tie.Need-returns
-returns c = λ e. false-true e
+returns c = λ e. false_true e
 
 add-result : tie.Need-overflow-add-result
 add-result c = search rules

@@ -1,14 +1,14 @@
 use Rattle.std.proofs.Common.{◌≡◌, ℕ, ◌+◌, ◌-◌, ◌%◌, ◌≤◌, List, length, set, sym, refl, ap, ◌∙◌, arith, length-set, rules}
 use lib.Seq.{sets}
 use Rattle.causal.specs.Lists.{tab}
-use Rattle.causal.proofs.Lists.{sets-tab, tab-more}
-use Rattle.frame.specs.Words.{clockWord, clockWords, total}
+use Rattle.causal.proofs.Lists.{sets_tab, tab_more}
+use Rattle.frame.specs.Words.{clock_word, clock_words, total}
 use Rattle.frame.proofs.Words.{sum_more}
 use Rattle.frame.proofs.word.put_clock.Statement.{statement}
 use Rattle.frame.proofs.word.put_clock.Tie as tie
 
 abbrev invariant-loop : tie.invariant-loop
-invariant-loop n out₀ at clock sum₀ j₀ out sum j = (j ≤ n) × (length out ≡ length out₀) × (out ≡ sets out₀ at (tab j (clockWord clock))) × (sum % 268435456 ≡ total (tab j (clockWord clock)) % 268435456)
+invariant-loop n out₀ at clock sum₀ j₀ out sum j = (j ≤ n) × (length out ≡ length out₀) × (out ≡ sets out₀ at (tab j (clock_word clock))) × (sum % 268435456 ≡ total (tab j (clock_word clock)) % 268435456)
 
 abbrev decreases-loop : tie.decreases-loop
 decreases-loop n out₀ at clock sum₀ j₀ out sum j = n - j
@@ -49,15 +49,15 @@ loop-again c =
     let z = c.before.before.before.before.args in let l = c.before.before.loop in (
       omega arith,
       simp length-set l.invariant.1,
-      ap (λ (o : List ℕ). set o (z.at + l.j) (clockWord z.t1 l.j)) l.invariant.2 ∙ sets-tab z.out.now z.at (clockWord z.t1) l.j,
-      ap (λ (x : ℕ). x % 268435456) c.wrapping-add-u32.ensures ∙ sum_more l.sum (clockWord z.t1 l.j) (tab l.j (clockWord z.t1)) l.invariant.3 ∙ ap (λ (o : List ℕ). total o % 268435456) (sym (tab-more l.j (clockWord z.t1))),
+      ap (λ (o : List ℕ). set o (z.at + l.j) (clock_word z.t1 l.j)) l.invariant.2 ∙ sets_tab z.out.now z.at (clock_word z.t1) l.j,
+      ap (λ (x : ℕ). x % 268435456) c.wrapping-add-u32.ensures ∙ sum_more l.sum (clock_word z.t1 l.j) (tab l.j (clock_word z.t1)) l.invariant.3 ∙ ap (λ (o : List ℕ). total o % 268435456) (sym (tab_more l.j (clock_word z.t1))),
     )
 
 same_length : tie.Need-same-length invariant-loop decreases-loop
 same_length c = c.before.loop.invariant.1
 
 returns : tie.Need-returns invariant-loop decreases-loop
-unfolding clockWords
+unfolding clock_words
 returns c = let e : c.before.loop.j ≡ c.before.before.before.args.n = omega arith in (rw e at c.before.loop.invariant.3, rw e at c.before.loop.invariant.2)
 
 pub put-clock-spec : {M : Type 1} → statement M

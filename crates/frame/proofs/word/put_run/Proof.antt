@@ -1,7 +1,7 @@
 use Rattle.std.proofs.Common.{◌≡◌, ℕ, ◌+◌, ◌-◌, ◌%◌, ◌≤◌, List, length, set, sym, refl, ap, ◌∙◌, arith, length-set, rules}
 use lib.Seq.{sets}
 use Rattle.causal.specs.Lists.{tab}
-use Rattle.causal.proofs.Lists.{sets-tab, tab-more}
+use Rattle.causal.proofs.Lists.{sets_tab, tab_more}
 use Rattle.frame.specs.Words.{total}
 use Rattle.frame.proofs.Words.{sum_more}
 use Rattle.frame.proofs.word.put_run.Statement.{statement}
@@ -46,8 +46,8 @@ loop-again c =
     let z = c.before.before.before.before.args in let l = c.before.before.loop in (
       omega arith,
       simp length-set l.invariant.1,
-      ap (λ (o : List ℕ). set o (z.at + l.i) (z.first + l.i)) l.invariant.2 ∙ sets-tab z.out.now z.at (λ (k : ℕ). z.first + k) l.i,
-      ap (λ (x : ℕ). x % 268435456) c.wrapping-add-u32.ensures ∙ sum_more l.sum (z.first + l.i) (tab l.i (λ (k : ℕ). z.first + k)) l.invariant.3 ∙ ap (λ (o : List ℕ). total o % 268435456) (sym (tab-more l.i (λ (k : ℕ). z.first + k))),
+      ap (λ (o : List ℕ). set o (z.at + l.i) (z.first + l.i)) l.invariant.2 ∙ sets_tab z.out.now z.at (λ (k : ℕ). z.first + k) l.i,
+      ap (λ (x : ℕ). x % 268435456) c.wrapping-add-u32.ensures ∙ sum_more l.sum (z.first + l.i) (tab l.i (λ (k : ℕ). z.first + k)) l.invariant.3 ∙ ap (λ (o : List ℕ). total o % 268435456) (sym (tab_more l.i (λ (k : ℕ). z.first + k))),
     )
 
 same_length : tie.Need-same-length invariant-loop decreases-loop

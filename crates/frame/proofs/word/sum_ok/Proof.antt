@@ -3,7 +3,7 @@ use borrow.Author.Tests.{not-false}
 use Rattle.causal.specs.Tests.{both}
 use Rattle.frame.specs.Words.{payload}
 use Rattle.causal.proofs.Chain.{chain}
-use Rattle.frame.specs.Reading.{sumOk}
+use Rattle.frame.specs.Reading.{sum_ok}
 use Rattle.frame.proofs.word.sum_ok.Statement.{statement}
 use Rattle.frame.proofs.word.sum_ok.Tie as tie
 
@@ -20,7 +20,7 @@ kind-is-requires : tie.Need-kind-is-requires
 kind-is-requires c κs = search rules
 
 returns : tie.Need-returns
-unfolding sumOk
+unfolding sum_ok
 returns c = search (chain, arith) depth 9
 
 slice-aggregate-check-sum : tie.Need-slice-aggregate-check-sum
@@ -30,7 +30,7 @@ check-sum-requires : tie.Need-check-sum-requires
 check-sum-requires c κs = search rules
 
 returns-2 : tie.Need-returns-2
-unfolding sumOk both
+unfolding sum_ok both
 returns-2 c = rw (sym c.before.before.before.kind-is.ensures ∙ not-false _ c.before.before.if1.false) (ap (eqb (payload (get_or c.before.before.before.before.before.before.args.ws.now (length c.before.before.before.before.before.before.args.ws.now - 1) 0))) c.check-sum.ensures)
 
 pub sum-ok-spec : {M : Type 1} → statement M

@@ -1,6 +1,6 @@
 use Rattle.causal.proofs.Bits.{one_shl}
-use Rattle.frame.specs.Reading.{eightBits}
-use Rattle.frame.proofs.Ascents.{pow-shl}
+use Rattle.frame.specs.Reading.{eight_bits}
+use Rattle.frame.proofs.Ascents.{pow_shl}
 use Rattle.std.proofs.Common.{refl, arith, rules}
 use Rattle.frame.proofs.word.with_eight.Statement.{statement}
 use Rattle.frame.proofs.word.with_eight.Tie as tie
@@ -30,8 +30,8 @@ shl-result-8 : tie.Need-overflow-shl-result-8
 shl-result-8 c = search rules
 
 returns : tie.Need-returns
-unfolding eightBits
-returns c = let b = c.args.b in rw (one_shl b (omega arith), pow-shl 1 b (omega arith), pow-shl 2 b (omega arith), pow-shl 3 b (omega arith), pow-shl 4 b (omega arith), pow-shl 5 b (omega arith), pow-shl 6 b (omega arith), pow-shl 7 b (omega arith)) refl
+unfolding eight_bits
+returns c = let b = c.args.b in rw (one_shl b (omega arith), pow_shl 1 b (omega arith), pow_shl 2 b (omega arith), pow_shl 3 b (omega arith), pow_shl 4 b (omega arith), pow_shl 5 b (omega arith), pow_shl 6 b (omega arith), pow_shl 7 b (omega arith)) refl
 
 pub with-eight-spec : {M : Type 1} → statement M
 with-eight-spec =

@@ -1,6 +1,6 @@
 use Rattle.std.proofs.Common.{◌+◌, refl, arith, rules}
-use Rattle.frame.specs.Reading.{fourBits}
-use Rattle.frame.proofs.Ascents.{ascends-at}
+use Rattle.frame.specs.Reading.{four_bits}
+use Rattle.frame.proofs.Ascents.{ascends_at}
 use Rattle.frame.proofs.word.with_four.Statement.{statement}
 use Rattle.frame.proofs.word.with_four.Tie as tie
 
@@ -13,7 +13,7 @@ shared-slice-read-bit-of c = search rules
 bit-of-requires : tie.Need-bit-of-requires
 bit-of-requires c κs =
     let z = c.before.before in
-    let f = (ascends-at 8 0 z.args.ws.now z.requires.1 z.args.i (omega (arith, z.requires.0))).2 in
+    let f = (ascends_at 8 0 z.args.ws.now z.requires.1 z.args.i (omega (arith, z.requires.0))).2 in
     omega (arith, f.from)
 
 add-bit-of : tie.Need-overflow-add-bit-of
@@ -28,7 +28,7 @@ shared-slice-read-bit-of-2 c = search rules
 bit-of-requires-2 : tie.Need-bit-of-requires-2
 bit-of-requires-2 c κs =
     let z = c.before.before.before.before in
-    let f = (ascends-at 8 0 z.args.ws.now z.requires.1 (z.args.i + 1) (omega (arith, z.requires.0))).2 in
+    let f = (ascends_at 8 0 z.args.ws.now z.requires.1 (z.args.i + 1) (omega (arith, z.requires.0))).2 in
     omega (arith, f.from)
 
 add-bit-of-2 : tie.Need-overflow-add-bit-of-2
@@ -43,7 +43,7 @@ shared-slice-read-bit-of-3 c = search rules
 bit-of-requires-3 : tie.Need-bit-of-requires-3
 bit-of-requires-3 c κs =
     let z = c.before.before.before.before.before.before in
-    let f = (ascends-at 8 0 z.args.ws.now z.requires.1 (z.args.i + 2) (omega (arith, z.requires.0))).2 in
+    let f = (ascends_at 8 0 z.args.ws.now z.requires.1 (z.args.i + 2) (omega (arith, z.requires.0))).2 in
     omega (arith, f.from)
 
 add-bit-of-3 : tie.Need-overflow-add-bit-of-3
@@ -58,11 +58,11 @@ shared-slice-read-bit-of-4 c = search rules
 bit-of-requires-4 : tie.Need-bit-of-requires-4
 bit-of-requires-4 c κs =
     let z = c.before.before.before.before.before.before.before.before in
-    let f = (ascends-at 8 0 z.args.ws.now z.requires.1 (z.args.i + 3) (omega (arith, z.requires.0))).2 in
+    let f = (ascends_at 8 0 z.args.ws.now z.requires.1 (z.args.i + 3) (omega (arith, z.requires.0))).2 in
     omega (arith, f.from)
 
 returns : tie.Need-returns
-unfolding fourBits
+unfolding four_bits
 returns c =
     rw (c.bit-of4.ensures, c.before.before.bit-of3.ensures, c.before.before.before.before.bit-of2.ensures, c.before.before.before.before.before.before.bit-of.ensures) refl
 

@@ -1,11 +1,11 @@
 use Rattle.std.proofs.Common.{ℕ, leb, length, sym, ap, arith, rules, le-leb}
-use Rattle.frame.specs.Frames.{frameWords}
-use Rattle.frame.proofs.Turns.{frame-most}
+use Rattle.frame.specs.Frames.{frame_words}
+use Rattle.frame.proofs.Turns.{frame_most}
 use Rattle.frame.proofs.writer.has_room.Statement.{statement}
 use Rattle.frame.proofs.writer.has_room.Tie as tie
 
 returns : tie.Need-returns
-returns c = let z = c.before in sym (le-leb (length (frameWords z.args.f)) z.args.room (omega (arith, frame-most z.args.f z.requires, c.if1.true)))
+returns c = let z = c.before in sym (le-leb (length (frame_words z.args.f)) z.args.room (omega (arith, frame_most z.args.f z.requires, c.if1.true)))
 
 words-of-requires : tie.Need-words-of-requires
 words-of-requires c κs = search rules

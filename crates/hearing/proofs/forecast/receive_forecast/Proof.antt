@@ -4,13 +4,13 @@ use mathlib.Core.Path.{◌≡◌, sym, ap, ◌∙◌}
 use lib.ListN.{length, get_or}
 use borrow.Author.Tests.{not-true, not-false}
 use Rattle.frame.specs.Refusals.{Reply}
-use Rattle.frame.specs.Frames.{frame_of, frameOk, frameWords}
-use Rattle.frame.proofs.Back.{accepted-ok, accepted-written}
-use Rattle.store.specs.Offices.{officeOf}
+use Rattle.frame.specs.Frames.{frame_of, frame_ok, frame_words}
+use Rattle.frame.proofs.Back.{accepted_ok, accepted_written}
+use Rattle.store.specs.Offices.{office_of}
 use Rattle.store.proofs.Rules.{laid}
-use Rattle.office.specs.Calls.{receiveCode}
-use Rattle.hearing.proofs.Forecasts.{receive-number}
-use Rattle.hearing.proofs.Receives.{receive-unsound, ring, receive-format, read-accepted, read-frame}
+use Rattle.office.specs.Calls.{receive_code}
+use Rattle.hearing.proofs.Forecasts.{receive_number}
+use Rattle.hearing.proofs.Receives.{receive_unsound, ring, receive_format, read_accepted, read_frame_lem}
 use borrow.Author.Rules.{rules}
 use Rattle.hearing.proofs.forecast.receive_forecast.Statement.{statement}
 use Rattle.hearing.proofs.forecast.receive_forecast.Tie as tie
@@ -23,7 +23,7 @@ returns c = let s = c.before.before.before.before in
     let ws = s.args.store.now in
     let fr = s.args.frame.now in
     let t = sym c.before.is-sound.ensures ∙ not-true _ c.if1.true in
-    λ row l. ap (λ (r : Reply). r.code) (receive-unsound ws fr row t).0
+    λ row l. ap (λ (r : Reply). r.code) (receive_unsound ws fr row t).0
 
 shared-slice-read-frame-from : tie.Need-shared-slice-read-frame-from
 shared-slice-read-frame-from c = let s = c.before.before.before.before.before in
@@ -46,7 +46,7 @@ returns-2 c = let s = c.before.before.before.before.before.before.before.before.
     let ws = s.args.store.now in
     let fr = s.args.frame.now in
     let t = sym c.before.before.before.before.before.before.is-sound.ensures ∙ not-false _ c.before.before.before.before.before.if1.false in
-    λ row l. ap (λ (r : Reply). r.code) (receive-format ws fr row t _ c.before.before.frame-from.ensures c.if2.true).0
+    λ row l. ap (λ (r : Reply). r.code) (receive_format ws fr row t _ c.before.before.frame-from.ensures c.if2.true).0
 
 set-at-requires : tie.Need-set-at-requires
 set-at-requires c κs = let s = c.before.before.before.before.before.before.before.before.before in
@@ -61,12 +61,12 @@ receive-code-requires c κs = let s = c.before.before.before.before.before.befor
     let fr = s.args.frame.now in
     let t = sym c.before.before.before.before.before.before.before.is-sound.ensures ∙ not-false _ c.before.before.before.before.before.before.if1.false in
     let q = c.before.before.before.frame-from.ensures in
-    let a = read-accepted ws fr fr t _ q c.before.if2.false in
-    let e : c.before.before.before.frame-from.result ≡ frame_of fr = read-frame ws fr fr t _ q c.before.if2.false in (
+    let a = read_accepted ws fr fr t _ q c.before.if2.false in
+    let e : c.before.before.before.frame-from.result ≡ frame_of fr = read_frame_lem ws fr fr t _ q c.before.if2.false in (
       t,
       c.set_at.ensures,
-      ap (frameOk (get_or ws 0 0) (get_or ws 2 0)) e ∙ accepted-ok (get_or ws 0 0) (get_or ws 2 0) fr a,
-      ap length (accepted-written (get_or ws 0 0) (get_or ws 2 0) fr a ∙ ap frameWords (sym e)),
+      ap (frame_ok (get_or ws 0 0) (get_or ws 2 0)) e ∙ accepted_ok (get_or ws 0 0) (get_or ws 2 0) fr a,
+      ap length (accepted_written (get_or ws 0 0) (get_or ws 2 0) fr a ∙ ap frame_words (sym e)),
     )
 
 returns-3 : tie.Need-returns-3
@@ -75,9 +75,9 @@ returns-3 c = let s = c.before.before.before.before.before.before.before.before.
     let fr = s.args.frame.now in
     let t = sym c.before.before.before.before.before.before.before.before.is-sound.ensures ∙ not-false _ c.before.before.before.before.before.before.before.if1.false in
     let q = c.before.before.before.before.frame-from.ensures in
-    let a = read-accepted ws fr fr t _ q c.before.before.if2.false in
-    let e : c.before.before.before.before.frame-from.result ≡ frame_of fr = read-frame ws fr fr t _ q c.before.before.if2.false in
-    λ row l. c.receive-code.ensures ∙ (λ i. receiveCode (officeOf ws) (e i) (sym l i)) ∙ receive-number ws fr row t a
+    let a = read_accepted ws fr fr t _ q c.before.before.if2.false in
+    let e : c.before.before.before.before.frame-from.result ≡ frame_of fr = read_frame_lem ws fr fr t _ q c.before.before.if2.false in
+    λ row l. c.receive-code.ensures ∙ (λ i. receive_code (office_of ws) (e i) (sym l i)) ∙ receive_number ws fr row t a
 
 pub receive-forecast-spec : {M : Type 1} → statement M
 receive-forecast-spec =

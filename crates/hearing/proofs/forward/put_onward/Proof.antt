@@ -3,7 +3,7 @@ use Prim.Native.Nat.{ℕ, ◌+◌, ◌-◌, ◌%◌, ◌<◌, ◌≤◌}
 use mathlib.Core.Path.{ap, ◌∙◌}
 use mathlib.Core.List.{List}
 use lib.ListN.{length, get_or, set, length-set}
-use Rattle.hearing.proofs.Forwards.{long, head-large, check-large, onward-laid}
+use Rattle.hearing.proofs.Forwards.{long, head_large, check_large, onward_laid}
 use borrow.Author.Rules.{rules}
 use Rattle.hearing.proofs.forward.put_onward.Statement.{statement}
 use Rattle.hearing.proofs.forward.put_onward.Tie as tie
@@ -24,7 +24,7 @@ shared-slice-read-out c = let s = c.before.before.before.before.before.before.be
 sub_out : tie.Need-overflow-sub-out
 sub_out c = let s = c.before.before.before.before.before.before.before in
     let fr = s.args.frame.now in
-    let h : 4096 ≤ get_or fr 0 0 = head-large fr s.requires.0 in search rules
+    let h : 4096 ≤ get_or fr 0 0 = head_large fr s.requires.0 in search rules
 
 slice-write-out : tie.Need-slice-write-out
 slice-write-out c = let s = c.before.before.before.before.before.before.before in
@@ -43,7 +43,7 @@ shared-slice-read-out-2 c = let s = c.before.before.before.before.before.before.
 sub-out-2 : tie.Need-overflow-sub-out-2
 sub-out-2 c = let s = c.before.before.before.before.before.before.before.before in
     let fr = s.args.frame.now in
-    let h : 4096 ≤ get_or fr (length fr - 1) 0 = check-large fr s.requires.0 in search rules
+    let h : 4096 ≤ get_or fr (length fr - 1) 0 = check_large fr s.requires.0 in search rules
 
 add-out : tie.Need-overflow-add-out
 add-out c = search rules
@@ -65,7 +65,7 @@ returns c = let s = c.before.before.before.before.before.before.before.before in
     let fr = s.args.frame.now in
     let out = s.args.out.now in
     ap (λ (l : List ℕ). set (set l 0 (get_or fr 0 0 - 4096)) (length fr - 1) (4026531840 + (get_or fr (length fr - 1) 0 - 4096) % 268435456)) c.before.before.before.before.copy-words.ensures
-    ∙ onward-laid fr out s.requires.0 s.requires.1 s.requires.2
+    ∙ onward_laid fr out s.requires.0 s.requires.1 s.requires.2
 
 pub put-onward-spec : {M : Type 1} → statement M
 put-onward-spec =

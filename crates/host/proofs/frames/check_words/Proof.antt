@@ -2,20 +2,20 @@ use mathlib.Core.List.{List}
 use native.Mathlib.Nat.{zero-add}
 use lib.ListN.{length, set, replicate, length-set}
 use lib.Seq.{sets, length-take-le}
-use Rattle.causal.proofs.Lists.{sets-tab}
-use Rattle.frame.specs.Calls.{readFrameCode}
+use Rattle.causal.proofs.Lists.{sets_tab}
+use Rattle.frame.specs.Calls.{read_frame_code}
 use Rattle.host.proofs.Bytes.{filled}
 use native.Mathlib.Omega.{arith}
 use Prim.Native.Nat.{ℕ, ◌-◌, ◌≤◌}
 use mathlib.Core.Path.{◌≡◌, refl, sym, ap, ◌∙◌}
 use Rattle.causal.specs.Lists.{tab}
-use Rattle.host.specs.Bytes.{wordAt}
+use Rattle.host.specs.Bytes.{word_at}
 use borrow.Author.Rules.{rules}
 use Rattle.host.proofs.frames.check_words.Statement.{statement}
 use Rattle.host.proofs.frames.check_words.Tie as tie
 
 abbrev invariant-loop : tie.invariant-loop
-invariant-loop bytes n offices plots row₀ i₀ row i = (i ≤ n) × (length row ≡ 267) × (row ≡ sets (replicate 267 0) 0 (tab i (wordAt bytes)))
+invariant-loop bytes n offices plots row₀ i₀ row i = (i ≤ n) × (length row ≡ 267) × (row ≡ sets (replicate 267 0) 0 (tab i (word_at bytes)))
 
 abbrev decreases-loop : tie.decreases-loop
 decreases-loop bytes n offices plots row₀ i₀ row i = n - i
@@ -46,9 +46,9 @@ loop-again c =
       omega arith,
       simp length-set l.invariant.1,
       ap (λ (r : List ℕ). set r l.i c.word_at.result) l.invariant.2
-          ∙ ap (set (sets (replicate {A = ℕ} 267 0) 0 (tab l.i (wordAt bs))) l.i) c.word_at.ensures
-          ∙ ap (λ (k : ℕ). set (sets (replicate {A = ℕ} 267 0) 0 (tab l.i (wordAt bs))) k (wordAt bs l.i)) (sym (zero-add l.i))
-          ∙ sets-tab (replicate {A = ℕ} 267 0) 0 (wordAt bs) l.i,
+          ∙ ap (set (sets (replicate {A = ℕ} 267 0) 0 (tab l.i (word_at bs))) l.i) c.word_at.ensures
+          ∙ ap (λ (k : ℕ). set (sets (replicate {A = ℕ} 267 0) 0 (tab l.i (word_at bs))) k (word_at bs l.i)) (sym (zero-add l.i))
+          ∙ sets_tab (replicate {A = ℕ} 267 0) 0 (word_at bs) l.i,
     )
 
 array-share-prefix-row : tie.Need-array-share-prefix-row invariant-loop decreases-loop
@@ -67,8 +67,8 @@ returns : tie.Need-returns invariant-loop decreases-loop
 returns c = let z = c.before.before.before.before.before.before in
     let l = c.before.before.before.before.loop in
     let e : l.i ≡ z.args.n = omega arith in
-    let f : l.row ≡ sets (replicate 267 0) 0 (tab z.args.n (wordAt z.args.bytes.now)) = rw e at l.invariant.2 in
-    c.code_of_lem.ensures ∙ c.before.read-frame.ensures.0 ∙ ap (readFrameCode z.args.offices z.args.plots) (filled z.args.bytes.now l.row z.args.n z.requires.0 f)
+    let f : l.row ≡ sets (replicate 267 0) 0 (tab z.args.n (word_at z.args.bytes.now)) = rw e at l.invariant.2 in
+    c.code_of_lem.ensures ∙ c.before.read_frame_lem.ensures.0 ∙ ap (read_frame_code z.args.offices z.args.plots) (filled z.args.bytes.now l.row z.args.n z.requires.0 f)
 
 pub check-words-spec : {M : Type 1} → statement M
 check-words-spec =

@@ -1,5 +1,5 @@
 use native.Mathlib.Omega.{arith}
-use Rattle.host.specs.Bytes.{wordAt}
+use Rattle.host.specs.Bytes.{word_at}
 use borrow.Author.Rules.{rules}
 use Rattle.host.proofs.frames.word_at.Statement.{statement}
 use Rattle.host.proofs.frames.word_at.Tie as tie
@@ -59,7 +59,7 @@ add-result-3 : tie.Need-overflow-add-result-3
 add-result-3 c = search rules
 
 returns : tie.Need-returns
-unfolding wordAt
+unfolding word_at
 returns c = omega (arith, c.before.before.before.before.before.before.wide.ensures.0, c.before.before.before.before.wide2.ensures.0, c.before.before.wide3.ensures.0, c.wide4.ensures.0)
 
 pub word-at-spec : {M : Type 1} → statement M

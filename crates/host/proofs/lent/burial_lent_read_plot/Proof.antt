@@ -44,13 +44,13 @@ use denote.Triple.Table.{entered, cited}
 use denote.Triple.Walked.{says, Stays, stay_ref, stay_none, gave_slice, walk_of, AllGo, Goes-ref, Goes-none, Goes-gave_slice, Walks, ends_at, walked, walk_Meets}
 use denote.Exit.{yes}
 use denote.Signature.{plain}
-use Rattle.office.specs.Decide.{alone, withSeen}
+use Rattle.office.specs.Decide.{alone, with_seen}
 use Rattle.office.specs.Promises.{ReadPromise}
-use Rattle.reading.specs.Releases.{rowLeft, withRest}
+use Rattle.reading.specs.Releases.{row_left, with_rest}
 use Rattle.frame.specs.declared.entry.Entry.{Entry}
 use Rattle.host.specs.Flags.{is_set}
-use Rattle.office.proofs.Alone.{is-alone}
-use Rattle.host.proofs.Fields.{Held, clock-is, clock-val, read_is, read-val}
+use Rattle.office.proofs.Alone.{is_alone}
+use Rattle.host.proofs.Fields.{Held, clock_is, clock_val, read_is, read_val}
 use Rattle.frame.specs.declared.session.Session.{Session}
 use Rattle.frame.specs.contracts.session.Session as T-Session
 use Rattle.frame.proofs.session.Session.TheLaws as T-Session'
@@ -99,97 +99,97 @@ abbrev Said : List ℕ → Session → ℕ → PlotFound → Session → List �
 Said x-store x-s x-plot n t z-store = (n.found ≤ 1) × ReadPromise x-store x-s x-plot n.refusal (is_set n.found) n.entry t z-store
 
 abbrev CarryingSays : List ℕ → Session → ℕ → PlotLeft → List ℕ → Type 0
-CarryingSays x-store x-s x-plot r z-store = (r.answer.found ≤ 1) × (r.moved ≡ true → x-s.count ≤ 16) × ReadPromise x-store x-s x-plot r.answer.refusal (is_set r.answer.found) r.answer.entry (withRest x-s (record { clock = r.clock; read = r.read }) (record { gone = r.gone; left = r.count; moved = r.moved })) z-store
+CarryingSays x-store x-s x-plot r z-store = (r.answer.found ≤ 1) × (r.moved ≡ true → x-s.count ≤ 16) × ReadPromise x-store x-s x-plot r.answer.refusal (is_set r.answer.found) r.answer.entry (with_rest x-s (record { clock = r.clock; read = r.read }) (record { gone = r.gone; left = r.count; moved = r.moved })) z-store
 
 abbrev AloneSays : List ℕ → ℕ → List ℕ → List ℕ → ℕ → PlotDone → List ℕ → Type 0
-AloneSays x-store offices clock read x-plot r z-store = (r.answer.found ≤ 1) × ((own : List Entry) → ReadPromise x-store (alone offices clock read own) x-plot r.answer.refusal (is_set r.answer.found) r.answer.entry (withSeen (alone offices clock read own) (record { clock = r.clock; read = r.read })) z-store)
+AloneSays x-store offices clock read x-plot r z-store = (r.answer.found ≤ 1) × ((own : List Entry) → ReadPromise x-store (alone offices clock read own) x-plot r.answer.refusal (is_set r.answer.found) r.answer.entry (with_seen (alone offices clock read own) (record { clock = r.clock; read = r.read })) z-store)
 
 abbrev MovedSays : Session → PlotLeft → Session → Type 0
-MovedSays x-s r t = t ≡ withRest x-s (record { clock = r.clock; read = r.read }) (record { gone = r.gone; left = r.count; moved = true })
+MovedSays x-s r t = t ≡ with_rest x-s (record { clock = r.clock; read = r.read }) (record { gone = r.gone; left = r.count; moved = true })
 
 -- `s` where it carried nothing: the fields that are written, and the others as they were
-abbrev done-s : Session → PlotDone → Session
-done-s x r = record { offices = x.offices; clock = r.clock; read = r.read; count = x.count; own = x.own }
+abbrev done_s : Session → PlotDone → Session
+done_s x r = record { offices = x.offices; clock = r.clock; read = r.read; count = x.count; own = x.own }
 
-done-s-is : (x : Session) (r : PlotDone) (w : Val) → Held x → Is T-PlotDone.the_row r (w ∷ []) → Held (done-s x r)
-done-s-is x r w g is =
+done_s_is : (x : Session) (r : PlotDone) (w : Val) → Held x → Is T-PlotDone.the_row r (w ∷ []) → Held (done_s x r)
+done_s_is x r w g is =
     let old = LL.owed T-Session.the_type T-Session'.the_laws x _ g in
     let new = LL.owed T-PlotDone.the_type T-PlotDone'.the_laws r (w ∷ []) is in
-    LL.owes T-Session.the_type T-Session'.the_laws (done-s x r) (old.0, (new.1.0, (new.1.1.0, (old.1.1.1.0, (old.1.1.1.1.0, tt)))))
+    LL.owes T-Session.the_type T-Session'.the_laws (done_s x r) (old.0, (new.1.0, (new.1.1.0, (old.1.1.1.0, (old.1.1.1.1.0, tt)))))
 
-done-is : (x : Session) (r : PlotDone) → done-s x r ≡ withSeen x (record { clock = r.clock; read = r.read })
-unfolding withSeen
-done-is x r = refl
+done_is : (x : Session) (r : PlotDone) → done_s x r ≡ with_seen x (record { clock = r.clock; read = r.read })
+unfolding with_seen
+done_is x r = refl
 
 -- `s` where no own write moves
-abbrev next-s : Session → PlotLeft → Session
-next-s x r = record { offices = x.offices; clock = r.clock; read = r.read; count = r.count; own = x.own }
+abbrev next_s : Session → PlotLeft → Session
+next_s x r = record { offices = x.offices; clock = r.clock; read = r.read; count = r.count; own = x.own }
 
-next-s-is : (x : Session) (r : PlotLeft) (w : Val) → Held x → Is T-PlotLeft.the_row r (w ∷ []) → Held (next-s x r)
-next-s-is x r w g is =
+next_s_is : (x : Session) (r : PlotLeft) (w : Val) → Held x → Is T-PlotLeft.the_row r (w ∷ []) → Held (next_s x r)
+next_s_is x r w g is =
     let old = LL.owed T-Session.the_type T-Session'.the_laws x _ g in
     let new = LL.owed T-PlotLeft.the_type T-PlotLeft'.the_laws r (w ∷ []) is in
-    LL.owes T-Session.the_type T-Session'.the_laws (next-s x r) (old.0, (new.1.0, (new.1.1.0, (new.1.1.1.0, (old.1.1.1.1.0, tt)))))
+    LL.owes T-Session.the_type T-Session'.the_laws (next_s x r) (old.0, (new.1.0, (new.1.1.0, (new.1.1.1.0, (old.1.1.1.1.0, tt)))))
 
-next-is : (x : Session) (r : PlotLeft) → r.moved ≡ false → next-s x r ≡ withRest x (record { clock = r.clock; read = r.read }) (record { gone = r.gone; left = r.count; moved = r.moved })
-unfolding withRest rowLeft
-next-is x r stays = subst (λ (b : Bool). next-s x r ≡ withRest x (record { clock = r.clock; read = r.read }) (record { gone = r.gone; left = r.count; moved = b })) (sym stays) refl
+next_is : (x : Session) (r : PlotLeft) → r.moved ≡ false → next_s x r ≡ with_rest x (record { clock = r.clock; read = r.read }) (record { gone = r.gone; left = r.count; moved = r.moved })
+unfolding with_rest row_left
+next_is x r stays = subst (λ (b : Bool). next_s x r ≡ with_rest x (record { clock = r.clock; read = r.read }) (record { gone = r.gone; left = r.count; moved = b })) (sym stays) refl
 
-said-alone : (x-store : List ℕ) (x-s : Session) (x-plot : ℕ) (r : PlotDone) (z-store : List ℕ) → x-s.count ≡ 0 → AloneSays x-store x-s.offices x-s.clock x-s.read x-plot r z-store → Said x-store x-s x-plot r.answer (done-s x-s r) z-store
-said-alone x-store x-s x-plot r z-store none e =
-    let q = subst (λ (s : Session). Said x-store s x-plot r.answer (withSeen s (record { clock = r.clock; read = r.read })) z-store) (is-alone x-s none) (e.0, e.1 x-s.own) in
-    (q.0, (q.1.0, q.1.1, q.1.2, done-is x-s r ∙ q.1.3, q.1.4))
+said_alone : (x-store : List ℕ) (x-s : Session) (x-plot : ℕ) (r : PlotDone) (z-store : List ℕ) → x-s.count ≡ 0 → AloneSays x-store x-s.offices x-s.clock x-s.read x-plot r z-store → Said x-store x-s x-plot r.answer (done_s x-s r) z-store
+said_alone x-store x-s x-plot r z-store none e =
+    let q = subst (λ (s : Session). Said x-store s x-plot r.answer (with_seen s (record { clock = r.clock; read = r.read })) z-store) (is_alone x-s none) (e.0, e.1 x-s.own) in
+    (q.0, (q.1.0, q.1.1, q.1.2, done_is x-s r ∙ q.1.3, q.1.4))
 
-said-moved : (x-store : List ℕ) (x-s : Session) (x-plot : ℕ) (r : PlotLeft) (t : Session) (z-store : List ℕ) → r.moved ≡ true → MovedSays x-s r t → CarryingSays x-store x-s x-plot r z-store → Said x-store x-s x-plot r.answer t z-store
-said-moved x-store x-s x-plot r t z-store moves m e = (e.0, (e.2.0, e.2.1, e.2.2, m ∙ ap (λ (b : Bool). withRest x-s (record { clock = r.clock; read = r.read }) (record { gone = r.gone; left = r.count; moved = b })) (sym moves) ∙ e.2.3, e.2.4))
+said_moved : (x-store : List ℕ) (x-s : Session) (x-plot : ℕ) (r : PlotLeft) (t : Session) (z-store : List ℕ) → r.moved ≡ true → MovedSays x-s r t → CarryingSays x-store x-s x-plot r z-store → Said x-store x-s x-plot r.answer t z-store
+said_moved x-store x-s x-plot r t z-store moves m e = (e.0, (e.2.0, e.2.1, e.2.2, m ∙ ap (λ (b : Bool). with_rest x-s (record { clock = r.clock; read = r.read }) (record { gone = r.gone; left = r.count; moved = b })) (sym moves) ∙ e.2.3, e.2.4))
 
-said-next : (x-store : List ℕ) (x-s : Session) (x-plot : ℕ) (r : PlotLeft) (z-store : List ℕ) → r.moved ≡ false → CarryingSays x-store x-s x-plot r z-store → Said x-store x-s x-plot r.answer (next-s x-s r) z-store
-said-next x-store x-s x-plot r z-store stays e = (e.0, (e.2.0, e.2.1, e.2.2, next-is x-s r stays ∙ e.2.3, e.2.4))
+said_next : (x-store : List ℕ) (x-s : Session) (x-plot : ℕ) (r : PlotLeft) (z-store : List ℕ) → r.moved ≡ false → CarryingSays x-store x-s x-plot r z-store → Said x-store x-s x-plot r.answer (next_s x-s r) z-store
+said_next x-store x-s x-plot r z-store stays e = (e.0, (e.2.0, e.2.1, e.2.2, next_is x-s r stays ∙ e.2.3, e.2.4))
 
-done-answer-is : (r : PlotDone) (w : Val) → Is T-PlotDone.the_row r (w ∷ []) → Is T-PlotFound.the_row r.answer (LL.val T-PlotFound.the_type T-PlotFound'.the_laws r.answer ∷ [])
-done-answer-is r w is = (LL.owed T-PlotDone.the_type T-PlotDone'.the_laws r (w ∷ []) is).0
+done_answer_is : (r : PlotDone) (w : Val) → Is T-PlotDone.the_row r (w ∷ []) → Is T-PlotFound.the_row r.answer (LL.val T-PlotFound.the_type T-PlotFound'.the_laws r.answer ∷ [])
+done_answer_is r w is = (LL.owed T-PlotDone.the_type T-PlotDone'.the_laws r (w ∷ []) is).0
 
-left-answer-is : (r : PlotLeft) (w : Val) → Is T-PlotLeft.the_row r (w ∷ []) → Is T-PlotFound.the_row r.answer (LL.val T-PlotFound.the_type T-PlotFound'.the_laws r.answer ∷ [])
-left-answer-is r w is = (LL.owed T-PlotLeft.the_type T-PlotLeft'.the_laws r (w ∷ []) is).0
+left_answer_is : (r : PlotLeft) (w : Val) → Is T-PlotLeft.the_row r (w ∷ []) → Is T-PlotFound.the_row r.answer (LL.val T-PlotFound.the_type T-PlotFound'.the_laws r.answer ∷ [])
+left_answer_is r w is = (LL.owed T-PlotLeft.the_type T-PlotLeft'.the_laws r (w ∷ []) is).0
 
-abbrev left-clock : PlotLeft → Val
-left-clock r = (T-PlotLeft'.the_laws).1.0.val ((T-PlotLeft.the_type).to r).1.0
+abbrev left_clock : PlotLeft → Val
+left_clock r = (T-PlotLeft'.the_laws).1.0.val ((T-PlotLeft.the_type).to r).1.0
 
-abbrev left-read : PlotLeft → Val
-left-read r = (T-PlotLeft'.the_laws).1.1.0.val ((T-PlotLeft.the_type).to r).1.1.0
+abbrev left_read : PlotLeft → Val
+left_read r = (T-PlotLeft'.the_laws).1.1.0.val ((T-PlotLeft.the_type).to r).1.1.0
 
-abbrev left-count : PlotLeft → Val
-left-count r = (T-PlotLeft'.the_laws).1.1.1.0.val ((T-PlotLeft.the_type).to r).1.1.1.0
+abbrev left_count : PlotLeft → Val
+left_count r = (T-PlotLeft'.the_laws).1.1.1.0.val ((T-PlotLeft.the_type).to r).1.1.1.0
 
-abbrev left-gone : PlotLeft → Val
-left-gone r = (T-PlotLeft'.the_laws).1.1.1.1.1.0.val ((T-PlotLeft.the_type).to r).1.1.1.1.1.0
+abbrev left_gone : PlotLeft → Val
+left_gone r = (T-PlotLeft'.the_laws).1.1.1.1.1.0.val ((T-PlotLeft.the_type).to r).1.1.1.1.1.0
 
-left-clock-is : (r : PlotLeft) (w : Val) → Is T-PlotLeft.the_row r (w ∷ []) → Is (Array u32 8) r.clock (left-clock r ∷ [])
-left-clock-is r w is = subst (λ (ns : List ℕ). Is (Array u32 8) ns (left-clock r ∷ [])) (map-id r.clock) (LL.owed T-PlotLeft.the_type T-PlotLeft'.the_laws r (w ∷ []) is).1.0
+left_clock_is : (r : PlotLeft) (w : Val) → Is T-PlotLeft.the_row r (w ∷ []) → Is (Array u32 8) r.clock (left_clock r ∷ [])
+left_clock_is r w is = subst (λ (ns : List ℕ). Is (Array u32 8) ns (left_clock r ∷ [])) (map-id r.clock) (LL.owed T-PlotLeft.the_type T-PlotLeft'.the_laws r (w ∷ []) is).1.0
 
-left-read-is : (r : PlotLeft) (w : Val) → Is T-PlotLeft.the_row r (w ∷ []) → Is (Array u32 8) r.read (left-read r ∷ [])
-left-read-is r w is = subst (λ (ns : List ℕ). Is (Array u32 8) ns (left-read r ∷ [])) (map-id r.read) (LL.owed T-PlotLeft.the_type T-PlotLeft'.the_laws r (w ∷ []) is).1.1.0
+left_read_is : (r : PlotLeft) (w : Val) → Is T-PlotLeft.the_row r (w ∷ []) → Is (Array u32 8) r.read (left_read r ∷ [])
+left_read_is r w is = subst (λ (ns : List ℕ). Is (Array u32 8) ns (left_read r ∷ [])) (map-id r.read) (LL.owed T-PlotLeft.the_type T-PlotLeft'.the_laws r (w ∷ []) is).1.1.0
 
-left-gone-is : (r : PlotLeft) (w : Val) → Is T-PlotLeft.the_row r (w ∷ []) → Is (Array bool 16) r.gone (left-gone r ∷ [])
-left-gone-is r w is = subst (λ (ns : List Bool). Is (Array bool 16) ns (left-gone r ∷ [])) (map-id r.gone) (LL.owed T-PlotLeft.the_type T-PlotLeft'.the_laws r (w ∷ []) is).1.1.1.1.1.0
+left_gone_is : (r : PlotLeft) (w : Val) → Is T-PlotLeft.the_row r (w ∷ []) → Is (Array bool 16) r.gone (left_gone r ∷ [])
+left_gone_is r w is = subst (λ (ns : List Bool). Is (Array bool 16) ns (left_gone r ∷ [])) (map-id r.gone) (LL.owed T-PlotLeft.the_type T-PlotLeft'.the_laws r (w ∷ []) is).1.1.1.1.1.0
 
-session-is : (t : Session) (v : Val) → Is T-Session.the_row t (v ∷ []) → Held t
-session-is t v is = subst (λ (vs : List Val). Is T-Session.the_row t vs) (LL.tells T-Session.the_type T-Session'.the_laws t _ is) is
+session_is : (t : Session) (v : Val) → Is T-Session.the_row t (v ∷ []) → Held t
+session_is t v is = subst (λ (vs : List Val). Is T-Session.the_row t vs) (LL.tells T-Session.the_type T-Session'.the_laws t _ is) is
 
 module _ {M : Type 1} {𝓤 : Ura M} (𝓛 : Logic 𝓤) (at_mem : Memory → SProp 𝓤) (run : Routine → Fun 𝓤) (κ-store : Lft) (q-store : Share) (b-store o-store : ℕ) (γ-store : GName) (x-store : List ℕ) (room_store : Room u32 (length x-store)) (κ-s : Lft) (q-s : Share) (b_s o-s : ℕ) (γ-s : GName) (x-s : Session) (x-plot : ℕ) where
   open 𝓛 use {H}
 
-  abbrev ref-store : MutBor (List ℕ)
-  ref-store = record { ref_ptr = (b-store, o-store); ghost_name = γ-store; now = x-store }
+  abbrev ref_store : MutBor (List ℕ)
+  ref_store = record { ref_ptr = (b-store, o-store); ghost_name = γ-store; now = x-store }
 
-  abbrev ref-s : MutBor Session
-  ref-s = record { ref_ptr = (b_s, o-s); ghost_name = γ-s; now = x-s }
+  abbrev ref_s : MutBor Session
+  ref_s = record { ref_ptr = (b_s, o-s); ghost_name = γ-s; now = x-s }
 
   abbrev Arg : Type 0
   Arg = MutBor (List ℕ) × (MutBor Session × (ℕ × Unit {0}))
 
   abbrev a : Arg
-  a = (ref-store, (ref-s, (x-plot, tt)))
+  a = (ref_store, (ref_s, (x-plot, tt)))
 
   abbrev vals : List Val × (List Val × (List Val × Unit {0}))
   vals = (slice_val (b-store, o-store) (length x-store) ∷ [], (vptr b_s o-s ∷ [], (vint w32 x-plot ∷ [], tt)))
@@ -197,26 +197,26 @@ module _ {M : Type 1} {𝓤 : Ura M} (𝓛 : Logic 𝓤) (at_mem : Memory → SP
   abbrev Post : Val → SProp 𝓤
   Post = (walk_of 𝓛 f.ended stayed (f.clauses 𝓛 at_mem run)).post (((κ-store, (κ-s, tt)), (q-store, (q-s, tt)), tt, a, vals), tt)
 
-  abbrev to-alone : (Alone 𝓛 at_mem run).Ghost
-  to-alone = (((κ-store, tt), (q-store, tt), tt, (ref-store, (x-s.offices, (x-s.clock, (x-s.read, (x-plot, tt))))), (slice_val (b-store, o-store) (length x-store) ∷ [], (vint w32 x-s.offices ∷ [], (clock-val x-s ∷ [], (read-val x-s ∷ [], (vint w32 x-plot ∷ [], tt)))))), tt)
+  abbrev to_alone : (Alone 𝓛 at_mem run).Ghost
+  to_alone = (((κ-store, tt), (q-store, tt), tt, (ref_store, (x-s.offices, (x-s.clock, (x-s.read, (x-plot, tt))))), (slice_val (b-store, o-store) (length x-store) ∷ [], (vint w32 x-s.offices ∷ [], (clock_val x-s ∷ [], (read_val x-s ∷ [], (vint w32 x-plot ∷ [], tt)))))), tt)
 
-  abbrev to-carrying : (Carrying 𝓛 at_mem run).Ghost
-  to-carrying = (((κ-store, tt), (q-store, tt), tt, (ref-store, (x-s, (x-plot, tt))), (slice_val (b-store, o-store) (length x-store) ∷ [], (LL.val T-Session.the_type T-Session'.the_laws x-s ∷ [], (vint w32 x-plot ∷ [], tt)))), tt)
+  abbrev to_carrying : (Carrying 𝓛 at_mem run).Ghost
+  to_carrying = (((κ-store, tt), (q-store, tt), tt, (ref_store, (x-s, (x-plot, tt))), (slice_val (b-store, o-store) (length x-store) ∷ [], (LL.val T-Session.the_type T-Session'.the_laws x-s ∷ [], (vint w32 x-plot ∷ [], tt)))), tt)
 
-  abbrev to-moved : PlotLeft → (Moved 𝓛 at_mem run).Ghost
-  to-moved r = ((tt, tt, tt, (x-s, (r.clock, (r.read, (r.count, (r.gone, tt))))), (LL.val T-Session.the_type T-Session'.the_laws x-s ∷ [], (left-clock r ∷ [], (left-read r ∷ [], (left-count r ∷ [], (left-gone r ∷ [], tt)))))), tt)
+  abbrev to_moved : PlotLeft → (Moved 𝓛 at_mem run).Ghost
+  to_moved r = ((tt, tt, tt, (x-s, (r.clock, (r.read, (r.count, (r.gone, tt))))), (LL.val T-Session.the_type T-Session'.the_laws x-s ∷ [], (left_clock r ∷ [], (left_read r ∷ [], (left_count r ∷ [], (left_gone r ∷ [], tt)))))), tt)
 
-  goes-alone : x-plot < 2 ^ 32 → Held x-s → ent 𝓤 (⋆ 𝓛 (‵ (flft κ-store q-store) ∷ ‵ ((MutSlice (named 0) κ-store u32).own_val ref-store (slice_val (b-store, o-store) (length x-store) ∷ [])) ∷ [])) ((Alone 𝓛 at_mem run).pre to-alone)
-  goes-alone fits-plot g-s =
-      qed 𝓛 (‵ (flft κ-store q-store) ∷ ‵ ((MutSlice (named 0) κ-store u32).own_val ref-store (slice_val (b-store, o-store) (length x-store) ∷ [])) ∷ []) ∵ nothing ! $ owned ! u32 (Is u32) (uint_Makes 𝓛 w32) x-plot _ (refl, fits-plot) $ fjoin ! $ owned ! (Array u32 8) (Is (Array u32 8)) (Array-Makes 𝓛 u32 (uint_Makes 𝓛 w32) 8) x-s.read _ (read_is x-s g-s) $ fjoin ! $ owned ! (Array u32 8) (Is (Array u32 8)) (Array-Makes 𝓛 u32 (uint_Makes 𝓛 w32) 8) x-s.clock _ (clock-is x-s g-s) $ fjoin ! $ owned ! u32 (Is u32) (uint_Makes 𝓛 w32) x-s.offices _ (LL.owed T-Session.the_type T-Session'.the_laws x-s _ g-s).0 $ fjoin ! $ move ! (2 ∷ 0 ∷ []) $ fjoin ! $ nothing ! $ move ! (2 ∷ 0 ∷ []) $ join ! $ join ! $ frame ! $ done !
+  goes_alone : x-plot < 2 ^ 32 → Held x-s → ent 𝓤 (⋆ 𝓛 (‵ (flft κ-store q-store) ∷ ‵ ((MutSlice (named 0) κ-store u32).own_val ref_store (slice_val (b-store, o-store) (length x-store) ∷ [])) ∷ [])) ((Alone 𝓛 at_mem run).pre to_alone)
+  goes_alone fits-plot g-s =
+      qed 𝓛 (‵ (flft κ-store q-store) ∷ ‵ ((MutSlice (named 0) κ-store u32).own_val ref_store (slice_val (b-store, o-store) (length x-store) ∷ [])) ∷ []) ∵ nothing ! $ owned ! u32 (Is u32) (uint_Makes 𝓛 w32) x-plot _ (refl, fits-plot) $ fjoin ! $ owned ! (Array u32 8) (Is (Array u32 8)) (Array-Makes 𝓛 u32 (uint_Makes 𝓛 w32) 8) x-s.read _ (read_is x-s g-s) $ fjoin ! $ owned ! (Array u32 8) (Is (Array u32 8)) (Array-Makes 𝓛 u32 (uint_Makes 𝓛 w32) 8) x-s.clock _ (clock_is x-s g-s) $ fjoin ! $ owned ! u32 (Is u32) (uint_Makes 𝓛 w32) x-s.offices _ (LL.owed T-Session.the_type T-Session'.the_laws x-s _ g-s).0 $ fjoin ! $ move ! (2 ∷ 0 ∷ []) $ fjoin ! $ nothing ! $ move ! (2 ∷ 0 ∷ []) $ join ! $ join ! $ frame ! $ done !
 
-  goes-carrying : x-plot < 2 ^ 32 → Held x-s → ent 𝓤 (⋆ 𝓛 (‵ (flft κ-store q-store) ∷ ‵ ((MutSlice (named 0) κ-store u32).own_val ref-store (slice_val (b-store, o-store) (length x-store) ∷ [])) ∷ [])) ((Carrying 𝓛 at_mem run).pre to-carrying)
-  goes-carrying fits-plot g-s =
-      qed 𝓛 (‵ (flft κ-store q-store) ∷ ‵ ((MutSlice (named 0) κ-store u32).own_val ref-store (slice_val (b-store, o-store) (length x-store) ∷ [])) ∷ []) ∵ nothing ! $ owned ! u32 (Is u32) (uint_Makes 𝓛 w32) x-plot _ (refl, fits-plot) $ fjoin ! $ owned ! T-Session.the_row (Is T-Session.the_row) (LL.makes T-Session.the_type T-Session'.the_plain 𝓛) x-s _ g-s $ fjoin ! $ move ! (2 ∷ 0 ∷ []) $ fjoin ! $ nothing ! $ move ! (2 ∷ 0 ∷ []) $ join ! $ join ! $ frame ! $ done !
+  goes_carrying : x-plot < 2 ^ 32 → Held x-s → ent 𝓤 (⋆ 𝓛 (‵ (flft κ-store q-store) ∷ ‵ ((MutSlice (named 0) κ-store u32).own_val ref_store (slice_val (b-store, o-store) (length x-store) ∷ [])) ∷ [])) ((Carrying 𝓛 at_mem run).pre to_carrying)
+  goes_carrying fits-plot g-s =
+      qed 𝓛 (‵ (flft κ-store q-store) ∷ ‵ ((MutSlice (named 0) κ-store u32).own_val ref_store (slice_val (b-store, o-store) (length x-store) ∷ [])) ∷ []) ∵ nothing ! $ owned ! u32 (Is u32) (uint_Makes 𝓛 w32) x-plot _ (refl, fits-plot) $ fjoin ! $ owned ! T-Session.the_row (Is T-Session.the_row) (LL.makes T-Session.the_type T-Session'.the_plain 𝓛) x-s _ g-s $ fjoin ! $ move ! (2 ∷ 0 ∷ []) $ fjoin ! $ nothing ! $ move ! (2 ∷ 0 ∷ []) $ join ! $ join ! $ frame ! $ done !
 
-  goes_moved : (r : PlotLeft) (w : Val) → Held x-s → Is T-PlotLeft.the_row r (w ∷ []) → x-s.count ≤ 16 → ent 𝓤 (⋆ 𝓛 (‵ ftrue ∷ [])) ((Moved 𝓛 at_mem run).pre (to-moved r))
+  goes_moved : (r : PlotLeft) (w : Val) → Held x-s → Is T-PlotLeft.the_row r (w ∷ []) → x-s.count ≤ 16 → ent 𝓤 (⋆ 𝓛 (‵ ftrue ∷ [])) ((Moved 𝓛 at_mem run).pre (to_moved r))
   goes_moved r w g-s is few =
-      qed 𝓛 (‵ ftrue ∷ []) ∵ drop ! $ says ! few $ nothing ! $ owned ! (Array bool 16) (Is (Array bool 16)) (Array-Makes 𝓛 bool (bool_Makes 𝓛) 16) r.gone _ (left-gone-is r w is) $ fjoin ! $ owned ! usize (Is usize) (uint_Makes 𝓛 w64) r.count _ (LL.owed T-PlotLeft.the_type T-PlotLeft'.the_laws r (w ∷ []) is).1.1.1.0 $ fjoin ! $ owned ! (Array u32 8) (Is (Array u32 8)) (Array-Makes 𝓛 u32 (uint_Makes 𝓛 w32) 8) r.read _ (left-read-is r w is) $ fjoin ! $ owned ! (Array u32 8) (Is (Array u32 8)) (Array-Makes 𝓛 u32 (uint_Makes 𝓛 w32) 8) r.clock _ (left-clock-is r w is) $ fjoin ! $ owned ! T-Session.the_row (Is T-Session.the_row) (LL.makes T-Session.the_type T-Session'.the_plain 𝓛) x-s _ g-s $ fjoin ! $ nothing ! $ frame ! $ done !
+      qed 𝓛 (‵ ftrue ∷ []) ∵ drop ! $ says ! few $ nothing ! $ owned ! (Array bool 16) (Is (Array bool 16)) (Array-Makes 𝓛 bool (bool_Makes 𝓛) 16) r.gone _ (left_gone_is r w is) $ fjoin ! $ owned ! usize (Is usize) (uint_Makes 𝓛 w64) r.count _ (LL.owed T-PlotLeft.the_type T-PlotLeft'.the_laws r (w ∷ []) is).1.1.1.0 $ fjoin ! $ owned ! (Array u32 8) (Is (Array u32 8)) (Array-Makes 𝓛 u32 (uint_Makes 𝓛 w32) 8) r.read _ (left_read_is r w is) $ fjoin ! $ owned ! (Array u32 8) (Is (Array u32 8)) (Array-Makes 𝓛 u32 (uint_Makes 𝓛 w32) 8) r.clock _ (left_clock_is r w is) $ fjoin ! $ owned ! T-Session.the_row (Is T-Session.the_row) (LL.makes T-Session.the_type T-Session'.the_plain 𝓛) x-s _ g-s $ fjoin ! $ nothing ! $ frame ! $ done !
 
   exits : (n : PlotFound) (t : Session) (z-store : List ℕ) → x-plot < 2 ^ 32 → Is T-PlotFound.the_row n (LL.val T-PlotFound.the_type T-PlotFound'.the_laws n ∷ []) → Said x-store x-s x-plot n t z-store → length z-store ≡ length x-store → ent 𝓤 (⋆ 𝓛 (‵ (finally u32 γ-store z-store) ∷ ‵ (fobs γ-s ((T-Session.the_row).coded.code t)) ∷ ‵ (fbor κ-s (Body (mem T-Session.the_row) b_s o-s γ-s)) ∷ ‵ (flft κ-store q-store) ∷ ‵ (flft κ-s q-s) ∷ [])) (Post (LL.val T-PlotFound.the_type T-PlotFound'.the_laws n))
   exits n t z-store fits-plot g-n e l-store =
@@ -234,43 +234,43 @@ module _ {M : Type 1} {𝓤 : Ura M} (𝓛 : Logic 𝓤) (at_mem : Memory → SP
         assigns ! (of_opd ! (load ! (from ! (hop ! (look ! 37 refl) (fld ! refl (stop !)))) (look_in ! 1 (sub ! 3 refl (whole !))))) (from ! (stop !)) (init ! 29 refl (((T-Session'.the_laws).1.1.1.0.lawful 𝓛).typed ((T-Session.the_type).to x-s).1.1.1.0 _ (LL.owed T-Session.the_type T-Session'.the_laws x-s _ g-s).1.1.1.0).0) $ assigns ! (bin ! (load ! (from ! (stop !)) (look ! 29 refl)) (lit ! tt) tt) (from ! (stop !)) (init ! 27 refl (tt, tt)) $
         first ! $ branches ! {y = eqb x-s.count 0} (load ! (from ! (stop !)) (look ! 27 refl))
         -- it carries nothing
-        (λ on. assigns ! (addr ! (from ! (fld ! refl (hop ! (look_in ! 39 (sub ! 0 refl (whole !))) (stop !))))) (from ! (stop !)) (init ! 25 refl (tt, tt)) $ assigns ! (agg ! (and_then ! (load ! (from ! (stop !)) (look ! 25 refl)) (and_then ! (load ! (from ! (fld ! refl (stop !))) (look_in ! 39 (sub ! 1 refl (whole !)))) (no_more !)))) (from ! (stop !)) (init ! 23 refl (tt, (tt, (record { fits = room_store.0 }, tt)))) $ assigns ! (of_opd ! (load ! (from ! (hop ! (look ! 37 refl) (fld ! refl (stop !)))) (look_in ! 1 (sub ! 0 refl (whole !))))) (from ! (stop !)) (init ! 21 refl (((T-Session'.the_laws).0.lawful 𝓛).typed ((T-Session.the_type).to x-s).0 _ (LL.owed T-Session.the_type T-Session'.the_laws x-s _ g-s).0).0) $ assigns ! (of_opd ! (load ! (from ! (hop ! (look ! 37 refl) (fld ! refl (stop !)))) (look_in ! 1 (sub ! 1 refl (whole !))))) (from ! (stop !)) (init ! 19 refl (((T-Session'.the_laws).1.0.lawful 𝓛).typed ((T-Session.the_type).to x-s).1.0 _ (LL.owed T-Session.the_type T-Session'.the_laws x-s _ g-s).1.0).0) $ assigns ! (of_opd ! (load ! (from ! (hop ! (look ! 37 refl) (fld ! refl (stop !)))) (look_in ! 1 (sub ! 2 refl (whole !))))) (from ! (stop !)) (init ! 17 refl (((T-Session'.the_laws).1.1.0.lawful 𝓛).typed ((T-Session.the_type).to x-s).1.1.0 _ (LL.owed T-Session.the_type T-Session'.the_laws x-s _ g-s).1.1.0).0) $ move ! (5 ∷ 6 ∷ []) $ use2 𝓛 (raw ((Alone 𝓛 at_mem run).pre to-alone)) (goes-alone fits-plot g-s) $
-        calls_at ! fm (Alone 𝓛 at_mem run) Known-alone to-alone (and_then ! (load ! (from ! (stop !)) (look ! 22 refl)) (and_then ! (load ! (from ! (stop !)) (look ! 20 refl)) (and_then ! (load ! (from ! (stop !)) (look ! 18 refl)) (and_then ! (load ! (from ! (stop !)) (look ! 16 refl)) (and_then ! (load ! (from ! (stop !)) (look ! 34 refl)) (no_more !)))))) (λ w.
-        use1 𝓛 (later (some (λ (r : PlotDone). ((‵ (flft κ-store q-store) ⊛ ‵ ftrue) ⊛ ‵ ((T-PlotDone.the_row).own_val r (w ∷ []))) ⊛ raw (ensured 𝓛 alone.ended (alone.clauses 𝓛 at_mem run) (κ-store, tt) (ref-store, (x-s.offices, (x-s.clock, (x-s.read, (x-plot, tt))))) tt r)))) (id⊢ 𝓤 _) $ await ! tt $ pick ! (λ r. split ! $ move ! (1 ∷ []) $ use1 𝓛 (some (λ (zs : List ℕ × (Unit {0} × (Unit {0} × (Unit {0} × (Unit {0} × Unit {0}))))). ‵ (lasts alone.ended (κ-store, tt) (ref-store, (x-s.offices, (x-s.clock, (x-s.read, (x-plot, tt))))) zs) ⊛ raw (fact 𝓤 (AloneSays x-store x-s.offices x-s.clock x-s.read x-plot r zs.0)))) (id⊢ 𝓤 _) $ pick ! (λ zs. split ! $ move ! (1 ∷ []) $ heard ! (AloneSays x-store x-s.offices x-s.clock x-s.read x-plot r zs.0) (λ e. fsplit ! $ fsplit ! $ move ! (1 ∷ []) $ feq_l ! (λ l-store. move ! (1 ∷ []) $ drop ! $ move ! (1 ∷ []) $ split ! $ move ! (1 ∷ []) $ peeks ! T-PlotDone.the_row (Is T-PlotDone.the_row) (shows 𝓛 T-PlotDone.the_row) r (w ∷ []) (λ is.
+        (λ on. assigns ! (addr ! (from ! (fld ! refl (hop ! (look_in ! 39 (sub ! 0 refl (whole !))) (stop !))))) (from ! (stop !)) (init ! 25 refl (tt, tt)) $ assigns ! (agg ! (and_then ! (load ! (from ! (stop !)) (look ! 25 refl)) (and_then ! (load ! (from ! (fld ! refl (stop !))) (look_in ! 39 (sub ! 1 refl (whole !)))) (no_more !)))) (from ! (stop !)) (init ! 23 refl (tt, (tt, (record { fits = room_store.0 }, tt)))) $ assigns ! (of_opd ! (load ! (from ! (hop ! (look ! 37 refl) (fld ! refl (stop !)))) (look_in ! 1 (sub ! 0 refl (whole !))))) (from ! (stop !)) (init ! 21 refl (((T-Session'.the_laws).0.lawful 𝓛).typed ((T-Session.the_type).to x-s).0 _ (LL.owed T-Session.the_type T-Session'.the_laws x-s _ g-s).0).0) $ assigns ! (of_opd ! (load ! (from ! (hop ! (look ! 37 refl) (fld ! refl (stop !)))) (look_in ! 1 (sub ! 1 refl (whole !))))) (from ! (stop !)) (init ! 19 refl (((T-Session'.the_laws).1.0.lawful 𝓛).typed ((T-Session.the_type).to x-s).1.0 _ (LL.owed T-Session.the_type T-Session'.the_laws x-s _ g-s).1.0).0) $ assigns ! (of_opd ! (load ! (from ! (hop ! (look ! 37 refl) (fld ! refl (stop !)))) (look_in ! 1 (sub ! 2 refl (whole !))))) (from ! (stop !)) (init ! 17 refl (((T-Session'.the_laws).1.1.0.lawful 𝓛).typed ((T-Session.the_type).to x-s).1.1.0 _ (LL.owed T-Session.the_type T-Session'.the_laws x-s _ g-s).1.1.0).0) $ move ! (5 ∷ 6 ∷ []) $ use2 𝓛 (raw ((Alone 𝓛 at_mem run).pre to_alone)) (goes_alone fits-plot g-s) $
+        calls_at ! fm (Alone 𝓛 at_mem run) Known-alone to_alone (and_then ! (load ! (from ! (stop !)) (look ! 22 refl)) (and_then ! (load ! (from ! (stop !)) (look ! 20 refl)) (and_then ! (load ! (from ! (stop !)) (look ! 18 refl)) (and_then ! (load ! (from ! (stop !)) (look ! 16 refl)) (and_then ! (load ! (from ! (stop !)) (look ! 34 refl)) (no_more !)))))) (λ w.
+        use1 𝓛 (later (some (λ (r : PlotDone). ((‵ (flft κ-store q-store) ⊛ ‵ ftrue) ⊛ ‵ ((T-PlotDone.the_row).own_val r (w ∷ []))) ⊛ raw (ensured 𝓛 alone.ended (alone.clauses 𝓛 at_mem run) (κ-store, tt) (ref_store, (x-s.offices, (x-s.clock, (x-s.read, (x-plot, tt))))) tt r)))) (id⊢ 𝓤 _) $ await ! tt $ pick ! (λ r. split ! $ move ! (1 ∷ []) $ use1 𝓛 (some (λ (zs : List ℕ × (Unit {0} × (Unit {0} × (Unit {0} × (Unit {0} × Unit {0}))))). ‵ (lasts alone.ended (κ-store, tt) (ref_store, (x-s.offices, (x-s.clock, (x-s.read, (x-plot, tt))))) zs) ⊛ raw (fact 𝓤 (AloneSays x-store x-s.offices x-s.clock x-s.read x-plot r zs.0)))) (id⊢ 𝓤 _) $ pick ! (λ zs. split ! $ move ! (1 ∷ []) $ heard ! (AloneSays x-store x-s.offices x-s.clock x-s.read x-plot r zs.0) (λ e. fsplit ! $ fsplit ! $ move ! (1 ∷ []) $ feq_l ! (λ l-store. move ! (1 ∷ []) $ drop ! $ move ! (1 ∷ []) $ split ! $ move ! (1 ∷ []) $ peeks ! T-PlotDone.the_row (Is T-PlotDone.the_row) (shows 𝓛 T-PlotDone.the_row) r (w ∷ []) (λ is.
         -- [result; btoks; fin:store; held:s; cell:s; obor:s; obs:s; auth:s; 8: _17; 10: _16; 12: _15; 14: _14; 16: _13; 18: _12; 20: _11; 22: _10; 24: _9; 26: _8; 28: _7; 30: _6; 32: _5; 34: _4; 36: _3; 38: _2; 40: _1; 42: _0]
         land ! (from ! (stop !)) (init ! 34 refl ((LL.lawful T-PlotDone.the_type T-PlotDone'.the_laws 𝓛).typed r _ is).0) $ rewrite ! 34 (λ (u : Val). ‵ (fat full_share T-PlotDone'.mir l-4 0 u)) (ap only (LL.tells T-PlotDone.the_type T-PlotDone'.the_laws r _ is)) refl $
         assigns ! (of_opd ! (load ! (from ! (fld ! refl (stop !))) (look_in ! 34 (sub ! 1 refl (whole !))))) (from ! (hop ! (look ! 38 refl) (fld ! refl (stop !)))) (store_in ! 4 (sub ! 1 refl (whole !)) (((T-PlotDone'.the_laws).1.0.lawful 𝓛).typed ((T-PlotDone.the_type).to r).1.0 _ (LL.owed T-PlotDone.the_type T-PlotDone'.the_laws r (w ∷ []) is).1.0).0) $
         assigns ! (of_opd ! (load ! (from ! (fld ! refl (stop !))) (look_in ! 34 (sub ! 2 refl (whole !))))) (from ! (hop ! (look ! 38 refl) (fld ! refl (stop !)))) (store_in ! 4 (sub ! 2 refl (whole !)) (((T-PlotDone'.the_laws).1.1.0.lawful 𝓛).typed ((T-PlotDone.the_type).to r).1.1.0 _ (LL.owed T-PlotDone.the_type T-PlotDone'.the_laws r (w ∷ []) is).1.1.0).0) $
-        assigns ! (of_opd ! (load ! (from ! (fld ! refl (stop !))) (look_in ! 34 (sub ! 0 refl (whole !))))) (from ! (stop !)) (init ! 42 refl ((LL.lawful T-PlotFound.the_type T-PlotFound'.the_laws 𝓛).typed r.answer _ (done-answer-is r w is)).0) $ move ! (3 ∷ []) $ drop ! $ owned ! T-Session.the_row (Is T-Session.the_row) (LL.makes T-Session.the_type T-Session'.the_plain 𝓛) (done-s x-s r) _ (done-s-is x-s r w g-s is) $ move ! (4 ∷ 0 ∷ 5 ∷ 6 ∷ 7 ∷ []) $ closes ! tt T-Session.the_row (done-s x-s r) (LL.val T-Session.the_type T-Session'.the_laws (done-s x-s r) ∷ []) b_s o-s $ move ! (4 ∷ []) $ split ! $ move ! (1 ∷ []) $ drop ! $ move ! (4 ∷ []) $ drop ! $
+        assigns ! (of_opd ! (load ! (from ! (fld ! refl (stop !))) (look_in ! 34 (sub ! 0 refl (whole !))))) (from ! (stop !)) (init ! 42 refl ((LL.lawful T-PlotFound.the_type T-PlotFound'.the_laws 𝓛).typed r.answer _ (done_answer_is r w is)).0) $ move ! (3 ∷ []) $ drop ! $ owned ! T-Session.the_row (Is T-Session.the_row) (LL.makes T-Session.the_type T-Session'.the_plain 𝓛) (done_s x-s r) _ (done_s_is x-s r w g-s is) $ move ! (4 ∷ 0 ∷ 5 ∷ 6 ∷ 7 ∷ []) $ closes ! tt T-Session.the_row (done_s x-s r) (LL.val T-Session.the_type T-Session'.the_laws (done_s x-s r) ∷ []) b_s o-s $ move ! (4 ∷ []) $ split ! $ move ! (1 ∷ []) $ drop ! $ move ! (4 ∷ []) $ drop ! $
         -- [tok:store; obs:s; bor:s; tok:s; fin:store; 5: _17; 7: _16; 9: _15; 11: _14; 13: _13; 15: _12; 17: _11; 19: _10; 21: _9; 23: _8; 25: _7; 27: _6; 29: _5; 31: _4; 33: _3; 35: _2; 37: _1; 39: _0]
-        returns_within ! Post refl (look ! 39 refl) $ forget ! 15 refl $ forget ! 17 refl $ forget ! 19 refl $ forget ! 21 refl $ forget ! 23 refl $ forget ! 25 refl $ forget ! 27 refl $ forget ! 31 refl $ forget ! 33 refl $ forget ! 35 refl $ forget ! 37 refl $ forget ! 39 refl $ move ! (39 ∷ 40 ∷ []) $ free1 ! $ move ! (37 ∷ 38 ∷ []) $ free1 ! $ move ! (35 ∷ 36 ∷ []) $ free1 ! $ move ! (33 ∷ 34 ∷ []) $ free1 ! $ move ! (31 ∷ 32 ∷ []) $ free1 ! $ move ! (29 ∷ 30 ∷ []) $ free1 ! $ move ! (27 ∷ 28 ∷ []) $ free1 ! $ move ! (25 ∷ 26 ∷ []) $ free1 ! $ move ! (23 ∷ 24 ∷ []) $ free1 ! $ move ! (21 ∷ 22 ∷ []) $ free1 ! $ move ! (19 ∷ 20 ∷ []) $ free1 ! $ move ! (17 ∷ 18 ∷ []) $ free1 ! $ move ! (15 ∷ 16 ∷ []) $ free1 ! $ move ! (13 ∷ 14 ∷ []) $ free1 ! $ move ! (11 ∷ 12 ∷ []) $ free1 ! $ move ! (9 ∷ 10 ∷ []) $ free1 ! $ move ! (7 ∷ 8 ∷ []) $ free1 ! $ move ! (5 ∷ 6 ∷ []) $ free1 ! $ free0 ! $ keep ! (4 ∷ 1 ∷ 2 ∷ 0 ∷ 3 ∷ []) $ by ! (exits r.answer (done-s x-s r) zs.0 fits-plot (done-answer-is r w is) (said-alone x-store x-s x-plot r zs.0 (eqb-true x-s.count 0 (is_true (eqb x-s.count 0) on)) e) l-store))))))))
+        returns_within ! Post refl (look ! 39 refl) $ forget ! 15 refl $ forget ! 17 refl $ forget ! 19 refl $ forget ! 21 refl $ forget ! 23 refl $ forget ! 25 refl $ forget ! 27 refl $ forget ! 31 refl $ forget ! 33 refl $ forget ! 35 refl $ forget ! 37 refl $ forget ! 39 refl $ move ! (39 ∷ 40 ∷ []) $ free1 ! $ move ! (37 ∷ 38 ∷ []) $ free1 ! $ move ! (35 ∷ 36 ∷ []) $ free1 ! $ move ! (33 ∷ 34 ∷ []) $ free1 ! $ move ! (31 ∷ 32 ∷ []) $ free1 ! $ move ! (29 ∷ 30 ∷ []) $ free1 ! $ move ! (27 ∷ 28 ∷ []) $ free1 ! $ move ! (25 ∷ 26 ∷ []) $ free1 ! $ move ! (23 ∷ 24 ∷ []) $ free1 ! $ move ! (21 ∷ 22 ∷ []) $ free1 ! $ move ! (19 ∷ 20 ∷ []) $ free1 ! $ move ! (17 ∷ 18 ∷ []) $ free1 ! $ move ! (15 ∷ 16 ∷ []) $ free1 ! $ move ! (13 ∷ 14 ∷ []) $ free1 ! $ move ! (11 ∷ 12 ∷ []) $ free1 ! $ move ! (9 ∷ 10 ∷ []) $ free1 ! $ move ! (7 ∷ 8 ∷ []) $ free1 ! $ move ! (5 ∷ 6 ∷ []) $ free1 ! $ free0 ! $ keep ! (4 ∷ 1 ∷ 2 ∷ 0 ∷ 3 ∷ []) $ by ! (exits r.answer (done_s x-s r) zs.0 fits-plot (done_answer_is r w is) (said_alone x-store x-s x-plot r zs.0 (eqb-true x-s.count 0 (is_true (eqb x-s.count 0) on)) e) l-store))))))))
         -- it carries own writes
         (λ past. let En : Env 𝓤 H = ((_, l-0) ∷ (_, l-1) ∷ (_, l-2) ∷ (_, l-3) ∷ (_, l-4) ∷ (_, l-5) ∷ (_, l-6) ∷ (_, l-7) ∷ (_, l-8) ∷ (_, l-9) ∷ (_, l-10) ∷ (_, l-11) ∷ (_, l-12) ∷ (_, l-13) ∷ (_, l-14) ∷ (_, l-15) ∷ (_, l-16) ∷ (_, l-17) ∷ []) in skips ! $ exec ! C Λ En pieces.t-4 (at_ret En Post) $
-        assigns ! (addr ! (from ! (fld ! refl (hop ! (look_in ! 39 (sub ! 0 refl (whole !))) (stop !))))) (from ! (stop !)) (init ! 15 refl (tt, tt)) $ assigns ! (agg ! (and_then ! (load ! (from ! (stop !)) (look ! 15 refl)) (and_then ! (load ! (from ! (fld ! refl (stop !))) (look_in ! 39 (sub ! 1 refl (whole !)))) (no_more !)))) (from ! (stop !)) (init ! 13 refl (tt, (tt, (record { fits = room_store.0 }, tt)))) $ assigns ! (of_opd ! (load ! (from ! (hop ! (look ! 37 refl) (stop !))) (look_raw ! 1 refl))) (from ! (stop !)) (init ! 11 refl ((LL.lawful T-Session.the_type T-Session'.the_laws 𝓛).typed x-s _ g-s).0) $ move ! (5 ∷ 6 ∷ []) $ use2 𝓛 (raw ((Carrying 𝓛 at_mem run).pre to-carrying)) (goes-carrying fits-plot g-s) $
-        calls_at ! fm (Carrying 𝓛 at_mem run) known-carrying to-carrying (and_then ! (load ! (from ! (stop !)) (look ! 12 refl)) (and_then ! (load ! (from ! (stop !)) (look ! 10 refl)) (and_then ! (load ! (from ! (stop !)) (look ! 34 refl)) (no_more !)))) (λ w.
-        use1 𝓛 (later (some (λ (r : PlotLeft). ((‵ (flft κ-store q-store) ⊛ ‵ ftrue) ⊛ ‵ ((T-PlotLeft.the_row).own_val r (w ∷ []))) ⊛ raw (ensured 𝓛 carrying.ended (carrying.clauses 𝓛 at_mem run) (κ-store, tt) (ref-store, (x-s, (x-plot, tt))) tt r)))) (id⊢ 𝓤 _) $ await ! tt $ pick ! (λ r. split ! $ move ! (1 ∷ []) $ use1 𝓛 (some (λ (zs : List ℕ × (Unit {0} × (Unit {0} × Unit {0}))). ‵ (lasts carrying.ended (κ-store, tt) (ref-store, (x-s, (x-plot, tt))) zs) ⊛ raw (fact 𝓤 (CarryingSays x-store x-s x-plot r zs.0)))) (id⊢ 𝓤 _) $ pick ! (λ zs. split ! $ move ! (1 ∷ []) $ heard ! (CarryingSays x-store x-s x-plot r zs.0) (λ e. fsplit ! $ fsplit ! $ move ! (1 ∷ []) $ feq_l ! (λ l-store. move ! (1 ∷ []) $ drop ! $ move ! (1 ∷ []) $ split ! $ move ! (1 ∷ []) $ peeks ! T-PlotLeft.the_row (Is T-PlotLeft.the_row) (shows 𝓛 T-PlotLeft.the_row) r (w ∷ []) (λ is.
+        assigns ! (addr ! (from ! (fld ! refl (hop ! (look_in ! 39 (sub ! 0 refl (whole !))) (stop !))))) (from ! (stop !)) (init ! 15 refl (tt, tt)) $ assigns ! (agg ! (and_then ! (load ! (from ! (stop !)) (look ! 15 refl)) (and_then ! (load ! (from ! (fld ! refl (stop !))) (look_in ! 39 (sub ! 1 refl (whole !)))) (no_more !)))) (from ! (stop !)) (init ! 13 refl (tt, (tt, (record { fits = room_store.0 }, tt)))) $ assigns ! (of_opd ! (load ! (from ! (hop ! (look ! 37 refl) (stop !))) (look_raw ! 1 refl))) (from ! (stop !)) (init ! 11 refl ((LL.lawful T-Session.the_type T-Session'.the_laws 𝓛).typed x-s _ g-s).0) $ move ! (5 ∷ 6 ∷ []) $ use2 𝓛 (raw ((Carrying 𝓛 at_mem run).pre to_carrying)) (goes_carrying fits-plot g-s) $
+        calls_at ! fm (Carrying 𝓛 at_mem run) known-carrying to_carrying (and_then ! (load ! (from ! (stop !)) (look ! 12 refl)) (and_then ! (load ! (from ! (stop !)) (look ! 10 refl)) (and_then ! (load ! (from ! (stop !)) (look ! 34 refl)) (no_more !)))) (λ w.
+        use1 𝓛 (later (some (λ (r : PlotLeft). ((‵ (flft κ-store q-store) ⊛ ‵ ftrue) ⊛ ‵ ((T-PlotLeft.the_row).own_val r (w ∷ []))) ⊛ raw (ensured 𝓛 carrying.ended (carrying.clauses 𝓛 at_mem run) (κ-store, tt) (ref_store, (x-s, (x-plot, tt))) tt r)))) (id⊢ 𝓤 _) $ await ! tt $ pick ! (λ r. split ! $ move ! (1 ∷ []) $ use1 𝓛 (some (λ (zs : List ℕ × (Unit {0} × (Unit {0} × Unit {0}))). ‵ (lasts carrying.ended (κ-store, tt) (ref_store, (x-s, (x-plot, tt))) zs) ⊛ raw (fact 𝓤 (CarryingSays x-store x-s x-plot r zs.0)))) (id⊢ 𝓤 _) $ pick ! (λ zs. split ! $ move ! (1 ∷ []) $ heard ! (CarryingSays x-store x-s x-plot r zs.0) (λ e. fsplit ! $ fsplit ! $ move ! (1 ∷ []) $ feq_l ! (λ l-store. move ! (1 ∷ []) $ drop ! $ move ! (1 ∷ []) $ split ! $ move ! (1 ∷ []) $ peeks ! T-PlotLeft.the_row (Is T-PlotLeft.the_row) (shows 𝓛 T-PlotLeft.the_row) r (w ∷ []) (λ is.
         -- [result; btoks; fin:store; held:s; cell:s; obor:s; obs:s; auth:s; 8: _17; 10: _16; 12: _15; 14: _14; 16: _13; 18: _12; 20: _11; 22: _10; 24: _9; 26: _8; 28: _7; 30: _6; 32: _5; 34: _4; 36: _3; 38: _2; 40: _1; 42: _0]
         land ! (from ! (stop !)) (init ! 32 refl ((LL.lawful T-PlotLeft.the_type T-PlotLeft'.the_laws 𝓛).typed r _ is).0) $ rewrite ! 32 (λ (u : Val). ‵ (fat full_share T-PlotLeft'.mir l-5 0 u)) (ap only (LL.tells T-PlotLeft.the_type T-PlotLeft'.the_laws r _ is)) refl $
         assigns ! (of_opd ! (load ! (from ! (fld ! refl (stop !))) (look_in ! 32 (sub ! 4 refl (whole !))))) (from ! (stop !)) (store ! 28 refl (tt, tt)) $
         first ! $ branches ! {y = r.moved} (load ! (from ! (stop !)) (look ! 28 refl))
         -- some move
-        (λ moves. assigns ! (of_opd ! (load ! (from ! (hop ! (look ! 38 refl) (stop !))) (look_raw ! 4 refl))) (from ! (stop !)) (init ! 8 refl ((LL.lawful T-Session.the_type T-Session'.the_laws 𝓛).typed x-s _ g-s).0) $ nothing ! $ use1 𝓛 (raw ((Moved 𝓛 at_mem run).pre (to-moved r))) (goes_moved r w g-s is (e.1 (is_true r.moved moves))) $
-        calls_at ! fm (Moved 𝓛 at_mem run) known-moved (to-moved r) (and_then ! (load ! (from ! (stop !)) (look ! 9 refl)) (and_then ! (load ! (from ! (fld ! refl (stop !))) (look_in ! 33 (sub ! 1 refl (whole !)))) (and_then ! (load ! (from ! (fld ! refl (stop !))) (look_in ! 33 (sub ! 2 refl (whole !)))) (and_then ! (load ! (from ! (fld ! refl (stop !))) (look_in ! 33 (sub ! 3 refl (whole !)))) (and_then ! (load ! (from ! (fld ! refl (stop !))) (look_in ! 33 (sub ! 5 refl (whole !)))) (no_more !)))))) (λ v.
+        (λ moves. assigns ! (of_opd ! (load ! (from ! (hop ! (look ! 38 refl) (stop !))) (look_raw ! 4 refl))) (from ! (stop !)) (init ! 8 refl ((LL.lawful T-Session.the_type T-Session'.the_laws 𝓛).typed x-s _ g-s).0) $ nothing ! $ use1 𝓛 (raw ((Moved 𝓛 at_mem run).pre (to_moved r))) (goes_moved r w g-s is (e.1 (is_true r.moved moves))) $
+        calls_at ! fm (Moved 𝓛 at_mem run) known-moved (to_moved r) (and_then ! (load ! (from ! (stop !)) (look ! 9 refl)) (and_then ! (load ! (from ! (fld ! refl (stop !))) (look_in ! 33 (sub ! 1 refl (whole !)))) (and_then ! (load ! (from ! (fld ! refl (stop !))) (look_in ! 33 (sub ! 2 refl (whole !)))) (and_then ! (load ! (from ! (fld ! refl (stop !))) (look_in ! 33 (sub ! 3 refl (whole !)))) (and_then ! (load ! (from ! (fld ! refl (stop !))) (look_in ! 33 (sub ! 5 refl (whole !)))) (no_more !)))))) (λ v.
         use1 𝓛 (later (some (λ (t : Session). (‵ ftrue ⊛ ‵ ((T-Session.the_row).own_val t (v ∷ []))) ⊛ raw (ensured 𝓛 moved.ended (moved.clauses 𝓛 at_mem run) tt (x-s, (r.clock, (r.read, (r.count, (r.gone, tt))))) tt t)))) (id⊢ 𝓤 _) $ await ! tt $ pick ! (λ t. split ! $ move ! (1 ∷ []) $ use1 𝓛 (some (λ (ys : Unit {0} × (Unit {0} × (Unit {0} × (Unit {0} × (Unit {0} × Unit {0}))))). ‵ (lasts moved.ended tt (x-s, (r.clock, (r.read, (r.count, (r.gone, tt))))) ys) ⊛ raw (fact 𝓤 (MovedSays x-s r t)))) (id⊢ 𝓤 _) $ pick ! (λ ys. split ! $ move ! (1 ∷ []) $ heard ! (MovedSays x-s r t) (λ m. drop ! $ split ! $ drop ! $ peeks ! T-Session.the_row (Is T-Session.the_row) (shows 𝓛 T-Session.the_row) t (v ∷ []) (λ is-t.
         -- [mresult; result; btoks; fin:store; held:s; cell:s; obor:s; obs:s; auth:s; 9: _17; 11: _16; 13: _15; 15: _14; 17: _13; 19: _12; 21: _11; 23: _10; 25: _9; 27: _8; 29: _7; 31: _6; 33: _5; 35: _4; 37: _3; 39: _2; 41: _1; 43: _0]
         land ! (from ! (stop !)) (init ! 11 refl ((LL.lawful T-Session.the_type T-Session'.the_laws 𝓛).typed t _ is-t).0) $ rewrite ! 11 (λ (u : Val). ‵ (fat full_share T-Session'.mir l-16 0 u)) (ap only (LL.tells T-Session.the_type T-Session'.the_laws t _ is-t)) refl $
-        assigns ! (of_opd ! (load ! (from ! (stop !)) (look ! 11 refl))) (from ! (hop ! (look ! 39 refl) (stop !))) (store_raw ! 5 refl ((LL.lawful T-Session.the_type T-Session'.the_laws 𝓛).typed t _ (session-is t v is-t)).0) $
-        assigns ! (of_opd ! (load ! (from ! (fld ! refl (stop !))) (look_in ! 33 (sub ! 0 refl (whole !))))) (from ! (stop !)) (init ! 43 refl ((LL.lawful T-PlotFound.the_type T-PlotFound'.the_laws 𝓛).typed r.answer _ (left-answer-is r w is)).0) $ drop ! $ move ! (3 ∷ []) $ drop ! $ owned ! T-Session.the_row (Is T-Session.the_row) (LL.makes T-Session.the_type T-Session'.the_plain 𝓛) t _ (session-is t v is-t) $ move ! (4 ∷ 0 ∷ 5 ∷ 6 ∷ 7 ∷ []) $ closes ! tt T-Session.the_row t (LL.val T-Session.the_type T-Session'.the_laws t ∷ []) b_s o-s $ move ! (4 ∷ []) $ split ! $ move ! (1 ∷ []) $ drop ! $ move ! (4 ∷ []) $ drop ! $
+        assigns ! (of_opd ! (load ! (from ! (stop !)) (look ! 11 refl))) (from ! (hop ! (look ! 39 refl) (stop !))) (store_raw ! 5 refl ((LL.lawful T-Session.the_type T-Session'.the_laws 𝓛).typed t _ (session_is t v is-t)).0) $
+        assigns ! (of_opd ! (load ! (from ! (fld ! refl (stop !))) (look_in ! 33 (sub ! 0 refl (whole !))))) (from ! (stop !)) (init ! 43 refl ((LL.lawful T-PlotFound.the_type T-PlotFound'.the_laws 𝓛).typed r.answer _ (left_answer_is r w is)).0) $ drop ! $ move ! (3 ∷ []) $ drop ! $ owned ! T-Session.the_row (Is T-Session.the_row) (LL.makes T-Session.the_type T-Session'.the_plain 𝓛) t _ (session_is t v is-t) $ move ! (4 ∷ 0 ∷ 5 ∷ 6 ∷ 7 ∷ []) $ closes ! tt T-Session.the_row t (LL.val T-Session.the_type T-Session'.the_laws t ∷ []) b_s o-s $ move ! (4 ∷ []) $ split ! $ move ! (1 ∷ []) $ drop ! $ move ! (4 ∷ []) $ drop ! $
         -- [tok:store; obs:s; bor:s; tok:s; fin:store; 5: _17; 7: _16; 9: _15; 11: _14; 13: _13; 15: _12; 17: _11; 19: _10; 21: _9; 23: _8; 25: _7; 27: _6; 29: _5; 31: _4; 33: _3; 35: _2; 37: _1; 39: _0]
-        returns_within ! Post refl (look ! 39 refl) $ forget ! 5 refl $ forget ! 7 refl $ forget ! 9 refl $ forget ! 11 refl $ forget ! 13 refl $ forget ! 25 refl $ forget ! 27 refl $ forget ! 29 refl $ forget ! 33 refl $ forget ! 35 refl $ forget ! 37 refl $ forget ! 39 refl $ move ! (39 ∷ 40 ∷ []) $ free1 ! $ move ! (37 ∷ 38 ∷ []) $ free1 ! $ move ! (35 ∷ 36 ∷ []) $ free1 ! $ move ! (33 ∷ 34 ∷ []) $ free1 ! $ move ! (31 ∷ 32 ∷ []) $ free1 ! $ move ! (29 ∷ 30 ∷ []) $ free1 ! $ move ! (27 ∷ 28 ∷ []) $ free1 ! $ move ! (25 ∷ 26 ∷ []) $ free1 ! $ move ! (23 ∷ 24 ∷ []) $ free1 ! $ move ! (21 ∷ 22 ∷ []) $ free1 ! $ move ! (19 ∷ 20 ∷ []) $ free1 ! $ move ! (17 ∷ 18 ∷ []) $ free1 ! $ move ! (15 ∷ 16 ∷ []) $ free1 ! $ move ! (13 ∷ 14 ∷ []) $ free1 ! $ move ! (11 ∷ 12 ∷ []) $ free1 ! $ move ! (9 ∷ 10 ∷ []) $ free1 ! $ move ! (7 ∷ 8 ∷ []) $ free1 ! $ move ! (5 ∷ 6 ∷ []) $ free1 ! $ free0 ! $ keep ! (4 ∷ 1 ∷ 2 ∷ 0 ∷ 3 ∷ []) $ by ! (exits r.answer t zs.0 fits-plot (left-answer-is r w is) (said-moved x-store x-s x-plot r t zs.0 (is_true r.moved moves) m e) l-store)))))))
+        returns_within ! Post refl (look ! 39 refl) $ forget ! 5 refl $ forget ! 7 refl $ forget ! 9 refl $ forget ! 11 refl $ forget ! 13 refl $ forget ! 25 refl $ forget ! 27 refl $ forget ! 29 refl $ forget ! 33 refl $ forget ! 35 refl $ forget ! 37 refl $ forget ! 39 refl $ move ! (39 ∷ 40 ∷ []) $ free1 ! $ move ! (37 ∷ 38 ∷ []) $ free1 ! $ move ! (35 ∷ 36 ∷ []) $ free1 ! $ move ! (33 ∷ 34 ∷ []) $ free1 ! $ move ! (31 ∷ 32 ∷ []) $ free1 ! $ move ! (29 ∷ 30 ∷ []) $ free1 ! $ move ! (27 ∷ 28 ∷ []) $ free1 ! $ move ! (25 ∷ 26 ∷ []) $ free1 ! $ move ! (23 ∷ 24 ∷ []) $ free1 ! $ move ! (21 ∷ 22 ∷ []) $ free1 ! $ move ! (19 ∷ 20 ∷ []) $ free1 ! $ move ! (17 ∷ 18 ∷ []) $ free1 ! $ move ! (15 ∷ 16 ∷ []) $ free1 ! $ move ! (13 ∷ 14 ∷ []) $ free1 ! $ move ! (11 ∷ 12 ∷ []) $ free1 ! $ move ! (9 ∷ 10 ∷ []) $ free1 ! $ move ! (7 ∷ 8 ∷ []) $ free1 ! $ move ! (5 ∷ 6 ∷ []) $ free1 ! $ free0 ! $ keep ! (4 ∷ 1 ∷ 2 ∷ 0 ∷ 3 ∷ []) $ by ! (exits r.answer t zs.0 fits-plot (left_answer_is r w is) (said_moved x-store x-s x-plot r t zs.0 (is_true r.moved moves) m e) l-store)))))))
         -- none moves
         (λ stays. skips ! $ exec ! C Λ En pieces.t-10 (at_ret En Post) $
         assigns ! (of_opd ! (load ! (from ! (fld ! refl (stop !))) (look_in ! 32 (sub ! 1 refl (whole !))))) (from ! (hop ! (look ! 38 refl) (fld ! refl (stop !)))) (store_in ! 4 (sub ! 1 refl (whole !)) (((T-PlotLeft'.the_laws).1.0.lawful 𝓛).typed ((T-PlotLeft.the_type).to r).1.0 _ (LL.owed T-PlotLeft.the_type T-PlotLeft'.the_laws r (w ∷ []) is).1.0).0) $
         assigns ! (of_opd ! (load ! (from ! (fld ! refl (stop !))) (look_in ! 32 (sub ! 2 refl (whole !))))) (from ! (hop ! (look ! 38 refl) (fld ! refl (stop !)))) (store_in ! 4 (sub ! 2 refl (whole !)) (((T-PlotLeft'.the_laws).1.1.0.lawful 𝓛).typed ((T-PlotLeft.the_type).to r).1.1.0 _ (LL.owed T-PlotLeft.the_type T-PlotLeft'.the_laws r (w ∷ []) is).1.1.0).0) $
         assigns ! (of_opd ! (load ! (from ! (fld ! refl (stop !))) (look_in ! 32 (sub ! 3 refl (whole !))))) (from ! (hop ! (look ! 38 refl) (fld ! refl (stop !)))) (store_in ! 4 (sub ! 3 refl (whole !)) (((T-PlotLeft'.the_laws).1.1.1.0.lawful 𝓛).typed ((T-PlotLeft.the_type).to r).1.1.1.0 _ (LL.owed T-PlotLeft.the_type T-PlotLeft'.the_laws r (w ∷ []) is).1.1.1.0).0) $
-        assigns ! (of_opd ! (load ! (from ! (fld ! refl (stop !))) (look_in ! 32 (sub ! 0 refl (whole !))))) (from ! (stop !)) (init ! 42 refl ((LL.lawful T-PlotFound.the_type T-PlotFound'.the_laws 𝓛).typed r.answer _ (left-answer-is r w is)).0) $ move ! (3 ∷ []) $ drop ! $ owned ! T-Session.the_row (Is T-Session.the_row) (LL.makes T-Session.the_type T-Session'.the_plain 𝓛) (next-s x-s r) _ (next-s-is x-s r w g-s is) $ move ! (4 ∷ 0 ∷ 5 ∷ 6 ∷ 7 ∷ []) $ closes ! tt T-Session.the_row (next-s x-s r) (LL.val T-Session.the_type T-Session'.the_laws (next-s x-s r) ∷ []) b_s o-s $ move ! (4 ∷ []) $ split ! $ move ! (1 ∷ []) $ drop ! $ move ! (4 ∷ []) $ drop ! $
+        assigns ! (of_opd ! (load ! (from ! (fld ! refl (stop !))) (look_in ! 32 (sub ! 0 refl (whole !))))) (from ! (stop !)) (init ! 42 refl ((LL.lawful T-PlotFound.the_type T-PlotFound'.the_laws 𝓛).typed r.answer _ (left_answer_is r w is)).0) $ move ! (3 ∷ []) $ drop ! $ owned ! T-Session.the_row (Is T-Session.the_row) (LL.makes T-Session.the_type T-Session'.the_plain 𝓛) (next_s x-s r) _ (next_s_is x-s r w g-s is) $ move ! (4 ∷ 0 ∷ 5 ∷ 6 ∷ 7 ∷ []) $ closes ! tt T-Session.the_row (next_s x-s r) (LL.val T-Session.the_type T-Session'.the_laws (next_s x-s r) ∷ []) b_s o-s $ move ! (4 ∷ []) $ split ! $ move ! (1 ∷ []) $ drop ! $ move ! (4 ∷ []) $ drop ! $
         -- [tok:store; obs:s; bor:s; tok:s; fin:store; 5: _17; 7: _16; 9: _15; 11: _14; 13: _13; 15: _12; 17: _11; 19: _10; 21: _9; 23: _8; 25: _7; 27: _6; 29: _5; 31: _4; 33: _3; 35: _2; 37: _1; 39: _0]
-        returns ! (look ! 39 refl) $ forget ! 9 refl $ forget ! 11 refl $ forget ! 13 refl $ forget ! 25 refl $ forget ! 27 refl $ forget ! 29 refl $ forget ! 33 refl $ forget ! 35 refl $ forget ! 37 refl $ forget ! 39 refl $ move ! (39 ∷ 40 ∷ []) $ free1 ! $ move ! (37 ∷ 38 ∷ []) $ free1 ! $ move ! (35 ∷ 36 ∷ []) $ free1 ! $ move ! (33 ∷ 34 ∷ []) $ free1 ! $ move ! (31 ∷ 32 ∷ []) $ free1 ! $ move ! (29 ∷ 30 ∷ []) $ free1 ! $ move ! (27 ∷ 28 ∷ []) $ free1 ! $ move ! (25 ∷ 26 ∷ []) $ free1 ! $ move ! (23 ∷ 24 ∷ []) $ free1 ! $ move ! (21 ∷ 22 ∷ []) $ free1 ! $ move ! (19 ∷ 20 ∷ []) $ free1 ! $ move ! (17 ∷ 18 ∷ []) $ free1 ! $ move ! (15 ∷ 16 ∷ []) $ free1 ! $ move ! (13 ∷ 14 ∷ []) $ free1 ! $ move ! (11 ∷ 12 ∷ []) $ free1 ! $ move ! (9 ∷ 10 ∷ []) $ free1 ! $ move ! (7 ∷ 8 ∷ []) $ free1 ! $ move ! (5 ∷ 6 ∷ []) $ free1 ! $ free0 ! $ keep ! (4 ∷ 1 ∷ 2 ∷ 0 ∷ 3 ∷ []) $ by ! (exits r.answer (next-s x-s r) zs.0 fits-plot (left-answer-is r w is) (said-next x-store x-s x-plot r zs.0 (is_false r.moved stays) e) l-store)))))))))))))))))))))))))))))
+        returns ! (look ! 39 refl) $ forget ! 9 refl $ forget ! 11 refl $ forget ! 13 refl $ forget ! 25 refl $ forget ! 27 refl $ forget ! 29 refl $ forget ! 33 refl $ forget ! 35 refl $ forget ! 37 refl $ forget ! 39 refl $ move ! (39 ∷ 40 ∷ []) $ free1 ! $ move ! (37 ∷ 38 ∷ []) $ free1 ! $ move ! (35 ∷ 36 ∷ []) $ free1 ! $ move ! (33 ∷ 34 ∷ []) $ free1 ! $ move ! (31 ∷ 32 ∷ []) $ free1 ! $ move ! (29 ∷ 30 ∷ []) $ free1 ! $ move ! (27 ∷ 28 ∷ []) $ free1 ! $ move ! (25 ∷ 26 ∷ []) $ free1 ! $ move ! (23 ∷ 24 ∷ []) $ free1 ! $ move ! (21 ∷ 22 ∷ []) $ free1 ! $ move ! (19 ∷ 20 ∷ []) $ free1 ! $ move ! (17 ∷ 18 ∷ []) $ free1 ! $ move ! (15 ∷ 16 ∷ []) $ free1 ! $ move ! (13 ∷ 14 ∷ []) $ free1 ! $ move ! (11 ∷ 12 ∷ []) $ free1 ! $ move ! (9 ∷ 10 ∷ []) $ free1 ! $ move ! (7 ∷ 8 ∷ []) $ free1 ! $ move ! (5 ∷ 6 ∷ []) $ free1 ! $ free0 ! $ keep ! (4 ∷ 1 ∷ 2 ∷ 0 ∷ 3 ∷ []) $ by ! (exits r.answer (next_s x-s r) zs.0 fits-plot (left_answer_is r w is) (said_next x-store x-s x-plot r zs.0 (is_false r.moved stays) e) l-store)))))))))))))))))))))))))))))
 
 module _ {M : Type 1} {𝓤 : Ura M} (𝓛 : Logic 𝓤) (at_mem : Memory → SProp 𝓤) (run : Routine → Fun 𝓤) where
   open 𝓛 use {H}

@@ -1,5 +1,5 @@
 use mathlib.Core.Path.{ap, ◌∙◌}
-use Rattle.office.specs.Decide.{alone, withSeen}
+use Rattle.office.specs.Decide.{alone, with_seen}
 use borrow.Author.Rules.{rules}
 use Rattle.host.proofs.lent.joint_alone.Statement.{statement}
 use Rattle.host.proofs.lent.joint_alone.Tie as tie
@@ -20,7 +20,7 @@ returns : tie.Need-returns
 returns c = let z = c.before.before.before.before.before.before.before.before.before.before.before.args in
     let d = c.joint-done.ensures in
     let e = c.before.before.before.before.before.see-joint-alone.ensures in
-    λ own. (d.0 ∙ (e own).0, ap (withSeen (alone z.offices z.clock z.read own)) d.1 ∙ (e own).1, (e own).2, (e own).3)
+    λ own. (d.0 ∙ (e own).0, ap (with_seen (alone z.offices z.clock z.read own)) d.1 ∙ (e own).1, (e own).2, (e own).3)
 
 pub joint-alone-spec : {M : Type 1} → statement M
 joint-alone-spec =

@@ -1,6 +1,6 @@
 use mathlib.Core.Path.{ap, ◌∙◌}
 use Rattle.office.specs.declared.note.Seen.{Seen}
-use Rattle.reading.specs.Releases.{withRest}
+use Rattle.reading.specs.Releases.{with_rest}
 use borrow.Author.Rules.{rules}
 use Rattle.host.proofs.lent.joint_by_value.Statement.{statement}
 use Rattle.host.proofs.lent.joint_by_value.Tie as tie
@@ -23,7 +23,7 @@ returns c =
     let a = c.before.before.before.before.before.before.before.before.before.before.see-joint in
     let e = a.ensures.1 in
     let s = c.before.before.before.before.before.before.before.before.before.before.before.before.before.before.before.before.args.s in
-    (a.ensures.0, (d.0 ∙ e.0, ap (λ (x : Seen). withRest s x a.result.rest) d.1 ∙ e.1, e.2, e.3))
+    (a.ensures.0, (d.0 ∙ e.0, ap (λ (x : Seen). with_rest s x a.result.rest) d.1 ∙ e.1, e.2, e.3))
 
 pub joint-by-value-spec : {M : Type 1} → statement M
 joint-by-value-spec = tie.close (tie.spec see-joint-requires joint-done-requires same_length same-length-2 returns)

@@ -1,5 +1,5 @@
 use mathlib.Core.Path.{ap, ◌∙◌}
-use Rattle.office.specs.Decide.{alone, withSeen}
+use Rattle.office.specs.Decide.{alone, with_seen}
 use borrow.Author.Rules.{rules}
 use Rattle.host.proofs.lent.plot_alone.Statement.{statement}
 use Rattle.host.proofs.lent.plot_alone.Tie as tie
@@ -17,7 +17,7 @@ returns : tie.Need-returns
 returns c = let z = c.before.before.before.before.before.before.args in
     let d = c.plot-done.ensures in
     let e = c.before.before.before.see-alone.ensures in
-    (d.0, λ own. (d.1 ∙ (e own).0, d.2 ∙ (e own).1, d.3 ∙ (e own).2, ap (withSeen (alone z.offices z.clock z.read own)) d.4 ∙ (e own).3, (e own).4))
+    (d.0, λ own. (d.1 ∙ (e own).0, d.2 ∙ (e own).1, d.3 ∙ (e own).2, ap (with_seen (alone z.offices z.clock z.read own)) d.4 ∙ (e own).3, (e own).4))
 
 pub plot-alone-spec : {M : Type 1} → statement M
 plot-alone-spec = tie.close (tie.spec see-alone-requires plot-done-requires same_length returns)

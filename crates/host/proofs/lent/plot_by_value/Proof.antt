@@ -1,6 +1,6 @@
 use mathlib.Core.Path.{ap, ◌∙◌}
 use Rattle.office.specs.declared.note.Seen.{Seen}
-use Rattle.reading.specs.Releases.{withRest}
+use Rattle.reading.specs.Releases.{with_rest}
 use borrow.Author.Rules.{rules}
 use Rattle.host.proofs.lent.plot_by_value.Statement.{statement}
 use Rattle.host.proofs.lent.plot_by_value.Tie as tie
@@ -20,7 +20,7 @@ returns c =
     let a = c.before.before.before.before.before.before.before.before.before.see-plot in
     let e = a.ensures.1 in
     let s = c.before.before.before.before.before.before.before.before.before.before.before.before.args.s in
-    (d.0, a.ensures.0, (d.1 ∙ e.0, d.2 ∙ e.1, d.3 ∙ e.2, ap (λ (x : Seen). withRest s x a.result.rest) d.4 ∙ e.3, e.4))
+    (d.0, a.ensures.0, (d.1 ∙ e.0, d.2 ∙ e.1, d.3 ∙ e.2, ap (λ (x : Seen). with_rest s x a.result.rest) d.4 ∙ e.3, e.4))
 
 pub plot-by-value-spec : {M : Type 1} → statement M
 plot-by-value-spec = tie.close (tie.spec see-plot-requires plot-done-requires same_length returns)

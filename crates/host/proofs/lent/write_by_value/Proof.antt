@@ -1,5 +1,5 @@
 use mathlib.Core.Path.{refl, ◌∙◌}
-use Rattle.writing.proofs.Writes.{wrote-few}
+use Rattle.writing.proofs.Writes.{wrote_few}
 use borrow.Author.Rules.{rules}
 use Rattle.host.proofs.lent.write_by_value.Statement.{statement}
 use Rattle.host.proofs.lent.write_by_value.Tie as tie
@@ -12,7 +12,7 @@ element-copy-out-first c = search rules
 
 write-done-requires : tie.Need-write-done-requires
 write-done-requires c κs = let z = c.before.before.before.before.before.before.before.before.before.before.before.args in
-    λ n h. wrote-few z.store.now z.t2 z.plot z.value z.out.now _ _ _ _ c.before.before.before.before.before.before.make.ensures n h
+    λ n h. wrote_few z.store.now z.t2 z.plot z.value z.out.now _ _ _ _ c.before.before.before.before.before.before.make.ensures n h
 
 same_length : tie.Need-same-length
 same_length c = search rules

@@ -1,6 +1,6 @@
 use mathlib.Core.Path.{◌∙◌}
 use borrow.Author.Rules.{rules}
-use Rattle.host.proofs.Flags.{flag-low, flag-set}
+use Rattle.host.proofs.Flags.{flag_low, flag_set}
 use Rattle.host.proofs.offices.burial_read_plot.Statement.{statement}
 use Rattle.host.proofs.offices.burial_read_plot.Tie as tie
 
@@ -19,7 +19,7 @@ same_length c = search rules
 returns : tie.Need-returns
 returns c = let e = c.before.before.before.before.before.before.read-plot.ensures in
     let q = c.before.before.flag.ensures in
-    (flag-low _ _ q, (c.before.before.before.code_of_lem.ensures ∙ e.0, flag-set _ _ q ∙ e.1, e.2, e.3, e.4))
+    (flag_low _ _ q, (c.before.before.before.code_of_lem.ensures ∙ e.0, flag_set _ _ q ∙ e.1, e.2, e.3, e.4))
 
 pub burial-read-plot-spec : {M : Type 1} → statement M
 burial-read-plot-spec =

@@ -1,5 +1,5 @@
 use mathlib.Core.Path.{◌∙◌, ap}
-use Rattle.causal.specs.Sets.{isIn}
+use Rattle.causal.specs.Sets.{is_in}
 use borrow.Author.Rules.{rules}
 use Rattle.joining.proofs.alike.among.Statement.{statement}
 use Rattle.joining.proofs.alike.among.Tie as tie
@@ -11,7 +11,7 @@ contains-requires : tie.Need-contains-requires
 contains-requires c κs = search rules
 
 returns : tie.Need-returns
-returns c = let z = c.before.before.args in c.contains.ensures ∙ ap (isIn z.ids) c.before.id-of.ensures
+returns c = let z = c.before.before.args in c.contains.ensures ∙ ap (is_in z.ids) c.before.id-of.ensures
 
 pub among-spec : {M : Type 1} → statement M
 among-spec = tie.close (tie.spec id-of-requires contains-requires returns)

@@ -6,14 +6,14 @@ use native.Mathlib.Omega.{arith}
 use lib.Dec.{eqb}
 use Rattle.causal.specs.Tests.{all_below, both}
 use Rattle.causal.proofs.Tests.{all_none, turn_more}
-use Rattle.frame.specs.Entries.{id_of, sameContent}
-use Rattle.frame.proofs.OwnTurns.{ownsOf}
+use Rattle.frame.specs.Entries.{id_of, same_content}
+use Rattle.frame.proofs.OwnTurns.{owns_of}
 use borrow.Author.Rules.{rules}
 use Rattle.joining.proofs.alike.same_front.Statement.{statement}
 use Rattle.joining.proofs.alike.same_front.Tie as tie
 
 abbrev invariant-loop : tie.invariant-loop
-invariant-loop n m first second least i₀ i = (i ≤ least) × (least ≤ n) × (least ≤ m) × (all_below i (λ j. both (eqb (id_of (ownsOf second j)) (id_of (ownsOf first j))) (sameContent (ownsOf second j) (ownsOf first j))) ≡ true)
+invariant-loop n m first second least i₀ i = (i ≤ least) × (least ≤ n) × (least ≤ m) × (all_below i (λ j. both (eqb (id_of (owns_of second j)) (id_of (owns_of first j))) (same_content (owns_of second j) (owns_of first j))) ≡ true)
 
 abbrev decreases-loop : tie.decreases-loop
 decreases-loop n m first second least i₀ i = least - i
@@ -46,10 +46,10 @@ loop-less : tie.Need-loop-smaller invariant-loop decreases-loop
 loop-less c = search rules
 
 loop-again : tie.Need-loop-preserved invariant-loop decreases-loop
-loop-again c = let z = c.before.before.before.before.before.before.before.args in let l = c.before.before.before.before.before.loop in let f = ownsOf z.t1 in let g = ownsOf z.t3 in (search rules, l.invariant.1, l.invariant.2, turn_more (λ j. both (eqb (id_of (g j)) (id_of (f j))) (sameContent (g j) (f j))) l.i _ l.invariant.3 c.before.same-entry.ensures c.if2.false)
+loop-again c = let z = c.before.before.before.before.before.before.before.args in let l = c.before.before.before.before.before.loop in let f = owns_of z.t1 in let g = owns_of z.t3 in (search rules, l.invariant.1, l.invariant.2, turn_more (λ j. both (eqb (id_of (g j)) (id_of (f j))) (same_content (g j) (f j))) l.i _ l.invariant.3 c.before.same-entry.ensures c.if2.false)
 
 returns-2 : tie.Need-returns-2 invariant-loop decreases-loop
-returns-2 c = let l = c.before.loop in let z = c.before.before.before.args in let f = ownsOf z.t1 in let g = ownsOf z.t3 in let e : c.before.before.if1.least ≡ l.i = omega arith in (l.invariant.1, l.invariant.2, ap (λ (k : ℕ). all_below k (λ j. both (eqb (id_of (g j)) (id_of (f j))) (sameContent (g j) (f j)))) e ∙ l.invariant.3)
+returns-2 c = let l = c.before.loop in let z = c.before.before.before.args in let f = owns_of z.t1 in let g = owns_of z.t3 in let e : c.before.before.if1.least ≡ l.i = omega arith in (l.invariant.1, l.invariant.2, ap (λ (k : ℕ). all_below k (λ j. both (eqb (id_of (g j)) (id_of (f j))) (same_content (g j) (f j)))) e ∙ l.invariant.3)
 
 pub same-front-spec : {M : Type 1} → statement M
 same-front-spec =

@@ -6,9 +6,9 @@ use lib.Dec.{eqb}
 use lib.ListN.{get_or}
 use borrow.Author.Tests.{eq-eqb, ne_eqb}
 use Rattle.causal.specs.Tests.{all_below}
-use Rattle.causal.proofs.Array.{id-set}
-use Rattle.causal.proofs.Tests.{all-fails, all_more, all_none}
-use Rattle.joining.proofs.Turns.{eight-below}
+use Rattle.causal.proofs.Array.{id_set}
+use Rattle.causal.proofs.Tests.{all_fails, all_more, all_none}
+use Rattle.joining.proofs.Turns.{eight_below}
 use borrow.Author.Rules.{rules}
 use Rattle.joining.proofs.alike.same_words.Statement.{statement}
 use Rattle.joining.proofs.alike.same_words.Tie as tie
@@ -36,7 +36,7 @@ array-read-if1-2 c = search rules
 
 returns : tie.Need-returns invariant-loop decreases-loop
 returns c = let z = c.before.before.before in
-    sym (all-fails (λ i. eqb (get_or z.args.t1 i 0) (get_or z.args.t2 i 0)) 8 c.before.before.loop.j (omega arith) (ne_eqb _ _ c.if1.true)) ∙ eight-below z.args.t1 z.args.t2 (id-set z.args.t1 z.well-formed.0).eight (id-set z.args.t2 z.well-formed.1.0).eight
+    sym (all_fails (λ i. eqb (get_or z.args.t1 i 0) (get_or z.args.t2 i 0)) 8 c.before.before.loop.j (omega arith) (ne_eqb _ _ c.if1.true)) ∙ eight_below z.args.t1 z.args.t2 (id_set z.args.t1 z.well-formed.0).eight (id_set z.args.t2 z.well-formed.1.0).eight
 
 add-j : tie.Need-overflow-add-j invariant-loop decreases-loop
 add-j c = search rules
@@ -51,7 +51,7 @@ loop-again c = let z = c.before.before.before in
 returns-2 : tie.Need-returns-2 invariant-loop decreases-loop
 returns-2 c = let z = c.before.before in
     let e : c.before.loop.j ≡ 8 = omega arith in
-    sym (ap (λ (j : ℕ). all_below j (λ i. eqb (get_or z.args.t1 i 0) (get_or z.args.t2 i 0))) (sym e) ∙ c.before.loop.invariant.1) ∙ eight-below z.args.t1 z.args.t2 (id-set z.args.t1 z.well-formed.0).eight (id-set z.args.t2 z.well-formed.1.0).eight
+    sym (ap (λ (j : ℕ). all_below j (λ i. eqb (get_or z.args.t1 i 0) (get_or z.args.t2 i 0))) (sym e) ∙ c.before.loop.invariant.1) ∙ eight_below z.args.t1 z.args.t2 (id_set z.args.t1 z.well-formed.0).eight (id_set z.args.t2 z.well-formed.1.0).eight
 
 pub same-words-spec : {M : Type 1} → statement M
 same-words-spec =

@@ -5,14 +5,14 @@ use lib.ListN.{replicate}
 use Rattle.causal.specs.Lists.{tab}
 use Rattle.frame.specs.Sessions.{filled}
 use Rattle.frame.specs.declared.entry.Entry.{Entry}
-use Rattle.frame.proofs.OwnTurns.{ownsOf}
-use Rattle.joining.proofs.Turns.{row-turn}
+use Rattle.frame.proofs.OwnTurns.{owns_of}
+use Rattle.joining.proofs.Turns.{row_turn}
 use borrow.Author.Rules.{rules}
 use Rattle.joining.proofs.join.with_blanks.Statement.{statement}
 use Rattle.joining.proofs.join.with_blanks.Tie as tie
 
 abbrev invariant-loop : tie.invariant-loop
-invariant-loop count own row₀ i₀ row i = (i ≤ count) × (row ≡ filled (tab i (ownsOf own)))
+invariant-loop count own row₀ i₀ row i = (i ≤ count) × (row ≡ filled (tab i (owns_of own)))
 
 abbrev decreases-loop : tie.decreases-loop
 decreases-loop count own row₀ i₀ row i = count - i
@@ -43,10 +43,10 @@ loop-less : tie.Need-loop-smaller invariant-loop decreases-loop
 loop-less c = search rules
 
 loop-again : tie.Need-loop-preserved invariant-loop decreases-loop
-loop-again c = let z = c.before.before.before.before.args in let l = c.before.before.loop in (search rules, row-turn (ownsOf z.t1) l.i l.row (omega arith) l.invariant.1)
+loop-again c = let z = c.before.before.before.before.args in let l = c.before.before.loop in (search rules, row_turn (owns_of z.t1) l.i l.row (omega arith) l.invariant.1)
 
 returns : tie.Need-returns invariant-loop decreases-loop
-returns c = let l = c.before.loop in let z = c.before.before.before.args in let e : l.i ≡ z.count = omega arith in l.invariant.1 ∙ ap (λ (j : ℕ). filled (tab j (ownsOf z.t1))) e
+returns c = let l = c.before.loop in let z = c.before.before.before.args in let e : l.i ≡ z.count = omega arith in l.invariant.1 ∙ ap (λ (j : ℕ). filled (tab j (owns_of z.t1))) e
 
 pub with-blanks-spec : {M : Type 1} → statement M
 with-blanks-spec =

@@ -67,32 +67,32 @@ Core 𝓛 at_mem run = triple_of 𝓛 core.signature (core.spec 𝓛 at_mem run)
 abbrev CoreSays : List ℕ → Session → List ℕ → List ℕ → JointRead → List ℕ → List ℕ → Type 0
 CoreSays x-store x-s x-plots x-answer r z-store z-answer = JointPromise x-store x-s x-plots x-answer (code_of r.status) r.session z-store z-answer
 
-session-is : (r : JointRead) (w : Val) → Is T-JointRead.the_row r (w ∷ []) → Is T-Session.the_row r.session (LL.val T-Session.the_type T-Session'.the_laws r.session ∷ [])
-session-is r w is = (LL.owed T-JointRead.the_type T-JointRead'.the_laws r (w ∷ []) is).1.0
+session_is : (r : JointRead) (w : Val) → Is T-JointRead.the_row r (w ∷ []) → Is T-Session.the_row r.session (LL.val T-Session.the_type T-Session'.the_laws r.session ∷ [])
+session_is r w is = (LL.owed T-JointRead.the_type T-JointRead'.the_laws r (w ∷ []) is).1.0
 
-result-is : (r : JointRead) (w : Val) → Is T-JointRead.the_row r (w ∷ []) → Is T-Status.the_row r.status (EL.val T-Status.the_type T-Status'.the_laws r.status ∷ [])
-result-is r w is = (LL.owed T-JointRead.the_type T-JointRead'.the_laws r (w ∷ []) is).0
+result_is : (r : JointRead) (w : Val) → Is T-JointRead.the_row r (w ∷ []) → Is T-Status.the_row r.status (EL.val T-Status.the_type T-Status'.the_laws r.status ∷ [])
+result_is r w is = (LL.owed T-JointRead.the_type T-JointRead'.the_laws r (w ∷ []) is).0
 
 module _ {M : Type 1} {𝓤 : Ura M} (𝓛 : Logic 𝓤) (at_mem : Memory → SProp 𝓤) (run : Routine → Fun 𝓤) (κ-store : Lft) (q-store : Share) (b-store o-store : ℕ) (γ-store : GName) (x-store : List ℕ) (room_store : Room u32 (length x-store)) (κ-s : Lft) (q-s : Share) (b_s o-s : ℕ) (γ-s : GName) (x-s : Session) (κ-plots : Lft) (q-plots : Share) (b-plots o-plots : ℕ) (γ-plots : GName) (x-plots : List ℕ) (room-plots : Room u32 (length x-plots)) (κ-answer : Lft) (q-answer : Share) (b-answer o-answer : ℕ) (γ-answer : GName) (x-answer : List ℕ) (room-answer : Room u32 (length x-answer)) where
   open 𝓛 use {H}
 
-  abbrev ref-store : MutBor (List ℕ)
-  ref-store = record { ref_ptr = (b-store, o-store); ghost_name = γ-store; now = x-store }
+  abbrev ref_store : MutBor (List ℕ)
+  ref_store = record { ref_ptr = (b-store, o-store); ghost_name = γ-store; now = x-store }
 
-  abbrev ref-s : Bor Session
-  ref-s = record { ref_ptr = (b_s, o-s); ghost_name = γ-s; now = x-s }
+  abbrev ref_s : Bor Session
+  ref_s = record { ref_ptr = (b_s, o-s); ghost_name = γ-s; now = x-s }
 
-  abbrev ref-plots : Bor (List ℕ)
-  ref-plots = record { ref_ptr = (b-plots, o-plots); ghost_name = γ-plots; now = x-plots }
+  abbrev ref_plots : Bor (List ℕ)
+  ref_plots = record { ref_ptr = (b-plots, o-plots); ghost_name = γ-plots; now = x-plots }
 
-  abbrev ref-answer : Bor (List ℕ)
-  ref-answer = record { ref_ptr = (b-answer, o-answer); ghost_name = γ-answer; now = x-answer }
+  abbrev ref_answer : Bor (List ℕ)
+  ref_answer = record { ref_ptr = (b-answer, o-answer); ghost_name = γ-answer; now = x-answer }
 
   abbrev Arg : Type 0
   Arg = Bor (List ℕ) × (Bor Session × (Bor (List ℕ) × (Bor (List ℕ) × Unit {0})))
 
   abbrev a : Arg
-  a = (ref-store, (ref-s, (ref-plots, (ref-answer, tt))))
+  a = (ref_store, (ref_s, (ref_plots, (ref_answer, tt))))
 
   abbrev vals : List Val × (List Val × (List Val × (List Val × Unit {0})))
   vals = (slice_val (b-store, o-store) (length x-store) ∷ [], (vptr b_s o-s ∷ [], (slice_val (b-plots, o-plots) (length x-plots) ∷ [], (slice_val (b-answer, o-answer) (length x-answer) ∷ [], tt))))
@@ -100,17 +100,17 @@ module _ {M : Type 1} {𝓤 : Ura M} (𝓛 : Logic 𝓤) (at_mem : Memory → SP
   abbrev Post : Val → SProp 𝓤
   Post = (walk_of 𝓛 f.ended stayed (f.clauses 𝓛 at_mem run)).post (((κ-store, (κ-s, (κ-plots, (κ-answer, tt)))), (q-store, (q-s, (q-plots, (q-answer, tt)))), tt, a, vals), tt)
 
-  abbrev to-core : (Core 𝓛 at_mem run).Ghost
-  to-core = (((κ-store, (κ-plots, (κ-answer, tt))), (q-store, (q-plots, (q-answer, tt))), tt, (ref-store, (x-s, (ref-plots, (ref-answer, tt)))), (slice_val (b-store, o-store) (length x-store) ∷ [], (LL.val T-Session.the_type T-Session'.the_laws x-s ∷ [], (slice_val (b-plots, o-plots) (length x-plots) ∷ [], (slice_val (b-answer, o-answer) (length x-answer) ∷ [], tt))))), tt)
+  abbrev to_core : (Core 𝓛 at_mem run).Ghost
+  to_core = (((κ-store, (κ-plots, (κ-answer, tt))), (q-store, (q-plots, (q-answer, tt))), tt, (ref_store, (x-s, (ref_plots, (ref_answer, tt)))), (slice_val (b-store, o-store) (length x-store) ∷ [], (LL.val T-Session.the_type T-Session'.the_laws x-s ∷ [], (slice_val (b-plots, o-plots) (length x-plots) ∷ [], (slice_val (b-answer, o-answer) (length x-answer) ∷ [], tt))))), tt)
 
-  goes : Is T-Session.the_row x-s (LL.val T-Session.the_type T-Session'.the_laws x-s ∷ []) → ent 𝓤 (⋆ 𝓛 (‵ (flft κ-store q-store) ∷ ‵ (flft κ-plots q-plots) ∷ ‵ (flft κ-answer q-answer) ∷ ‵ ((MutSlice (named 0) κ-store u32).own_val ref-store (slice_val (b-store, o-store) (length x-store) ∷ [])) ∷ ‵ ((ShrSlice (named 2) κ-plots u32).own_val ref-plots (slice_val (b-plots, o-plots) (length x-plots) ∷ [])) ∷ ‵ ((MutSlice (named 3) κ-answer u32).own_val ref-answer (slice_val (b-answer, o-answer) (length x-answer) ∷ [])) ∷ [])) ((Core 𝓛 at_mem run).pre to-core)
+  goes : Is T-Session.the_row x-s (LL.val T-Session.the_type T-Session'.the_laws x-s ∷ []) → ent 𝓤 (⋆ 𝓛 (‵ (flft κ-store q-store) ∷ ‵ (flft κ-plots q-plots) ∷ ‵ (flft κ-answer q-answer) ∷ ‵ ((MutSlice (named 0) κ-store u32).own_val ref_store (slice_val (b-store, o-store) (length x-store) ∷ [])) ∷ ‵ ((ShrSlice (named 2) κ-plots u32).own_val ref_plots (slice_val (b-plots, o-plots) (length x-plots) ∷ [])) ∷ ‵ ((MutSlice (named 3) κ-answer u32).own_val ref_answer (slice_val (b-answer, o-answer) (length x-answer) ∷ [])) ∷ [])) ((Core 𝓛 at_mem run).pre to_core)
   goes g-s =
-      qed 𝓛 (‵ (flft κ-store q-store) ∷ ‵ (flft κ-plots q-plots) ∷ ‵ (flft κ-answer q-answer) ∷ ‵ ((MutSlice (named 0) κ-store u32).own_val ref-store (slice_val (b-store, o-store) (length x-store) ∷ [])) ∷ ‵ ((ShrSlice (named 2) κ-plots u32).own_val ref-plots (slice_val (b-plots, o-plots) (length x-plots) ∷ [])) ∷ ‵ ((MutSlice (named 3) κ-answer u32).own_val ref-answer (slice_val (b-answer, o-answer) (length x-answer) ∷ [])) ∷ []) ∵ nothing ! $ move ! (6 ∷ 0 ∷ []) $ fjoin ! $ move ! (5 ∷ 0 ∷ []) $ fjoin ! $ owned ! T-Session.the_row (Is T-Session.the_row) (LL.makes T-Session.the_type T-Session'.the_plain 𝓛) x-s _ g-s $ fjoin ! $ move ! (4 ∷ 0 ∷ []) $ fjoin ! $ nothing ! $ move ! (4 ∷ 0 ∷ []) $ join ! $ move ! (3 ∷ 0 ∷ []) $ join ! $ move ! (2 ∷ 0 ∷ []) $ join ! $ join ! $ frame ! $ done !
+      qed 𝓛 (‵ (flft κ-store q-store) ∷ ‵ (flft κ-plots q-plots) ∷ ‵ (flft κ-answer q-answer) ∷ ‵ ((MutSlice (named 0) κ-store u32).own_val ref_store (slice_val (b-store, o-store) (length x-store) ∷ [])) ∷ ‵ ((ShrSlice (named 2) κ-plots u32).own_val ref_plots (slice_val (b-plots, o-plots) (length x-plots) ∷ [])) ∷ ‵ ((MutSlice (named 3) κ-answer u32).own_val ref_answer (slice_val (b-answer, o-answer) (length x-answer) ∷ [])) ∷ []) ∵ nothing ! $ move ! (6 ∷ 0 ∷ []) $ fjoin ! $ move ! (5 ∷ 0 ∷ []) $ fjoin ! $ owned ! T-Session.the_row (Is T-Session.the_row) (LL.makes T-Session.the_type T-Session'.the_plain 𝓛) x-s _ g-s $ fjoin ! $ move ! (4 ∷ 0 ∷ []) $ fjoin ! $ nothing ! $ move ! (4 ∷ 0 ∷ []) $ join ! $ move ! (3 ∷ 0 ∷ []) $ join ! $ move ! (2 ∷ 0 ∷ []) $ join ! $ join ! $ frame ! $ done !
 
-  exits : (r : JointRead) (w : Val) (z-store : List ℕ) (z-answer : List ℕ) → Is T-Session.the_row x-s (LL.val T-Session.the_type T-Session'.the_laws x-s ∷ []) → CoreSays x-store x-s x-plots x-answer r z-store z-answer → length z-store ≡ length x-store → length z-answer ≡ length x-answer → Is T-JointRead.the_row r (w ∷ []) → ent 𝓤 (⋆ 𝓛 (‵ (finally u32 γ-store z-store) ∷ ‵ (fobs γ-s ((T-Session.the_row).coded.code r.session)) ∷ ‵ (fbor κ-s (Body (mem T-Session.the_row) b_s o-s γ-s)) ∷ ‵ ((ShrSlice (named 2) κ-plots u32).own_val ref-plots (slice_val (b-plots, o-plots) (length x-plots) ∷ [])) ∷ ‵ (finally u32 γ-answer z-answer) ∷ ‵ (flft κ-store q-store) ∷ ‵ (flft κ-s q-s) ∷ ‵ (flft κ-plots q-plots) ∷ ‵ (flft κ-answer q-answer) ∷ [])) (Post (EL.val T-Status.the_type T-Status'.the_laws r.status))
+  exits : (r : JointRead) (w : Val) (z-store : List ℕ) (z-answer : List ℕ) → Is T-Session.the_row x-s (LL.val T-Session.the_type T-Session'.the_laws x-s ∷ []) → CoreSays x-store x-s x-plots x-answer r z-store z-answer → length z-store ≡ length x-store → length z-answer ≡ length x-answer → Is T-JointRead.the_row r (w ∷ []) → ent 𝓤 (⋆ 𝓛 (‵ (finally u32 γ-store z-store) ∷ ‵ (fobs γ-s ((T-Session.the_row).coded.code r.session)) ∷ ‵ (fbor κ-s (Body (mem T-Session.the_row) b_s o-s γ-s)) ∷ ‵ ((ShrSlice (named 2) κ-plots u32).own_val ref_plots (slice_val (b-plots, o-plots) (length x-plots) ∷ [])) ∷ ‵ (finally u32 γ-answer z-answer) ∷ ‵ (flft κ-store q-store) ∷ ‵ (flft κ-s q-s) ∷ ‵ (flft κ-plots q-plots) ∷ ‵ (flft κ-answer q-answer) ∷ [])) (Post (EL.val T-Status.the_type T-Status'.the_laws r.status))
   exits r w z-store z-answer g-s e l-store l-answer is =
-      qed 𝓛 (‵ (finally u32 γ-store z-store) ∷ ‵ (fobs γ-s ((T-Session.the_row).coded.code r.session)) ∷ ‵ (fbor κ-s (Body (mem T-Session.the_row) b_s o-s γ-s)) ∷ ‵ ((ShrSlice (named 2) κ-plots u32).own_val ref-plots (slice_val (b-plots, o-plots) (length x-plots) ∷ [])) ∷ ‵ (finally u32 γ-answer z-answer) ∷ ‵ (flft κ-store q-store) ∷ ‵ (flft κ-s q-s) ∷ ‵ (flft κ-plots q-plots) ∷ ‵ (flft κ-answer q-answer) ∷ []) ∵ suffices ! _ (ends_at 𝓛 f.ended stayed (f.clauses 𝓛 at_mem run) (((κ-store, (κ-s, (κ-plots, (κ-answer, tt)))), (q-store, (q-s, (q-plots, (q-answer, tt)))), tt, a, vals), tt) (EL.val T-Status.the_type T-Status'.the_laws r.status) r.status (z-store, (r.session, (tt, (z-answer, tt)))) (l-store, (tt, (tt, (l-answer, tt))))) $ says ! e $
-      nothing ! $ move ! (9 ∷ 0 ∷ []) $ join ! $ move ! (8 ∷ 0 ∷ []) $ join ! $ move ! (7 ∷ 0 ∷ []) $ join ! $ move ! (6 ∷ 0 ∷ []) $ join ! $ frame ! $ nothing ! $ move ! (5 ∷ 0 ∷ []) $ fjoin ! $ move ! (4 ∷ 0 ∷ []) $ fjoin ! $ move ! (2 ∷ 3 ∷ []) $ feq_i ! (List Val) (vptr b_s o-s ∷ []) (vptr b_s o-s ∷ []) refl $ fjoin3 ! $ fjoin ! $ move ! (1 ∷ 0 ∷ []) $ fjoin ! $ owned ! T-Status.the_row (Is T-Status.the_row) (EL.makes T-Status.the_type T-Status'.the_plain 𝓛) r.status _ (result-is r w is) $ move ! (1 ∷ 0 ∷ []) $ done !
+      qed 𝓛 (‵ (finally u32 γ-store z-store) ∷ ‵ (fobs γ-s ((T-Session.the_row).coded.code r.session)) ∷ ‵ (fbor κ-s (Body (mem T-Session.the_row) b_s o-s γ-s)) ∷ ‵ ((ShrSlice (named 2) κ-plots u32).own_val ref_plots (slice_val (b-plots, o-plots) (length x-plots) ∷ [])) ∷ ‵ (finally u32 γ-answer z-answer) ∷ ‵ (flft κ-store q-store) ∷ ‵ (flft κ-s q-s) ∷ ‵ (flft κ-plots q-plots) ∷ ‵ (flft κ-answer q-answer) ∷ []) ∵ suffices ! _ (ends_at 𝓛 f.ended stayed (f.clauses 𝓛 at_mem run) (((κ-store, (κ-s, (κ-plots, (κ-answer, tt)))), (q-store, (q-s, (q-plots, (q-answer, tt)))), tt, a, vals), tt) (EL.val T-Status.the_type T-Status'.the_laws r.status) r.status (z-store, (r.session, (tt, (z-answer, tt)))) (l-store, (tt, (tt, (l-answer, tt))))) $ says ! e $
+      nothing ! $ move ! (9 ∷ 0 ∷ []) $ join ! $ move ! (8 ∷ 0 ∷ []) $ join ! $ move ! (7 ∷ 0 ∷ []) $ join ! $ move ! (6 ∷ 0 ∷ []) $ join ! $ frame ! $ nothing ! $ move ! (5 ∷ 0 ∷ []) $ fjoin ! $ move ! (4 ∷ 0 ∷ []) $ fjoin ! $ move ! (2 ∷ 3 ∷ []) $ feq_i ! (List Val) (vptr b_s o-s ∷ []) (vptr b_s o-s ∷ []) refl $ fjoin3 ! $ fjoin ! $ move ! (1 ∷ 0 ∷ []) $ fjoin ! $ owned ! T-Status.the_row (Is T-Status.the_row) (EL.makes T-Status.the_type T-Status'.the_plain 𝓛) r.status _ (result_is r w is) $ move ! (1 ∷ 0 ∷ []) $ done !
 
   module _ (C : Calls 𝓤 H) (Λ : Loops 𝓤 H) (fm : FmC 𝓤 H 𝓛.laws C) (known : Triple 𝓤 (C #reading·read-joint) (Core 𝓛 at_mem run)) where
     walk : ent 𝓤 (on_entry 𝓛 f.signature (κ-store, (κ-s, (κ-plots, (κ-answer, tt)))) (q-store, (q-s, (q-plots, (q-answer, tt)))) a vals) (WpFn 𝓤 H C Λ code.function (slice_val (b-store, o-store) (length x-store) ∷ vptr b_s o-s ∷ slice_val (b-plots, o-plots) (length x-plots) ∷ slice_val (b-answer, o-answer) (length x-answer) ∷ []) Post)
@@ -118,15 +118,15 @@ module _ {M : Type 1} {𝓤 : Ura M} (𝓛 : Logic 𝓤) (at_mem : Memory → SP
         qed 𝓛 ((‵ (flft κ-store q-store) ⊛ (‵ (flft κ-s q-s) ⊛ (‵ (flft κ-plots q-plots) ⊛ (‵ (flft κ-answer q-answer) ⊛ ‵ ftrue)))) ∷ ‵ (owns (MutSlice (named 0) κ-store u32 ∷ MutRef (named 1) κ-s T-Session.the_row ∷ ShrSlice (named 2) κ-plots u32 ∷ MutSlice (named 3) κ-answer u32 ∷ []) a vals) ∷ []) ∵ enter ! C Λ code.function (slice_val (b-store, o-store) (length x-store) ∷ vptr b_s o-s ∷ slice_val (b-plots, o-plots) (length x-plots) ∷ slice_val (b-answer, o-answer) (length x-answer) ∷ []) _ $
         alloc1 ! (λ l-0. alloc1 ! (λ l-1. alloc1 ! (λ l-2. alloc1 ! (λ l-3. alloc1 ! (λ l-4. alloc1 ! (λ l-5. alloc1 ! (λ l-6. alloc1 ! (λ l-7. alloc1 ! (λ l-8. alloc1 ! (λ l-9. alloc1 ! (λ l-10. alloc0 ! $ params1 ! $ pass1 ! (init ! 18 refl (tt, (tt, (record { fits = room_store.0 }, tt)))) $ pass1 ! (init ! 16 refl (tt, tt)) $ pass1 ! (init ! 14 refl (tt, (tt, (record { fits = room-plots.0 }, tt)))) $ pass1 ! (init ! 12 refl (tt, (tt, (record { fits = room-answer.0 }, tt)))) $ pass0 ! $
         -- [0: _10; 2: _9; 4: _8; 6: _7; 8: _6; 10: _5; 12: _4; 14: _3; 16: _2; 18: _1; 20: _0; toks; owns]
-        move ! (23 ∷ []) $ fsplit ! $ move ! (1 ∷ []) $ fsplit ! $ move ! (1 ∷ []) $ fsplit ! $ move ! (1 ∷ []) $ fsplit ! $ move ! (27 ∷ []) $ split ! $ move ! (1 ∷ []) $ split ! $ move ! (1 ∷ []) $ split ! $ move ! (1 ∷ []) $ split ! $ move ! (8 ∷ []) $ fsplit3 ! $ drop ! $ move ! (0 ∷ 1 ∷ 5 ∷ []) $ opens ! tt T-Session.the_row {h = x-s} b_s o-s (λ vs-s. spelt ! T-Session.the_row (Is T-Session.the_row) (shows 𝓛 T-Session.the_row) (LL.vals T-Session.the_type T-Session'.the_laws) (LL.tells T-Session.the_type T-Session'.the_laws) full_share x-s vs-s b_s o-s $ move ! (1 ∷ []) $ peeks ! T-Session.the_row (Is T-Session.the_row) (shows 𝓛 T-Session.the_row) x-s (LL.val T-Session.the_type T-Session'.the_laws x-s ∷ []) (λ g-s. move ! (11 ∷ []) $ use1 𝓛 (‵ ((ShrSlice (named 2) κ-plots u32).own_val ref-plots (slice_val (b-plots, o-plots) (length x-plots) ∷ [])) ⊛ ‵ ((ShrSlice (named 2) κ-plots u32).own_val ref-plots (slice_val (b-plots, o-plots) (length x-plots) ∷ []))) ((shr_slice_copy 𝓛 (named 2) κ-plots u32).twice ref-plots (slice_val (b-plots, o-plots) (length x-plots) ∷ [])) $ split ! $
+        move ! (23 ∷ []) $ fsplit ! $ move ! (1 ∷ []) $ fsplit ! $ move ! (1 ∷ []) $ fsplit ! $ move ! (1 ∷ []) $ fsplit ! $ move ! (27 ∷ []) $ split ! $ move ! (1 ∷ []) $ split ! $ move ! (1 ∷ []) $ split ! $ move ! (1 ∷ []) $ split ! $ move ! (8 ∷ []) $ fsplit3 ! $ drop ! $ move ! (0 ∷ 1 ∷ 5 ∷ []) $ opens ! tt T-Session.the_row {h = x-s} b_s o-s (λ vs-s. spelt ! T-Session.the_row (Is T-Session.the_row) (shows 𝓛 T-Session.the_row) (LL.vals T-Session.the_type T-Session'.the_laws) (LL.tells T-Session.the_type T-Session'.the_laws) full_share x-s vs-s b_s o-s $ move ! (1 ∷ []) $ peeks ! T-Session.the_row (Is T-Session.the_row) (shows 𝓛 T-Session.the_row) x-s (LL.val T-Session.the_type T-Session'.the_laws x-s ∷ []) (λ g-s. move ! (11 ∷ []) $ use1 𝓛 (‵ ((ShrSlice (named 2) κ-plots u32).own_val ref_plots (slice_val (b-plots, o-plots) (length x-plots) ∷ [])) ⊛ ‵ ((ShrSlice (named 2) κ-plots u32).own_val ref_plots (slice_val (b-plots, o-plots) (length x-plots) ∷ []))) ((shr_slice_copy 𝓛 (named 2) κ-plots u32).twice ref_plots (slice_val (b-plots, o-plots) (length x-plots) ∷ [])) $ split ! $
         -- [own:plots; own2:plots; held:s; cell:s; obor:s; obs:s; auth:s; tok:answer; trest+answer; tok:plots; tok:store; own:answer; rest+answer; own:store; 14: _10; 16: _9; 18: _8; 20: _7; 22: _6; 24: _5; 26: _4; 28: _3; 30: _2; 32: _1; 34: _0]
-        assigns ! (addr ! (from ! (fld ! refl (hop ! (look_in ! 32 (sub ! 0 refl (whole !))) (stop !))))) (from ! (stop !)) (init ! 22 refl (tt, tt)) $ assigns ! (agg ! (and_then ! (load ! (from ! (stop !)) (look ! 22 refl)) (and_then ! (load ! (from ! (fld ! refl (stop !))) (look_in ! 32 (sub ! 1 refl (whole !)))) (no_more !)))) (from ! (stop !)) (init ! 20 refl (tt, (tt, (record { fits = room_store.0 }, tt)))) $ assigns ! (of_opd ! (load ! (from ! (hop ! (look ! 30 refl) (stop !))) (look_raw ! 3 refl))) (from ! (stop !)) (init ! 18 refl ((LL.lawful T-Session.the_type T-Session'.the_laws 𝓛).typed x-s _ g-s).0) $ assigns ! (addr ! (from ! (fld ! refl (hop ! (look_in ! 26 (sub ! 0 refl (whole !))) (stop !))))) (from ! (stop !)) (init ! 16 refl (tt, tt)) $ assigns ! (agg ! (and_then ! (load ! (from ! (stop !)) (look ! 16 refl)) (and_then ! (load ! (from ! (fld ! refl (stop !))) (look_in ! 26 (sub ! 1 refl (whole !)))) (no_more !)))) (from ! (stop !)) (init ! 14 refl (tt, (tt, (record { fits = room-answer.0 }, tt)))) $ move ! (10 ∷ 9 ∷ 7 ∷ 13 ∷ 0 ∷ 11 ∷ []) $ move ! (4 ∷ 5 ∷ []) $ join ! $ move ! (1 ∷ 2 ∷ 3 ∷ 4 ∷ 0 ∷ []) $ move ! (3 ∷ 4 ∷ []) $ join ! $ move ! (1 ∷ 2 ∷ 3 ∷ 0 ∷ []) $ move ! (2 ∷ 3 ∷ []) $ join ! $ move ! (1 ∷ 2 ∷ 0 ∷ []) $ move ! (1 ∷ 2 ∷ []) $ join ! $ move ! (1 ∷ 0 ∷ []) $ move ! (0 ∷ 1 ∷ []) $ join ! $ move ! (0 ∷ []) $ use1 𝓛 (raw ((Core 𝓛 at_mem run).pre to-core)) (goes g-s) $
-        calls_at ! fm (Core 𝓛 at_mem run) known to-core (and_then ! (load ! (from ! (stop !)) (look ! 15 refl)) (and_then ! (load ! (from ! (stop !)) (look ! 13 refl)) (and_then ! (load ! (from ! (stop !)) (look ! 23 refl)) (and_then ! (load ! (from ! (stop !)) (look ! 9 refl)) (no_more !))))) (λ w.
-        use1 𝓛 (later (some (λ (r : JointRead). ((‵ (flft κ-store q-store) ⊛ (‵ (flft κ-plots q-plots) ⊛ (‵ (flft κ-answer q-answer) ⊛ ‵ ftrue))) ⊛ ‵ ((T-JointRead.the_row).own_val r (w ∷ []))) ⊛ raw (ensured 𝓛 core.ended (core.clauses 𝓛 at_mem run) (κ-store, (κ-plots, (κ-answer, tt))) (ref-store, (x-s, (ref-plots, (ref-answer, tt)))) tt r)))) (id⊢ 𝓤 _) $ await ! tt $ pick ! (λ r. split ! $ move ! (1 ∷ []) $ use1 𝓛 (some (λ (zs : List ℕ × (Unit {0} × (Unit {0} × (List ℕ × Unit {0})))). ‵ (lasts core.ended (κ-store, (κ-plots, (κ-answer, tt))) (ref-store, (x-s, (ref-plots, (ref-answer, tt)))) zs) ⊛ raw (fact 𝓤 (CoreSays x-store x-s x-plots x-answer r zs.0 zs.1.1.1.0)))) (id⊢ 𝓤 _) $ pick ! (λ zs. split ! $ move ! (1 ∷ []) $ heard ! (CoreSays x-store x-s x-plots x-answer r zs.0 zs.1.1.1.0) (λ e. fsplit ! $ fsplit ! $ move ! (1 ∷ []) $ feq_l ! (λ l-store. move ! (1 ∷ []) $ fsplit ! $ move ! (1 ∷ []) $ fsplit ! $ move ! (1 ∷ []) $ fsplit ! $ fsplit ! $ move ! (1 ∷ []) $ feq_l ! (λ l-answer. move ! (5 ∷ []) $ split ! $ move ! (1 ∷ []) $ peeks ! T-JointRead.the_row (Is T-JointRead.the_row) (shows 𝓛 T-JointRead.the_row) r (w ∷ []) (λ is.
+        assigns ! (addr ! (from ! (fld ! refl (hop ! (look_in ! 32 (sub ! 0 refl (whole !))) (stop !))))) (from ! (stop !)) (init ! 22 refl (tt, tt)) $ assigns ! (agg ! (and_then ! (load ! (from ! (stop !)) (look ! 22 refl)) (and_then ! (load ! (from ! (fld ! refl (stop !))) (look_in ! 32 (sub ! 1 refl (whole !)))) (no_more !)))) (from ! (stop !)) (init ! 20 refl (tt, (tt, (record { fits = room_store.0 }, tt)))) $ assigns ! (of_opd ! (load ! (from ! (hop ! (look ! 30 refl) (stop !))) (look_raw ! 3 refl))) (from ! (stop !)) (init ! 18 refl ((LL.lawful T-Session.the_type T-Session'.the_laws 𝓛).typed x-s _ g-s).0) $ assigns ! (addr ! (from ! (fld ! refl (hop ! (look_in ! 26 (sub ! 0 refl (whole !))) (stop !))))) (from ! (stop !)) (init ! 16 refl (tt, tt)) $ assigns ! (agg ! (and_then ! (load ! (from ! (stop !)) (look ! 16 refl)) (and_then ! (load ! (from ! (fld ! refl (stop !))) (look_in ! 26 (sub ! 1 refl (whole !)))) (no_more !)))) (from ! (stop !)) (init ! 14 refl (tt, (tt, (record { fits = room-answer.0 }, tt)))) $ move ! (10 ∷ 9 ∷ 7 ∷ 13 ∷ 0 ∷ 11 ∷ []) $ move ! (4 ∷ 5 ∷ []) $ join ! $ move ! (1 ∷ 2 ∷ 3 ∷ 4 ∷ 0 ∷ []) $ move ! (3 ∷ 4 ∷ []) $ join ! $ move ! (1 ∷ 2 ∷ 3 ∷ 0 ∷ []) $ move ! (2 ∷ 3 ∷ []) $ join ! $ move ! (1 ∷ 2 ∷ 0 ∷ []) $ move ! (1 ∷ 2 ∷ []) $ join ! $ move ! (1 ∷ 0 ∷ []) $ move ! (0 ∷ 1 ∷ []) $ join ! $ move ! (0 ∷ []) $ use1 𝓛 (raw ((Core 𝓛 at_mem run).pre to_core)) (goes g-s) $
+        calls_at ! fm (Core 𝓛 at_mem run) known to_core (and_then ! (load ! (from ! (stop !)) (look ! 15 refl)) (and_then ! (load ! (from ! (stop !)) (look ! 13 refl)) (and_then ! (load ! (from ! (stop !)) (look ! 23 refl)) (and_then ! (load ! (from ! (stop !)) (look ! 9 refl)) (no_more !))))) (λ w.
+        use1 𝓛 (later (some (λ (r : JointRead). ((‵ (flft κ-store q-store) ⊛ (‵ (flft κ-plots q-plots) ⊛ (‵ (flft κ-answer q-answer) ⊛ ‵ ftrue))) ⊛ ‵ ((T-JointRead.the_row).own_val r (w ∷ []))) ⊛ raw (ensured 𝓛 core.ended (core.clauses 𝓛 at_mem run) (κ-store, (κ-plots, (κ-answer, tt))) (ref_store, (x-s, (ref_plots, (ref_answer, tt)))) tt r)))) (id⊢ 𝓤 _) $ await ! tt $ pick ! (λ r. split ! $ move ! (1 ∷ []) $ use1 𝓛 (some (λ (zs : List ℕ × (Unit {0} × (Unit {0} × (List ℕ × Unit {0})))). ‵ (lasts core.ended (κ-store, (κ-plots, (κ-answer, tt))) (ref_store, (x-s, (ref_plots, (ref_answer, tt)))) zs) ⊛ raw (fact 𝓤 (CoreSays x-store x-s x-plots x-answer r zs.0 zs.1.1.1.0)))) (id⊢ 𝓤 _) $ pick ! (λ zs. split ! $ move ! (1 ∷ []) $ heard ! (CoreSays x-store x-s x-plots x-answer r zs.0 zs.1.1.1.0) (λ e. fsplit ! $ fsplit ! $ move ! (1 ∷ []) $ feq_l ! (λ l-store. move ! (1 ∷ []) $ fsplit ! $ move ! (1 ∷ []) $ fsplit ! $ move ! (1 ∷ []) $ fsplit ! $ fsplit ! $ move ! (1 ∷ []) $ feq_l ! (λ l-answer. move ! (5 ∷ []) $ split ! $ move ! (1 ∷ []) $ peeks ! T-JointRead.the_row (Is T-JointRead.the_row) (shows 𝓛 T-JointRead.the_row) r (w ∷ []) (λ is.
         -- [result:; btoks; fin:answer; lrest+answer; last+plots; last+s; fin:store; own:plots; held:s; cell:s; obor:s; obs:s; auth:s; trest+answer; rest+answer; 15: _10; 17: _9; 19: _8; 21: _7; 23: _6; 25: _5; 27: _4; 29: _3; 31: _2; 33: _1; 35: _0]
         land ! (from ! (stop !)) (init ! 25 refl ((LL.lawful T-JointRead.the_type T-JointRead'.the_laws 𝓛).typed r _ is).0) $ rewrite ! 25 (λ (u : Val). ‵ (fat full_share T-JointRead'.mir l-5 0 u)) (ap only (LL.tells T-JointRead.the_type T-JointRead'.the_laws r _ is)) refl $
-        assigns ! (of_opd ! (load ! (from ! (fld ! refl (stop !))) (look_in ! 25 (sub ! 1 refl (whole !))))) (from ! (hop ! (look ! 31 refl) (stop !))) (store_raw ! 9 refl ((LL.lawful T-Session.the_type T-Session'.the_laws 𝓛).typed r.session _ (session-is r w is)).0) $
-        assigns ! (of_opd ! (load ! (from ! (fld ! refl (stop !))) (look_in ! 25 (sub ! 0 refl (whole !))))) (from ! (stop !)) (init ! 35 refl ((EL.lawful T-Status.the_type T-Status'.the_laws 𝓛 tt).typed r.status _ (result-is r w is)).0) $ move ! (8 ∷ []) $ drop ! $ owned ! T-Session.the_row (Is T-Session.the_row) (LL.makes T-Session.the_type T-Session'.the_plain 𝓛) r.session _ (session-is r w is) $ move ! (9 ∷ 0 ∷ 10 ∷ 11 ∷ 12 ∷ []) $ closes ! tt T-Session.the_row r.session (LL.val T-Session.the_type T-Session'.the_laws r.session ∷ []) b_s o-s $ move ! (4 ∷ []) $ split ! $ move ! (1 ∷ []) $ split ! $ move ! (1 ∷ []) $ split ! $
+        assigns ! (of_opd ! (load ! (from ! (fld ! refl (stop !))) (look_in ! 25 (sub ! 1 refl (whole !))))) (from ! (hop ! (look ! 31 refl) (stop !))) (store_raw ! 9 refl ((LL.lawful T-Session.the_type T-Session'.the_laws 𝓛).typed r.session _ (session_is r w is)).0) $
+        assigns ! (of_opd ! (load ! (from ! (fld ! refl (stop !))) (look_in ! 25 (sub ! 0 refl (whole !))))) (from ! (stop !)) (init ! 35 refl ((EL.lawful T-Status.the_type T-Status'.the_laws 𝓛 tt).typed r.status _ (result_is r w is)).0) $ move ! (8 ∷ []) $ drop ! $ owned ! T-Session.the_row (Is T-Session.the_row) (LL.makes T-Session.the_type T-Session'.the_plain 𝓛) r.session _ (session_is r w is) $ move ! (9 ∷ 0 ∷ 10 ∷ 11 ∷ 12 ∷ []) $ closes ! tt T-Session.the_row r.session (LL.val T-Session.the_type T-Session'.the_laws r.session ∷ []) b_s o-s $ move ! (4 ∷ []) $ split ! $ move ! (1 ∷ []) $ split ! $ move ! (1 ∷ []) $ split ! $
         -- [tok:answer; brest+answer; tok:plots; tok:store; obs:s; bor:s; tok:s; result:; fin:answer; lrest+answer; last+plots; last+s; fin:store; own:plots; trest+answer; rest+answer; 16: _10; 18: _9; 20: _8; 22: _7; 24: _6; 26: _5; 28: _4; 30: _3; 32: _2; 34: _1; 36: _0]
         returns ! (look ! 36 refl) $ forget ! 16 refl $ forget ! 18 refl $ forget ! 20 refl $ forget ! 22 refl $ forget ! 24 refl $ forget ! 26 refl $ forget ! 28 refl $ forget ! 30 refl $ forget ! 32 refl $ forget ! 34 refl $ forget ! 36 refl $ move ! (36 ∷ 37 ∷ []) $ free1 ! $ move ! (34 ∷ 35 ∷ []) $ free1 ! $ move ! (32 ∷ 33 ∷ []) $ free1 ! $ move ! (30 ∷ 31 ∷ []) $ free1 ! $ move ! (28 ∷ 29 ∷ []) $ free1 ! $ move ! (26 ∷ 27 ∷ []) $ free1 ! $ move ! (24 ∷ 25 ∷ []) $ free1 ! $ move ! (22 ∷ 23 ∷ []) $ free1 ! $ move ! (20 ∷ 21 ∷ []) $ free1 ! $ move ! (18 ∷ 19 ∷ []) $ free1 ! $ move ! (16 ∷ 17 ∷ []) $ free1 ! $ free0 ! $ keep ! (12 ∷ 4 ∷ 5 ∷ 13 ∷ 8 ∷ 3 ∷ 6 ∷ 2 ∷ 0 ∷ []) $ by ! (exits r w zs.0 zs.1.1.1.0 g-s e l-store l-answer is)))))))))))))))))))))
 

@@ -67,26 +67,26 @@ Core 𝓛 at_mem run = triple_of 𝓛 core.signature (core.spec 𝓛 at_mem run)
 abbrev CoreSays : List ℕ → Session → ℕ → PlotDone → List ℕ → Type 0
 CoreSays x-store x-s x-plot r z-store = ReadPromise x-store x-s x-plot (code_of r.answer.status) r.answer.found r.answer.entry r.session z-store
 
-session-is : (r : PlotDone) (w : Val) → Is T-PlotDone.the_row r (w ∷ []) → Is T-Session.the_row r.session (LL.val T-Session.the_type T-Session'.the_laws r.session ∷ [])
-session-is r w is = (LL.owed T-PlotDone.the_type T-PlotDone'.the_laws r (w ∷ []) is).1.0
+session_is : (r : PlotDone) (w : Val) → Is T-PlotDone.the_row r (w ∷ []) → Is T-Session.the_row r.session (LL.val T-Session.the_type T-Session'.the_laws r.session ∷ [])
+session_is r w is = (LL.owed T-PlotDone.the_type T-PlotDone'.the_laws r (w ∷ []) is).1.0
 
-result-is : (r : PlotDone) (w : Val) → Is T-PlotDone.the_row r (w ∷ []) → Is T-PlotAnswer.the_row r.answer (LL.val T-PlotAnswer.the_type T-PlotAnswer'.the_laws r.answer ∷ [])
-result-is r w is = (LL.owed T-PlotDone.the_type T-PlotDone'.the_laws r (w ∷ []) is).0
+result_is : (r : PlotDone) (w : Val) → Is T-PlotDone.the_row r (w ∷ []) → Is T-PlotAnswer.the_row r.answer (LL.val T-PlotAnswer.the_type T-PlotAnswer'.the_laws r.answer ∷ [])
+result_is r w is = (LL.owed T-PlotDone.the_type T-PlotDone'.the_laws r (w ∷ []) is).0
 
 module _ {M : Type 1} {𝓤 : Ura M} (𝓛 : Logic 𝓤) (at_mem : Memory → SProp 𝓤) (run : Routine → Fun 𝓤) (κ-store : Lft) (q-store : Share) (b-store o-store : ℕ) (γ-store : GName) (x-store : List ℕ) (room_store : Room u32 (length x-store)) (κ-s : Lft) (q-s : Share) (b_s o-s : ℕ) (γ-s : GName) (x-s : Session) (x-plot : ℕ) where
   open 𝓛 use {H}
 
-  abbrev ref-store : MutBor (List ℕ)
-  ref-store = record { ref_ptr = (b-store, o-store); ghost_name = γ-store; now = x-store }
+  abbrev ref_store : MutBor (List ℕ)
+  ref_store = record { ref_ptr = (b-store, o-store); ghost_name = γ-store; now = x-store }
 
-  abbrev ref-s : MutBor Session
-  ref-s = record { ref_ptr = (b_s, o-s); ghost_name = γ-s; now = x-s }
+  abbrev ref_s : MutBor Session
+  ref_s = record { ref_ptr = (b_s, o-s); ghost_name = γ-s; now = x-s }
 
   abbrev Arg : Type 0
   Arg = MutBor (List ℕ) × (MutBor Session × (ℕ × Unit {0}))
 
   abbrev a : Arg
-  a = (ref-store, (ref-s, (x-plot, tt)))
+  a = (ref_store, (ref_s, (x-plot, tt)))
 
   abbrev vals : List Val × (List Val × (List Val × Unit {0}))
   vals = (slice_val (b-store, o-store) (length x-store) ∷ [], (vptr b_s o-s ∷ [], (vint w32 x-plot ∷ [], tt)))
@@ -94,17 +94,17 @@ module _ {M : Type 1} {𝓤 : Ura M} (𝓛 : Logic 𝓤) (at_mem : Memory → SP
   abbrev Post : Val → SProp 𝓤
   Post = (walk_of 𝓛 f.ended stayed (f.clauses 𝓛 at_mem run)).post (((κ-store, (κ-s, tt)), (q-store, (q-s, tt)), tt, a, vals), tt)
 
-  abbrev to-core : (Core 𝓛 at_mem run).Ghost
-  to-core = (((κ-store, tt), (q-store, tt), tt, (ref-store, (x-s, (x-plot, tt))), (slice_val (b-store, o-store) (length x-store) ∷ [], (LL.val T-Session.the_type T-Session'.the_laws x-s ∷ [], (vint w32 x-plot ∷ [], tt)))), tt)
+  abbrev to_core : (Core 𝓛 at_mem run).Ghost
+  to_core = (((κ-store, tt), (q-store, tt), tt, (ref_store, (x-s, (x-plot, tt))), (slice_val (b-store, o-store) (length x-store) ∷ [], (LL.val T-Session.the_type T-Session'.the_laws x-s ∷ [], (vint w32 x-plot ∷ [], tt)))), tt)
 
-  goes : x-plot < 2 ^ 32 → Is T-Session.the_row x-s (LL.val T-Session.the_type T-Session'.the_laws x-s ∷ []) → ent 𝓤 (⋆ 𝓛 (‵ (flft κ-store q-store) ∷ ‵ ((MutSlice (named 0) κ-store u32).own_val ref-store (slice_val (b-store, o-store) (length x-store) ∷ [])) ∷ [])) ((Core 𝓛 at_mem run).pre to-core)
+  goes : x-plot < 2 ^ 32 → Is T-Session.the_row x-s (LL.val T-Session.the_type T-Session'.the_laws x-s ∷ []) → ent 𝓤 (⋆ 𝓛 (‵ (flft κ-store q-store) ∷ ‵ ((MutSlice (named 0) κ-store u32).own_val ref_store (slice_val (b-store, o-store) (length x-store) ∷ [])) ∷ [])) ((Core 𝓛 at_mem run).pre to_core)
   goes fits-plot g-s =
-      qed 𝓛 (‵ (flft κ-store q-store) ∷ ‵ ((MutSlice (named 0) κ-store u32).own_val ref-store (slice_val (b-store, o-store) (length x-store) ∷ [])) ∷ []) ∵ nothing ! $ owned ! u32 (Is u32) (uint_Makes 𝓛 w32) x-plot _ (refl, fits-plot) $ fjoin ! $ owned ! T-Session.the_row (Is T-Session.the_row) (LL.makes T-Session.the_type T-Session'.the_plain 𝓛) x-s _ g-s $ fjoin ! $ move ! (2 ∷ 0 ∷ []) $ fjoin ! $ nothing ! $ move ! (2 ∷ 0 ∷ []) $ join ! $ join ! $ frame ! $ done !
+      qed 𝓛 (‵ (flft κ-store q-store) ∷ ‵ ((MutSlice (named 0) κ-store u32).own_val ref_store (slice_val (b-store, o-store) (length x-store) ∷ [])) ∷ []) ∵ nothing ! $ owned ! u32 (Is u32) (uint_Makes 𝓛 w32) x-plot _ (refl, fits-plot) $ fjoin ! $ owned ! T-Session.the_row (Is T-Session.the_row) (LL.makes T-Session.the_type T-Session'.the_plain 𝓛) x-s _ g-s $ fjoin ! $ move ! (2 ∷ 0 ∷ []) $ fjoin ! $ nothing ! $ move ! (2 ∷ 0 ∷ []) $ join ! $ join ! $ frame ! $ done !
 
   exits : (r : PlotDone) (w : Val) (z-store : List ℕ) → x-plot < 2 ^ 32 → Is T-Session.the_row x-s (LL.val T-Session.the_type T-Session'.the_laws x-s ∷ []) → CoreSays x-store x-s x-plot r z-store → length z-store ≡ length x-store → Is T-PlotDone.the_row r (w ∷ []) → ent 𝓤 (⋆ 𝓛 (‵ (finally u32 γ-store z-store) ∷ ‵ (fobs γ-s ((T-Session.the_row).coded.code r.session)) ∷ ‵ (fbor κ-s (Body (mem T-Session.the_row) b_s o-s γ-s)) ∷ ‵ (flft κ-store q-store) ∷ ‵ (flft κ-s q-s) ∷ [])) (Post (LL.val T-PlotAnswer.the_type T-PlotAnswer'.the_laws r.answer))
   exits r w z-store fits-plot g-s e l-store is =
       qed 𝓛 (‵ (finally u32 γ-store z-store) ∷ ‵ (fobs γ-s ((T-Session.the_row).coded.code r.session)) ∷ ‵ (fbor κ-s (Body (mem T-Session.the_row) b_s o-s γ-s)) ∷ ‵ (flft κ-store q-store) ∷ ‵ (flft κ-s q-s) ∷ []) ∵ suffices ! _ (ends_at 𝓛 f.ended stayed (f.clauses 𝓛 at_mem run) (((κ-store, (κ-s, tt)), (q-store, (q-s, tt)), tt, a, vals), tt) (LL.val T-PlotAnswer.the_type T-PlotAnswer'.the_laws r.answer) r.answer (z-store, (r.session, (tt, tt))) (l-store, (tt, (tt, tt)))) $ says ! e $
-      nothing ! $ move ! (5 ∷ 0 ∷ []) $ join ! $ move ! (4 ∷ 0 ∷ []) $ join ! $ frame ! $ nothing ! $ owned ! u32 (Is u32) (uint_Makes 𝓛 w32) x-plot _ (refl, fits-plot) $ fjoin ! $ move ! (2 ∷ 3 ∷ []) $ feq_i ! (List Val) (vptr b_s o-s ∷ []) (vptr b_s o-s ∷ []) refl $ fjoin3 ! $ fjoin ! $ move ! (1 ∷ 0 ∷ []) $ fjoin ! $ owned ! T-PlotAnswer.the_row (Is T-PlotAnswer.the_row) (LL.makes T-PlotAnswer.the_type T-PlotAnswer'.the_plain 𝓛) r.answer _ (result-is r w is) $ move ! (1 ∷ 0 ∷ []) $ done !
+      nothing ! $ move ! (5 ∷ 0 ∷ []) $ join ! $ move ! (4 ∷ 0 ∷ []) $ join ! $ frame ! $ nothing ! $ owned ! u32 (Is u32) (uint_Makes 𝓛 w32) x-plot _ (refl, fits-plot) $ fjoin ! $ move ! (2 ∷ 3 ∷ []) $ feq_i ! (List Val) (vptr b_s o-s ∷ []) (vptr b_s o-s ∷ []) refl $ fjoin3 ! $ fjoin ! $ move ! (1 ∷ 0 ∷ []) $ fjoin ! $ owned ! T-PlotAnswer.the_row (Is T-PlotAnswer.the_row) (LL.makes T-PlotAnswer.the_type T-PlotAnswer'.the_plain 𝓛) r.answer _ (result_is r w is) $ move ! (1 ∷ 0 ∷ []) $ done !
 
   module _ (C : Calls 𝓤 H) (Λ : Loops 𝓤 H) (fm : FmC 𝓤 H 𝓛.laws C) (known : Triple 𝓤 (C #lent·read-plot-by-value) (Core 𝓛 at_mem run)) where
     walk : x-plot < 2 ^ 32 → ent 𝓤 (on_entry 𝓛 f.signature (κ-store, (κ-s, tt)) (q-store, (q-s, tt)) a vals) (WpFn 𝓤 H C Λ code.function (slice_val (b-store, o-store) (length x-store) ∷ vptr b_s o-s ∷ vint w32 x-plot ∷ []) Post)
@@ -114,13 +114,13 @@ module _ {M : Type 1} {𝓤 : Ura M} (𝓛 : Logic 𝓤) (at_mem : Memory → SP
         -- [0: _7; 2: _6; 4: _5; 6: _4; 8: _3; 10: _2; 12: _1; 14: _0; toks; owns]
         move ! (17 ∷ []) $ fsplit ! $ move ! (1 ∷ []) $ fsplit ! $ move ! (1 ∷ []) $ fsplit ! $ move ! (20 ∷ []) $ split ! $ move ! (1 ∷ []) $ split ! $ move ! (5 ∷ []) $ fsplit3 ! $ drop ! $ opens ! tt T-Session.the_row {h = x-s} b_s o-s (λ vs-s. spelt ! T-Session.the_row (Is T-Session.the_row) (shows 𝓛 T-Session.the_row) (LL.vals T-Session.the_type T-Session'.the_laws) (LL.tells T-Session.the_type T-Session'.the_laws) full_share x-s vs-s b_s o-s $ move ! (1 ∷ []) $ peeks ! T-Session.the_row (Is T-Session.the_row) (shows 𝓛 T-Session.the_row) x-s (LL.val T-Session.the_type T-Session'.the_laws x-s ∷ []) (λ g-s.
         -- [held:s; cell:s; obor:s; obs:s; auth:s; trest+s; tok:store; own:plot; rest+plot; own:store; 10: _7; 12: _6; 14: _5; 16: _4; 18: _3; 20: _2; 22: _1; 24: _0]
-        assigns ! (addr ! (from ! (fld ! refl (hop ! (look_in ! 22 (sub ! 0 refl (whole !))) (stop !))))) (from ! (stop !)) (init ! 14 refl (tt, tt)) $ assigns ! (agg ! (and_then ! (load ! (from ! (stop !)) (look ! 14 refl)) (and_then ! (load ! (from ! (fld ! refl (stop !))) (look_in ! 22 (sub ! 1 refl (whole !)))) (no_more !)))) (from ! (stop !)) (init ! 12 refl (tt, (tt, (record { fits = room_store.0 }, tt)))) $ assigns ! (of_opd ! (load ! (from ! (hop ! (look ! 20 refl) (stop !))) (look_raw ! 1 refl))) (from ! (stop !)) (init ! 10 refl ((LL.lawful T-Session.the_type T-Session'.the_laws 𝓛).typed x-s _ g-s).0) $ move ! (6 ∷ 9 ∷ []) $ use2 𝓛 (raw ((Core 𝓛 at_mem run).pre to-core)) (goes fits-plot g-s) $
-        calls_at ! fm (Core 𝓛 at_mem run) known to-core (and_then ! (load ! (from ! (stop !)) (look ! 11 refl)) (and_then ! (load ! (from ! (stop !)) (look ! 9 refl)) (and_then ! (load ! (from ! (stop !)) (look ! 17 refl)) (no_more !)))) (λ w.
-        use1 𝓛 (later (some (λ (r : PlotDone). ((‵ (flft κ-store q-store) ⊛ ‵ ftrue) ⊛ ‵ ((T-PlotDone.the_row).own_val r (w ∷ []))) ⊛ raw (ensured 𝓛 core.ended (core.clauses 𝓛 at_mem run) (κ-store, tt) (ref-store, (x-s, (x-plot, tt))) tt r)))) (id⊢ 𝓤 _) $ await ! tt $ pick ! (λ r. split ! $ move ! (1 ∷ []) $ use1 𝓛 (some (λ (zs : List ℕ × (Unit {0} × (Unit {0} × Unit {0}))). ‵ (lasts core.ended (κ-store, tt) (ref-store, (x-s, (x-plot, tt))) zs) ⊛ raw (fact 𝓤 (CoreSays x-store x-s x-plot r zs.0)))) (id⊢ 𝓤 _) $ pick ! (λ zs. split ! $ move ! (1 ∷ []) $ heard ! (CoreSays x-store x-s x-plot r zs.0) (λ e. fsplit ! $ fsplit ! $ move ! (1 ∷ []) $ feq_l ! (λ l-store. move ! (2 ∷ []) $ split ! $ move ! (1 ∷ []) $ peeks ! T-PlotDone.the_row (Is T-PlotDone.the_row) (shows 𝓛 T-PlotDone.the_row) r (w ∷ []) (λ is.
+        assigns ! (addr ! (from ! (fld ! refl (hop ! (look_in ! 22 (sub ! 0 refl (whole !))) (stop !))))) (from ! (stop !)) (init ! 14 refl (tt, tt)) $ assigns ! (agg ! (and_then ! (load ! (from ! (stop !)) (look ! 14 refl)) (and_then ! (load ! (from ! (fld ! refl (stop !))) (look_in ! 22 (sub ! 1 refl (whole !)))) (no_more !)))) (from ! (stop !)) (init ! 12 refl (tt, (tt, (record { fits = room_store.0 }, tt)))) $ assigns ! (of_opd ! (load ! (from ! (hop ! (look ! 20 refl) (stop !))) (look_raw ! 1 refl))) (from ! (stop !)) (init ! 10 refl ((LL.lawful T-Session.the_type T-Session'.the_laws 𝓛).typed x-s _ g-s).0) $ move ! (6 ∷ 9 ∷ []) $ use2 𝓛 (raw ((Core 𝓛 at_mem run).pre to_core)) (goes fits-plot g-s) $
+        calls_at ! fm (Core 𝓛 at_mem run) known to_core (and_then ! (load ! (from ! (stop !)) (look ! 11 refl)) (and_then ! (load ! (from ! (stop !)) (look ! 9 refl)) (and_then ! (load ! (from ! (stop !)) (look ! 17 refl)) (no_more !)))) (λ w.
+        use1 𝓛 (later (some (λ (r : PlotDone). ((‵ (flft κ-store q-store) ⊛ ‵ ftrue) ⊛ ‵ ((T-PlotDone.the_row).own_val r (w ∷ []))) ⊛ raw (ensured 𝓛 core.ended (core.clauses 𝓛 at_mem run) (κ-store, tt) (ref_store, (x-s, (x-plot, tt))) tt r)))) (id⊢ 𝓤 _) $ await ! tt $ pick ! (λ r. split ! $ move ! (1 ∷ []) $ use1 𝓛 (some (λ (zs : List ℕ × (Unit {0} × (Unit {0} × Unit {0}))). ‵ (lasts core.ended (κ-store, tt) (ref_store, (x-s, (x-plot, tt))) zs) ⊛ raw (fact 𝓤 (CoreSays x-store x-s x-plot r zs.0)))) (id⊢ 𝓤 _) $ pick ! (λ zs. split ! $ move ! (1 ∷ []) $ heard ! (CoreSays x-store x-s x-plot r zs.0) (λ e. fsplit ! $ fsplit ! $ move ! (1 ∷ []) $ feq_l ! (λ l-store. move ! (2 ∷ []) $ split ! $ move ! (1 ∷ []) $ peeks ! T-PlotDone.the_row (Is T-PlotDone.the_row) (shows 𝓛 T-PlotDone.the_row) r (w ∷ []) (λ is.
         -- [result:; btoks; fin:store; lrest+store; held:s; cell:s; obor:s; obs:s; auth:s; trest+s; own:plot; rest+plot; 12: _7; 14: _6; 16: _5; 18: _4; 20: _3; 22: _2; 24: _1; 26: _0]
         land ! (from ! (stop !)) (init ! 18 refl ((LL.lawful T-PlotDone.the_type T-PlotDone'.the_laws 𝓛).typed r _ is).0) $ rewrite ! 18 (λ (u : Val). ‵ (fat full_share T-PlotDone'.mir l-4 0 u)) (ap only (LL.tells T-PlotDone.the_type T-PlotDone'.the_laws r _ is)) refl $
-        assigns ! (of_opd ! (load ! (from ! (fld ! refl (stop !))) (look_in ! 18 (sub ! 1 refl (whole !))))) (from ! (hop ! (look ! 22 refl) (stop !))) (store_raw ! 5 refl ((LL.lawful T-Session.the_type T-Session'.the_laws 𝓛).typed r.session _ (session-is r w is)).0) $
-        assigns ! (of_opd ! (load ! (from ! (fld ! refl (stop !))) (look_in ! 18 (sub ! 0 refl (whole !))))) (from ! (stop !)) (init ! 26 refl ((LL.lawful T-PlotAnswer.the_type T-PlotAnswer'.the_laws 𝓛).typed r.answer _ (result-is r w is)).0) $ move ! (4 ∷ []) $ drop ! $ owned ! T-Session.the_row (Is T-Session.the_row) (LL.makes T-Session.the_type T-Session'.the_plain 𝓛) r.session _ (session-is r w is) $ move ! (5 ∷ 0 ∷ 6 ∷ 7 ∷ 8 ∷ []) $ closes ! tt T-Session.the_row r.session (LL.val T-Session.the_type T-Session'.the_laws r.session ∷ []) b_s o-s $ move ! (4 ∷ []) $ split ! $
+        assigns ! (of_opd ! (load ! (from ! (fld ! refl (stop !))) (look_in ! 18 (sub ! 1 refl (whole !))))) (from ! (hop ! (look ! 22 refl) (stop !))) (store_raw ! 5 refl ((LL.lawful T-Session.the_type T-Session'.the_laws 𝓛).typed r.session _ (session_is r w is)).0) $
+        assigns ! (of_opd ! (load ! (from ! (fld ! refl (stop !))) (look_in ! 18 (sub ! 0 refl (whole !))))) (from ! (stop !)) (init ! 26 refl ((LL.lawful T-PlotAnswer.the_type T-PlotAnswer'.the_laws 𝓛).typed r.answer _ (result_is r w is)).0) $ move ! (4 ∷ []) $ drop ! $ owned ! T-Session.the_row (Is T-Session.the_row) (LL.makes T-Session.the_type T-Session'.the_plain 𝓛) r.session _ (session_is r w is) $ move ! (5 ∷ 0 ∷ 6 ∷ 7 ∷ 8 ∷ []) $ closes ! tt T-Session.the_row r.session (LL.val T-Session.the_type T-Session'.the_laws r.session ∷ []) b_s o-s $ move ! (4 ∷ []) $ split ! $
         -- [tok:store; brest+store; obs:s; bor:s; tok:s; result:; fin:store; lrest+store; trest+s; own:plot; rest+plot; 11: _7; 13: _6; 15: _5; 17: _4; 19: _3; 21: _2; 23: _1; 25: _0]
         returns ! (look ! 25 refl) $ forget ! 11 refl $ forget ! 13 refl $ forget ! 15 refl $ forget ! 17 refl $ forget ! 19 refl $ forget ! 21 refl $ forget ! 23 refl $ forget ! 25 refl $ move ! (25 ∷ 26 ∷ []) $ free1 ! $ move ! (23 ∷ 24 ∷ []) $ free1 ! $ move ! (21 ∷ 22 ∷ []) $ free1 ! $ move ! (19 ∷ 20 ∷ []) $ free1 ! $ move ! (17 ∷ 18 ∷ []) $ free1 ! $ move ! (15 ∷ 16 ∷ []) $ free1 ! $ move ! (13 ∷ 14 ∷ []) $ free1 ! $ move ! (11 ∷ 12 ∷ []) $ free1 ! $ free0 ! $ keep ! (6 ∷ 2 ∷ 3 ∷ 0 ∷ 4 ∷ []) $ by ! (exits r w zs.0 fits-plot g-s e l-store is)))))))))))))))))
 

@@ -38,7 +38,7 @@ use denote.Triple.Table.{entered, cited}
 use denote.Triple.Walked.{says, Stays, stay_ref, stay_none, gave_slice, walk_of, AllGo, Goes-ref, Goes-none, Goes-gave_slice, Walks, ends_at, walked, walk_Meets}
 use denote.Exit.{yes}
 use denote.Signature.{plain}
-use Rattle.frame.specs.Refusals.{replyOf}
+use Rattle.frame.specs.Refusals.{reply_of}
 use Rattle.office.specs.Promises.{WritePromise}
 use Rattle.frame.specs.declared.session.Session.{Session}
 use Rattle.frame.specs.contracts.session.Session as T-Session
@@ -66,31 +66,31 @@ Core 𝓛 at_mem run = triple_of 𝓛 core.signature (core.spec 𝓛 at_mem run)
 
 -- what the core says of its result and of the last lists
 abbrev CoreSays : List ℕ → Session → ℕ → ℕ → List ℕ → Wrote → List ℕ → List ℕ → Type 0
-CoreSays x-store x-s x-plot x-value x-out r z-store z-out = WritePromise x-store x-s x-plot x-value x-out (replyOf r.written) r.session z-store z-out
+CoreSays x-store x-s x-plot x-value x-out r z-store z-out = WritePromise x-store x-s x-plot x-value x-out (reply_of r.written) r.session z-store z-out
 
-session-is : (r : Wrote) (w : Val) → Is T-Wrote.the_row r (w ∷ []) → Is T-Session.the_row r.session (LL.val T-Session.the_type T-Session'.the_laws r.session ∷ [])
-session-is r w is = (LL.owed T-Wrote.the_type T-Wrote'.the_laws r (w ∷ []) is).1.0
+session_is : (r : Wrote) (w : Val) → Is T-Wrote.the_row r (w ∷ []) → Is T-Session.the_row r.session (LL.val T-Session.the_type T-Session'.the_laws r.session ∷ [])
+session_is r w is = (LL.owed T-Wrote.the_type T-Wrote'.the_laws r (w ∷ []) is).1.0
 
-result-is : (r : Wrote) (w : Val) → Is T-Wrote.the_row r (w ∷ []) → Is T-Written.the_row r.written (EL.val T-Written.the_type T-Written'.the_laws r.written ∷ [])
-result-is r w is = (LL.owed T-Wrote.the_type T-Wrote'.the_laws r (w ∷ []) is).0
+result_is : (r : Wrote) (w : Val) → Is T-Wrote.the_row r (w ∷ []) → Is T-Written.the_row r.written (EL.val T-Written.the_type T-Written'.the_laws r.written ∷ [])
+result_is r w is = (LL.owed T-Wrote.the_type T-Wrote'.the_laws r (w ∷ []) is).0
 
 module _ {M : Type 1} {𝓤 : Ura M} (𝓛 : Logic 𝓤) (at_mem : Memory → SProp 𝓤) (run : Routine → Fun 𝓤) (κ-store : Lft) (q-store : Share) (b-store o-store : ℕ) (γ-store : GName) (x-store : List ℕ) (room_store : Room u32 (length x-store)) (κ-s : Lft) (q-s : Share) (b_s o-s : ℕ) (γ-s : GName) (x-s : Session) (x-plot : ℕ) (x-value : ℕ) (κ-out : Lft) (q-out : Share) (b-out o-out : ℕ) (γ-out : GName) (x-out : List ℕ) (room_out : Room u32 (length x-out)) where
   open 𝓛 use {H}
 
-  abbrev ref-store : MutBor (List ℕ)
-  ref-store = record { ref_ptr = (b-store, o-store); ghost_name = γ-store; now = x-store }
+  abbrev ref_store : MutBor (List ℕ)
+  ref_store = record { ref_ptr = (b-store, o-store); ghost_name = γ-store; now = x-store }
 
-  abbrev ref-s : MutBor Session
-  ref-s = record { ref_ptr = (b_s, o-s); ghost_name = γ-s; now = x-s }
+  abbrev ref_s : MutBor Session
+  ref_s = record { ref_ptr = (b_s, o-s); ghost_name = γ-s; now = x-s }
 
-  abbrev ref-out : MutBor (List ℕ)
-  ref-out = record { ref_ptr = (b-out, o-out); ghost_name = γ-out; now = x-out }
+  abbrev ref_out : MutBor (List ℕ)
+  ref_out = record { ref_ptr = (b-out, o-out); ghost_name = γ-out; now = x-out }
 
   abbrev Arg : Type 0
   Arg = MutBor (List ℕ) × (MutBor Session × (ℕ × (ℕ × (MutBor (List ℕ) × Unit {0}))))
 
   abbrev a : Arg
-  a = (ref-store, (ref-s, (x-plot, (x-value, (ref-out, tt)))))
+  a = (ref_store, (ref_s, (x-plot, (x-value, (ref_out, tt)))))
 
   abbrev vals : List Val × (List Val × (List Val × (List Val × (List Val × Unit {0}))))
   vals = (slice_val (b-store, o-store) (length x-store) ∷ [], (vptr b_s o-s ∷ [], (vint w32 x-plot ∷ [], (vint w32 x-value ∷ [], (slice_val (b-out, o-out) (length x-out) ∷ [], tt)))))
@@ -98,17 +98,17 @@ module _ {M : Type 1} {𝓤 : Ura M} (𝓛 : Logic 𝓤) (at_mem : Memory → SP
   abbrev Post : Val → SProp 𝓤
   Post = (walk_of 𝓛 f.ended stayed (f.clauses 𝓛 at_mem run)).post (((κ-store, (κ-s, (κ-out, tt))), (q-store, (q-s, (q-out, tt))), tt, a, vals), tt)
 
-  abbrev to-core : (Core 𝓛 at_mem run).Ghost
-  to-core = (((κ-store, (κ-out, tt)), (q-store, (q-out, tt)), tt, (ref-store, (x-s, (x-plot, (x-value, (ref-out, tt))))), (slice_val (b-store, o-store) (length x-store) ∷ [], (LL.val T-Session.the_type T-Session'.the_laws x-s ∷ [], (vint w32 x-plot ∷ [], (vint w32 x-value ∷ [], (slice_val (b-out, o-out) (length x-out) ∷ [], tt)))))), tt)
+  abbrev to_core : (Core 𝓛 at_mem run).Ghost
+  to_core = (((κ-store, (κ-out, tt)), (q-store, (q-out, tt)), tt, (ref_store, (x-s, (x-plot, (x-value, (ref_out, tt))))), (slice_val (b-store, o-store) (length x-store) ∷ [], (LL.val T-Session.the_type T-Session'.the_laws x-s ∷ [], (vint w32 x-plot ∷ [], (vint w32 x-value ∷ [], (slice_val (b-out, o-out) (length x-out) ∷ [], tt)))))), tt)
 
-  goes : x-plot < 2 ^ 32 → x-value < 2 ^ 32 → Is T-Session.the_row x-s (LL.val T-Session.the_type T-Session'.the_laws x-s ∷ []) → ent 𝓤 (⋆ 𝓛 (‵ (flft κ-store q-store) ∷ ‵ (flft κ-out q-out) ∷ ‵ ((MutSlice (named 0) κ-store u32).own_val ref-store (slice_val (b-store, o-store) (length x-store) ∷ [])) ∷ ‵ ((MutSlice (named 2) κ-out u32).own_val ref-out (slice_val (b-out, o-out) (length x-out) ∷ [])) ∷ [])) ((Core 𝓛 at_mem run).pre to-core)
+  goes : x-plot < 2 ^ 32 → x-value < 2 ^ 32 → Is T-Session.the_row x-s (LL.val T-Session.the_type T-Session'.the_laws x-s ∷ []) → ent 𝓤 (⋆ 𝓛 (‵ (flft κ-store q-store) ∷ ‵ (flft κ-out q-out) ∷ ‵ ((MutSlice (named 0) κ-store u32).own_val ref_store (slice_val (b-store, o-store) (length x-store) ∷ [])) ∷ ‵ ((MutSlice (named 2) κ-out u32).own_val ref_out (slice_val (b-out, o-out) (length x-out) ∷ [])) ∷ [])) ((Core 𝓛 at_mem run).pre to_core)
   goes fits-plot fits-value g-s =
-      qed 𝓛 (‵ (flft κ-store q-store) ∷ ‵ (flft κ-out q-out) ∷ ‵ ((MutSlice (named 0) κ-store u32).own_val ref-store (slice_val (b-store, o-store) (length x-store) ∷ [])) ∷ ‵ ((MutSlice (named 2) κ-out u32).own_val ref-out (slice_val (b-out, o-out) (length x-out) ∷ [])) ∷ []) ∵ nothing ! $ move ! (4 ∷ 0 ∷ []) $ fjoin ! $ owned ! u32 (Is u32) (uint_Makes 𝓛 w32) x-value _ (refl, fits-value) $ fjoin ! $ owned ! u32 (Is u32) (uint_Makes 𝓛 w32) x-plot _ (refl, fits-plot) $ fjoin ! $ owned ! T-Session.the_row (Is T-Session.the_row) (LL.makes T-Session.the_type T-Session'.the_plain 𝓛) x-s _ g-s $ fjoin ! $ move ! (3 ∷ 0 ∷ []) $ fjoin ! $ nothing ! $ move ! (3 ∷ 0 ∷ []) $ join ! $ move ! (2 ∷ 0 ∷ []) $ join ! $ join ! $ frame ! $ done !
+      qed 𝓛 (‵ (flft κ-store q-store) ∷ ‵ (flft κ-out q-out) ∷ ‵ ((MutSlice (named 0) κ-store u32).own_val ref_store (slice_val (b-store, o-store) (length x-store) ∷ [])) ∷ ‵ ((MutSlice (named 2) κ-out u32).own_val ref_out (slice_val (b-out, o-out) (length x-out) ∷ [])) ∷ []) ∵ nothing ! $ move ! (4 ∷ 0 ∷ []) $ fjoin ! $ owned ! u32 (Is u32) (uint_Makes 𝓛 w32) x-value _ (refl, fits-value) $ fjoin ! $ owned ! u32 (Is u32) (uint_Makes 𝓛 w32) x-plot _ (refl, fits-plot) $ fjoin ! $ owned ! T-Session.the_row (Is T-Session.the_row) (LL.makes T-Session.the_type T-Session'.the_plain 𝓛) x-s _ g-s $ fjoin ! $ move ! (3 ∷ 0 ∷ []) $ fjoin ! $ nothing ! $ move ! (3 ∷ 0 ∷ []) $ join ! $ move ! (2 ∷ 0 ∷ []) $ join ! $ join ! $ frame ! $ done !
 
   exits : (r : Wrote) (w : Val) (z-store : List ℕ) (z-out : List ℕ) → x-plot < 2 ^ 32 → x-value < 2 ^ 32 → Is T-Session.the_row x-s (LL.val T-Session.the_type T-Session'.the_laws x-s ∷ []) → CoreSays x-store x-s x-plot x-value x-out r z-store z-out → length z-store ≡ length x-store → length z-out ≡ length x-out → Is T-Wrote.the_row r (w ∷ []) → ent 𝓤 (⋆ 𝓛 (‵ (finally u32 γ-store z-store) ∷ ‵ (fobs γ-s ((T-Session.the_row).coded.code r.session)) ∷ ‵ (fbor κ-s (Body (mem T-Session.the_row) b_s o-s γ-s)) ∷ ‵ (finally u32 γ-out z-out) ∷ ‵ (flft κ-store q-store) ∷ ‵ (flft κ-s q-s) ∷ ‵ (flft κ-out q-out) ∷ [])) (Post (EL.val T-Written.the_type T-Written'.the_laws r.written))
   exits r w z-store z-out fits-plot fits-value g-s e l-store l-out is =
       qed 𝓛 (‵ (finally u32 γ-store z-store) ∷ ‵ (fobs γ-s ((T-Session.the_row).coded.code r.session)) ∷ ‵ (fbor κ-s (Body (mem T-Session.the_row) b_s o-s γ-s)) ∷ ‵ (finally u32 γ-out z-out) ∷ ‵ (flft κ-store q-store) ∷ ‵ (flft κ-s q-s) ∷ ‵ (flft κ-out q-out) ∷ []) ∵ suffices ! _ (ends_at 𝓛 f.ended stayed (f.clauses 𝓛 at_mem run) (((κ-store, (κ-s, (κ-out, tt))), (q-store, (q-s, (q-out, tt))), tt, a, vals), tt) (EL.val T-Written.the_type T-Written'.the_laws r.written) r.written (z-store, (r.session, (tt, (tt, (z-out, tt))))) (l-store, (tt, (tt, (tt, (l-out, tt)))))) $ says ! e $
-      nothing ! $ move ! (7 ∷ 0 ∷ []) $ join ! $ move ! (6 ∷ 0 ∷ []) $ join ! $ move ! (5 ∷ 0 ∷ []) $ join ! $ frame ! $ nothing ! $ move ! (4 ∷ 0 ∷ []) $ fjoin ! $ owned ! u32 (Is u32) (uint_Makes 𝓛 w32) x-value _ (refl, fits-value) $ fjoin ! $ owned ! u32 (Is u32) (uint_Makes 𝓛 w32) x-plot _ (refl, fits-plot) $ fjoin ! $ move ! (2 ∷ 3 ∷ []) $ feq_i ! (List Val) (vptr b_s o-s ∷ []) (vptr b_s o-s ∷ []) refl $ fjoin3 ! $ fjoin ! $ move ! (1 ∷ 0 ∷ []) $ fjoin ! $ owned ! T-Written.the_row (Is T-Written.the_row) (EL.makes T-Written.the_type T-Written'.the_plain 𝓛) r.written _ (result-is r w is) $ move ! (1 ∷ 0 ∷ []) $ done !
+      nothing ! $ move ! (7 ∷ 0 ∷ []) $ join ! $ move ! (6 ∷ 0 ∷ []) $ join ! $ move ! (5 ∷ 0 ∷ []) $ join ! $ frame ! $ nothing ! $ move ! (4 ∷ 0 ∷ []) $ fjoin ! $ owned ! u32 (Is u32) (uint_Makes 𝓛 w32) x-value _ (refl, fits-value) $ fjoin ! $ owned ! u32 (Is u32) (uint_Makes 𝓛 w32) x-plot _ (refl, fits-plot) $ fjoin ! $ move ! (2 ∷ 3 ∷ []) $ feq_i ! (List Val) (vptr b_s o-s ∷ []) (vptr b_s o-s ∷ []) refl $ fjoin3 ! $ fjoin ! $ move ! (1 ∷ 0 ∷ []) $ fjoin ! $ owned ! T-Written.the_row (Is T-Written.the_row) (EL.makes T-Written.the_type T-Written'.the_plain 𝓛) r.written _ (result_is r w is) $ move ! (1 ∷ 0 ∷ []) $ done !
 
   module _ (C : Calls 𝓤 H) (Λ : Loops 𝓤 H) (fm : FmC 𝓤 H 𝓛.laws C) (known : Triple 𝓤 (C #writing·write) (Core 𝓛 at_mem run)) where
     walk : x-plot < 2 ^ 32 → x-value < 2 ^ 32 → ent 𝓤 (on_entry 𝓛 f.signature (κ-store, (κ-s, (κ-out, tt))) (q-store, (q-s, (q-out, tt))) a vals) (WpFn 𝓤 H C Λ code.function (slice_val (b-store, o-store) (length x-store) ∷ vptr b_s o-s ∷ vint w32 x-plot ∷ vint w32 x-value ∷ slice_val (b-out, o-out) (length x-out) ∷ []) Post)
@@ -118,13 +118,13 @@ module _ {M : Type 1} {𝓤 : Ura M} (𝓛 : Logic 𝓤) (at_mem : Memory → SP
         -- [0: _11; 2: _10; 4: _9; 6: _8; 8: _7; 10: _6; 12: _5; 14: _4; 16: _3; 18: _2; 20: _1; 22: _0; toks; owns]
         move ! (25 ∷ []) $ fsplit ! $ move ! (1 ∷ []) $ fsplit ! $ move ! (1 ∷ []) $ fsplit ! $ move ! (1 ∷ []) $ fsplit ! $ move ! (1 ∷ []) $ fsplit ! $ move ! (30 ∷ []) $ split ! $ move ! (1 ∷ []) $ split ! $ move ! (1 ∷ []) $ split ! $ move ! (8 ∷ []) $ fsplit3 ! $ drop ! $ move ! (0 ∷ 1 ∷ 4 ∷ []) $ opens ! tt T-Session.the_row {h = x-s} b_s o-s (λ vs-s. spelt ! T-Session.the_row (Is T-Session.the_row) (shows 𝓛 T-Session.the_row) (LL.vals T-Session.the_type T-Session'.the_laws) (LL.tells T-Session.the_type T-Session'.the_laws) full_share x-s vs-s b_s o-s $ move ! (1 ∷ []) $ peeks ! T-Session.the_row (Is T-Session.the_row) (shows 𝓛 T-Session.the_row) x-s (LL.val T-Session.the_type T-Session'.the_laws x-s ∷ []) (λ g-s.
         -- [held:s; cell:s; obor:s; obs:s; auth:s; tok:out; trest+out; tok:store; own:out; rest+out; own:value; own:plot; own:store; 13: _11; 15: _10; 17: _9; 19: _8; 21: _7; 23: _6; 25: _5; 27: _4; 29: _3; 31: _2; 33: _1; 35: _0]
-        assigns ! (addr ! (from ! (fld ! refl (hop ! (look_in ! 33 (sub ! 0 refl (whole !))) (stop !))))) (from ! (stop !)) (init ! 21 refl (tt, tt)) $ assigns ! (agg ! (and_then ! (load ! (from ! (stop !)) (look ! 21 refl)) (and_then ! (load ! (from ! (fld ! refl (stop !))) (look_in ! 33 (sub ! 1 refl (whole !)))) (no_more !)))) (from ! (stop !)) (init ! 19 refl (tt, (tt, (record { fits = room_store.0 }, tt)))) $ assigns ! (of_opd ! (load ! (from ! (hop ! (look ! 31 refl) (stop !))) (look_raw ! 1 refl))) (from ! (stop !)) (init ! 17 refl ((LL.lawful T-Session.the_type T-Session'.the_laws 𝓛).typed x-s _ g-s).0) $ assigns ! (addr ! (from ! (fld ! refl (hop ! (look_in ! 25 (sub ! 0 refl (whole !))) (stop !))))) (from ! (stop !)) (init ! 15 refl (tt, tt)) $ assigns ! (agg ! (and_then ! (load ! (from ! (stop !)) (look ! 15 refl)) (and_then ! (load ! (from ! (fld ! refl (stop !))) (look_in ! 25 (sub ! 1 refl (whole !)))) (no_more !)))) (from ! (stop !)) (init ! 13 refl (tt, (tt, (record { fits = room_out.0 }, tt)))) $ move ! (7 ∷ 5 ∷ 12 ∷ 8 ∷ []) $ move ! (2 ∷ 3 ∷ []) $ join ! $ move ! (1 ∷ 2 ∷ 0 ∷ []) $ move ! (1 ∷ 2 ∷ []) $ join ! $ move ! (1 ∷ 0 ∷ []) $ move ! (0 ∷ 1 ∷ []) $ join ! $ move ! (0 ∷ []) $ use1 𝓛 (raw ((Core 𝓛 at_mem run).pre to-core)) (goes fits-plot fits-value g-s) $
-        calls_at ! fm (Core 𝓛 at_mem run) known to-core (and_then ! (load ! (from ! (stop !)) (look ! 16 refl)) (and_then ! (load ! (from ! (stop !)) (look ! 14 refl)) (and_then ! (load ! (from ! (stop !)) (look ! 26 refl)) (and_then ! (load ! (from ! (stop !)) (look ! 24 refl)) (and_then ! (load ! (from ! (stop !)) (look ! 10 refl)) (no_more !)))))) (λ w.
-        use1 𝓛 (later (some (λ (r : Wrote). ((‵ (flft κ-store q-store) ⊛ (‵ (flft κ-out q-out) ⊛ ‵ ftrue)) ⊛ ‵ ((T-Wrote.the_row).own_val r (w ∷ []))) ⊛ raw (ensured 𝓛 core.ended (core.clauses 𝓛 at_mem run) (κ-store, (κ-out, tt)) (ref-store, (x-s, (x-plot, (x-value, (ref-out, tt))))) tt r)))) (id⊢ 𝓤 _) $ await ! tt $ pick ! (λ r. split ! $ move ! (1 ∷ []) $ use1 𝓛 (some (λ (zs : List ℕ × (Unit {0} × (Unit {0} × (Unit {0} × (List ℕ × Unit {0}))))). ‵ (lasts core.ended (κ-store, (κ-out, tt)) (ref-store, (x-s, (x-plot, (x-value, (ref-out, tt))))) zs) ⊛ raw (fact 𝓤 (CoreSays x-store x-s x-plot x-value x-out r zs.0 zs.1.1.1.1.0)))) (id⊢ 𝓤 _) $ pick ! (λ zs. split ! $ move ! (1 ∷ []) $ heard ! (CoreSays x-store x-s x-plot x-value x-out r zs.0 zs.1.1.1.1.0) (λ e. fsplit ! $ fsplit ! $ move ! (1 ∷ []) $ feq_l ! (λ l-store. move ! (1 ∷ []) $ fsplit ! $ move ! (1 ∷ []) $ fsplit ! $ move ! (1 ∷ []) $ fsplit ! $ move ! (1 ∷ []) $ fsplit ! $ fsplit ! $ move ! (1 ∷ []) $ feq_l ! (λ l-out. move ! (6 ∷ []) $ split ! $ move ! (1 ∷ []) $ peeks ! T-Wrote.the_row (Is T-Wrote.the_row) (shows 𝓛 T-Wrote.the_row) r (w ∷ []) (λ is.
+        assigns ! (addr ! (from ! (fld ! refl (hop ! (look_in ! 33 (sub ! 0 refl (whole !))) (stop !))))) (from ! (stop !)) (init ! 21 refl (tt, tt)) $ assigns ! (agg ! (and_then ! (load ! (from ! (stop !)) (look ! 21 refl)) (and_then ! (load ! (from ! (fld ! refl (stop !))) (look_in ! 33 (sub ! 1 refl (whole !)))) (no_more !)))) (from ! (stop !)) (init ! 19 refl (tt, (tt, (record { fits = room_store.0 }, tt)))) $ assigns ! (of_opd ! (load ! (from ! (hop ! (look ! 31 refl) (stop !))) (look_raw ! 1 refl))) (from ! (stop !)) (init ! 17 refl ((LL.lawful T-Session.the_type T-Session'.the_laws 𝓛).typed x-s _ g-s).0) $ assigns ! (addr ! (from ! (fld ! refl (hop ! (look_in ! 25 (sub ! 0 refl (whole !))) (stop !))))) (from ! (stop !)) (init ! 15 refl (tt, tt)) $ assigns ! (agg ! (and_then ! (load ! (from ! (stop !)) (look ! 15 refl)) (and_then ! (load ! (from ! (fld ! refl (stop !))) (look_in ! 25 (sub ! 1 refl (whole !)))) (no_more !)))) (from ! (stop !)) (init ! 13 refl (tt, (tt, (record { fits = room_out.0 }, tt)))) $ move ! (7 ∷ 5 ∷ 12 ∷ 8 ∷ []) $ move ! (2 ∷ 3 ∷ []) $ join ! $ move ! (1 ∷ 2 ∷ 0 ∷ []) $ move ! (1 ∷ 2 ∷ []) $ join ! $ move ! (1 ∷ 0 ∷ []) $ move ! (0 ∷ 1 ∷ []) $ join ! $ move ! (0 ∷ []) $ use1 𝓛 (raw ((Core 𝓛 at_mem run).pre to_core)) (goes fits-plot fits-value g-s) $
+        calls_at ! fm (Core 𝓛 at_mem run) known to_core (and_then ! (load ! (from ! (stop !)) (look ! 16 refl)) (and_then ! (load ! (from ! (stop !)) (look ! 14 refl)) (and_then ! (load ! (from ! (stop !)) (look ! 26 refl)) (and_then ! (load ! (from ! (stop !)) (look ! 24 refl)) (and_then ! (load ! (from ! (stop !)) (look ! 10 refl)) (no_more !)))))) (λ w.
+        use1 𝓛 (later (some (λ (r : Wrote). ((‵ (flft κ-store q-store) ⊛ (‵ (flft κ-out q-out) ⊛ ‵ ftrue)) ⊛ ‵ ((T-Wrote.the_row).own_val r (w ∷ []))) ⊛ raw (ensured 𝓛 core.ended (core.clauses 𝓛 at_mem run) (κ-store, (κ-out, tt)) (ref_store, (x-s, (x-plot, (x-value, (ref_out, tt))))) tt r)))) (id⊢ 𝓤 _) $ await ! tt $ pick ! (λ r. split ! $ move ! (1 ∷ []) $ use1 𝓛 (some (λ (zs : List ℕ × (Unit {0} × (Unit {0} × (Unit {0} × (List ℕ × Unit {0}))))). ‵ (lasts core.ended (κ-store, (κ-out, tt)) (ref_store, (x-s, (x-plot, (x-value, (ref_out, tt))))) zs) ⊛ raw (fact 𝓤 (CoreSays x-store x-s x-plot x-value x-out r zs.0 zs.1.1.1.1.0)))) (id⊢ 𝓤 _) $ pick ! (λ zs. split ! $ move ! (1 ∷ []) $ heard ! (CoreSays x-store x-s x-plot x-value x-out r zs.0 zs.1.1.1.1.0) (λ e. fsplit ! $ fsplit ! $ move ! (1 ∷ []) $ feq_l ! (λ l-store. move ! (1 ∷ []) $ fsplit ! $ move ! (1 ∷ []) $ fsplit ! $ move ! (1 ∷ []) $ fsplit ! $ move ! (1 ∷ []) $ fsplit ! $ fsplit ! $ move ! (1 ∷ []) $ feq_l ! (λ l-out. move ! (6 ∷ []) $ split ! $ move ! (1 ∷ []) $ peeks ! T-Wrote.the_row (Is T-Wrote.the_row) (shows 𝓛 T-Wrote.the_row) r (w ∷ []) (λ is.
         -- [result:; btoks; fin:out; lrest+out; last+value; last+plot; last+s; fin:store; held:s; cell:s; obor:s; obs:s; auth:s; trest+out; rest+out; own:value; own:plot; 17: _11; 19: _10; 21: _9; 23: _8; 25: _7; 27: _6; 29: _5; 31: _4; 33: _3; 35: _2; 37: _1; 39: _0]
         land ! (from ! (stop !)) (init ! 27 refl ((LL.lawful T-Wrote.the_type T-Wrote'.the_laws 𝓛).typed r _ is).0) $ rewrite ! 27 (λ (u : Val). ‵ (fat full_share T-Wrote'.mir l-6 0 u)) (ap only (LL.tells T-Wrote.the_type T-Wrote'.the_laws r _ is)) refl $
-        assigns ! (of_opd ! (load ! (from ! (fld ! refl (stop !))) (look_in ! 27 (sub ! 1 refl (whole !))))) (from ! (hop ! (look ! 35 refl) (stop !))) (store_raw ! 9 refl ((LL.lawful T-Session.the_type T-Session'.the_laws 𝓛).typed r.session _ (session-is r w is)).0) $
-        assigns ! (of_opd ! (load ! (from ! (fld ! refl (stop !))) (look_in ! 27 (sub ! 0 refl (whole !))))) (from ! (stop !)) (init ! 39 refl ((EL.lawful T-Written.the_type T-Written'.the_laws 𝓛 tt).typed r.written _ (result-is r w is)).0) $ move ! (8 ∷ []) $ drop ! $ owned ! T-Session.the_row (Is T-Session.the_row) (LL.makes T-Session.the_type T-Session'.the_plain 𝓛) r.session _ (session-is r w is) $ move ! (9 ∷ 0 ∷ 10 ∷ 11 ∷ 12 ∷ []) $ closes ! tt T-Session.the_row r.session (LL.val T-Session.the_type T-Session'.the_laws r.session ∷ []) b_s o-s $ move ! (4 ∷ []) $ split ! $ move ! (1 ∷ []) $ split ! $
+        assigns ! (of_opd ! (load ! (from ! (fld ! refl (stop !))) (look_in ! 27 (sub ! 1 refl (whole !))))) (from ! (hop ! (look ! 35 refl) (stop !))) (store_raw ! 9 refl ((LL.lawful T-Session.the_type T-Session'.the_laws 𝓛).typed r.session _ (session_is r w is)).0) $
+        assigns ! (of_opd ! (load ! (from ! (fld ! refl (stop !))) (look_in ! 27 (sub ! 0 refl (whole !))))) (from ! (stop !)) (init ! 39 refl ((EL.lawful T-Written.the_type T-Written'.the_laws 𝓛 tt).typed r.written _ (result_is r w is)).0) $ move ! (8 ∷ []) $ drop ! $ owned ! T-Session.the_row (Is T-Session.the_row) (LL.makes T-Session.the_type T-Session'.the_plain 𝓛) r.session _ (session_is r w is) $ move ! (9 ∷ 0 ∷ 10 ∷ 11 ∷ 12 ∷ []) $ closes ! tt T-Session.the_row r.session (LL.val T-Session.the_type T-Session'.the_laws r.session ∷ []) b_s o-s $ move ! (4 ∷ []) $ split ! $ move ! (1 ∷ []) $ split ! $
         -- [tok:out; brest+out; tok:store; obs:s; bor:s; tok:s; result:; fin:out; lrest+out; last+value; last+plot; last+s; fin:store; trest+out; rest+out; own:value; own:plot; 17: _11; 19: _10; 21: _9; 23: _8; 25: _7; 27: _6; 29: _5; 31: _4; 33: _3; 35: _2; 37: _1; 39: _0]
         returns ! (look ! 39 refl) $ forget ! 17 refl $ forget ! 19 refl $ forget ! 21 refl $ forget ! 23 refl $ forget ! 25 refl $ forget ! 27 refl $ forget ! 29 refl $ forget ! 31 refl $ forget ! 33 refl $ forget ! 35 refl $ forget ! 37 refl $ forget ! 39 refl $ move ! (39 ∷ 40 ∷ []) $ free1 ! $ move ! (37 ∷ 38 ∷ []) $ free1 ! $ move ! (35 ∷ 36 ∷ []) $ free1 ! $ move ! (33 ∷ 34 ∷ []) $ free1 ! $ move ! (31 ∷ 32 ∷ []) $ free1 ! $ move ! (29 ∷ 30 ∷ []) $ free1 ! $ move ! (27 ∷ 28 ∷ []) $ free1 ! $ move ! (25 ∷ 26 ∷ []) $ free1 ! $ move ! (23 ∷ 24 ∷ []) $ free1 ! $ move ! (21 ∷ 22 ∷ []) $ free1 ! $ move ! (19 ∷ 20 ∷ []) $ free1 ! $ move ! (17 ∷ 18 ∷ []) $ free1 ! $ free0 ! $ keep ! (12 ∷ 3 ∷ 4 ∷ 7 ∷ 2 ∷ 5 ∷ 0 ∷ []) $ by ! (exits r w zs.0 zs.1.1.1.1.0 fits-plot fits-value g-s e l-store l-out is))))))))))))))))))))))
 

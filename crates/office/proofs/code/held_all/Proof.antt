@@ -1,4 +1,4 @@
-use Rattle.causal.specs.Sets.{subsetOf}
+use Rattle.causal.specs.Sets.{subset_of}
 use native.Mathlib.Omega.{arith}
 use mathlib.Core.Path.{ap, ◌∙◌}
 use Rattle.store.proofs.Rules.{laid}
@@ -13,7 +13,7 @@ subset-requires : tie.Need-subset-requires
 subset-requires c κs = search rules
 
 returns : tie.Need-returns
-returns c = c.subset.ensures ∙ ap (subsetOf c.before.before.before.args.ids) c.before.set_at.ensures
+returns c = c.subset.ensures ∙ ap (subset_of c.before.before.before.args.ids) c.before.set_at.ensures
 
 pub held-all-spec : {M : Type 1} → statement M
 held-all-spec = tie.close (tie.spec set-at-requires subset-requires returns)

@@ -3,16 +3,16 @@ use mathlib.Core.Path.{◌∙◌, ap, refl, sym}
 use mathlib.Core.Bool.{Bool}
 use lib.ListN.{get_or}
 use Rattle.causal.specs.Codes.{check}
-use Rattle.causal.proofs.Codes.{code-fails, code-passes, le-code-fails, le-code-passes, or-goes, or-stops}
+use Rattle.causal.proofs.Codes.{code_fails, code_passes, le_code_fails, le_code_passes, or_goes, or_stops}
 use borrow.Author.Tests.{not-false}
 use Rattle.causal.specs.Lists.{tab}
-use Rattle.frame.specs.Sessions.{contentOf, ids_of}
+use Rattle.frame.specs.Sessions.{content_of, ids_of}
 use Rattle.frame.proofs.OwnTurns as T
 use Rattle.store.proofs.Rules.{laid}
 use Rattle.office.specs.Decide.{bare}
-use Rattle.office.proofs.Alone.{bare-head}
-use Rattle.office.proofs.Numbers.{start-facts}
-use Rattle.office.proofs.Starts.{start-parts}
+use Rattle.office.proofs.Alone.{bare_head}
+use Rattle.office.proofs.Numbers.{start_facts}
+use Rattle.office.proofs.Starts.{start_parts}
 use Rattle.office.proofs.code.start_of.Statement.{statement}
 use Rattle.office.proofs.code.start_of.Tie as tie
 
@@ -21,17 +21,17 @@ use Rattle.office.proofs.code.start_of.Tie as tie
 returns : tie.Need-returns
 returns c =
     let z = c.before.before in
-    (or-stops _ _ _ z.requires c.if1.true ∙ start-parts z.args.store.now z.args.s, λ h. absurd (c.if1.true h))
+    (or_stops _ _ _ z.requires c.if1.true ∙ start_parts z.args.store.now z.args.s, λ h. absurd (c.if1.true h))
 
 returns-2 : tie.Need-returns-2
-unfolding check contentOf ids_of tab
+unfolding check content_of ids_of tab
 returns-2 c =
     let t = c.before in
     let z = t.before.before.args in
     let ws = z.store.now in
-    let none = ap (λ (b : Bool). check b 3 0) (T.none-ok (get_or ws 0 0) (get_or ws 2 0) z.s.read (T.ownsOf z.s.own) z.s.count c.if2.true) in (
-      or-goes _ _ _ _ t.before.before.requires t.if1.false (le-code-passes 0 z.s.count 16 3 _ (omega (arith, c.if2.true)) none)
-          ∙ start-parts ws z.s,
+    let none = ap (λ (b : Bool). check b 3 0) (T.none_ok (get_or ws 0 0) (get_or ws 2 0) z.s.read (T.owns_of z.s.own) z.s.count c.if2.true) in (
+      or_goes _ _ _ _ t.before.before.requires t.if1.false (le_code_passes 0 z.s.count 16 3 _ (omega (arith, c.if2.true)) none)
+          ∙ start_parts ws z.s,
       λ h. rw c.if2.true refl,
     )
 
@@ -40,7 +40,7 @@ returns-3 c =
     let t = c.before.before in
     let z = t.before.before.args in
     let ws = z.store.now in (
-      or-goes _ _ _ _ t.before.before.requires t.if1.false (le-code-fails z.s.count 16 3 _ c.if3.true) ∙ start-parts ws z.s,
+      or_goes _ _ _ _ t.before.before.requires t.if1.false (le_code_fails z.s.count 16 3 _ c.if3.true) ∙ start_parts ws z.s,
       λ h. absurd (omega (arith, h)),
     )
 
@@ -49,7 +49,7 @@ shared-slice-read-owns-of c =
     let t = c.before.before.before.before.before in
     let z = t.before.before.args in
     let ws = z.store.now in
-    let f = start-facts ws (bare z.s.offices z.s.clock z.s.read) (sym t.before.before.requires ∙ t.if1.false) in
+    let f = start_facts ws (bare z.s.offices z.s.clock z.s.read) (sym t.before.before.requires ∙ t.if1.false) in
     omega (arith, (laid ws f.0).long)
 
 shared-slice-read-owns-of-2 : tie.Need-shared-slice-read-owns-of-2
@@ -57,7 +57,7 @@ shared-slice-read-owns-of-2 c =
     let t = c.before.before.before.before.before.before in
     let z = t.before.before.args in
     let ws = z.store.now in
-    let f = start-facts ws (bare z.s.offices z.s.clock z.s.read) (sym t.before.before.requires ∙ t.if1.false) in
+    let f = start_facts ws (bare z.s.offices z.s.clock z.s.read) (sym t.before.before.requires ∙ t.if1.false) in
     omega (arith, (laid ws f.0).long)
 
 owns-of-requires : tie.Need-owns-of-requires
@@ -65,9 +65,9 @@ owns-of-requires c κs =
     let t = c.before.before.before.before.before.before in
     let z = t.before.before.args in
     let ws = z.store.now in
-    let f = start-facts ws (bare z.s.offices z.s.clock z.s.read) (sym t.before.before.requires ∙ t.if1.false) in
-    let head = sym (bare-head (get_or ws 0 0) (get_or ws 2 0) z.s.offices z.s.clock z.s.read) ∙ f.1 in
-    (c.before.before.before.before.if3.false, T.head-ids _ _ _ _ _ head)
+    let f = start_facts ws (bare z.s.offices z.s.clock z.s.read) (sym t.before.before.requires ∙ t.if1.false) in
+    let head = sym (bare_head (get_or ws 0 0) (get_or ws 2 0) z.s.offices z.s.clock z.s.read) ∙ f.1 in
+    (c.before.before.before.before.if3.false, T.head_ids _ _ _ _ _ head)
 
 returns-4 : tie.Need-returns-4
 returns-4 c =
@@ -75,21 +75,21 @@ returns-4 c =
     let t = f.before.before in
     let z = t.before.before.args in
     let ws = z.store.now in
-    let owns = code-fails _ _ 3 0 c.before.before.before.owns_of.ensures.0 c.if4.true in (
-      or-goes _ _ _ _ t.before.before.requires t.if1.false (le-code-passes 3 z.s.count 16 3 _ f.if3.false owns) ∙ start-parts ws z.s,
+    let owns = code_fails _ _ 3 0 c.before.before.before.owns_of.ensures.0 c.if4.true in (
+      or_goes _ _ _ _ t.before.before.requires t.if1.false (le_code_passes 3 z.s.count 16 3 _ f.if3.false owns) ∙ start_parts ws z.s,
       λ h. absurd (omega (arith, h)),
     )
 
 returns-5 : tie.Need-returns-5
-unfolding contentOf
+unfolding content_of
 returns-5 c =
     let f = c.before.before.before.before.before.before.before.before in
     let t = f.before.before in
     let z = t.before.before.args in
     let ws = z.store.now in
     let asked = c.before.before.before.owns_of.ensures in
-    let owns = code-passes 0 3 0 _ _ asked.0 c.if4.false refl in (
-      or-goes _ _ _ _ t.before.before.requires t.if1.false (le-code-passes 0 z.s.count 16 3 _ f.if3.false owns) ∙ start-parts ws z.s,
+    let owns = code_passes 0 3 0 _ _ asked.0 c.if4.false refl in (
+      or_goes _ _ _ _ t.before.before.requires t.if1.false (le_code_passes 0 z.s.count 16 3 _ f.if3.false owns) ∙ start_parts ws z.s,
       λ h. asked.1 (not-false _ c.if4.false),
     )
 

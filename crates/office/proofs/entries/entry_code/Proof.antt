@@ -1,5 +1,5 @@
 use mathlib.Core.Path.{sym, ◌∙◌}
-use Rattle.office.proofs.OwnCodes.{code_same, code_other, code-unmade, code-new}
+use Rattle.office.proofs.OwnCodes.{code_same, code_other, code_unmade, code_new}
 use borrow.Author.Rules.{rules}
 use Rattle.office.proofs.entries.entry_code.Statement.{statement}
 use Rattle.office.proofs.entries.entry_code.Tie as tie
@@ -23,11 +23,11 @@ returns-2 c = let s = c.before.before.before.before.before.before in
 
 returns-3 : tie.Need-returns-3
 returns-3 c = let s = c.before.before.before.before.before.before in
-    code-unmade s.args.store.now s.args.e _ _ s.args.held s.requires.0 c.before.before.before.before.id-of.ensures c.before.before.before.contains.ensures c.before.before.if1.false (c.if3.true ∙ s.requires.1)
+    code_unmade s.args.store.now s.args.e _ _ s.args.held s.requires.0 c.before.before.before.before.id-of.ensures c.before.before.before.contains.ensures c.before.before.if1.false (c.if3.true ∙ s.requires.1)
 
 returns-4 : tie.Need-returns-4
 returns-4 c = let s = c.before.before.before.before.before.before in
-    code-new s.args.store.now s.args.e _ _ s.args.held s.requires.0 c.before.before.before.before.id-of.ensures c.before.before.before.contains.ensures c.before.before.if1.false (λ q. c.if3.false (q ∙ sym s.requires.1))
+    code_new s.args.store.now s.args.e _ _ s.args.held s.requires.0 c.before.before.before.before.id-of.ensures c.before.before.before.contains.ensures c.before.before.if1.false (λ q. c.if3.false (q ∙ sym s.requires.1))
 
 pub entry-code-spec : {M : Type 1} → statement M
 entry-code-spec =

@@ -2,21 +2,21 @@ use Prim.Native.Nat.{ℕ, ◌-◌, ◌≤◌}
 use mathlib.Core.Path.{◌≡◌, refl, ap, ◌∙◌}
 use native.Mathlib.Omega.{arith}
 use lib.ListN.{length}
-use Rattle.office.specs.Steps.{ownTo, holdsIn}
-use Rattle.office.proofs.Holds.{holds-start, holds_more}
+use Rattle.office.specs.Steps.{own_to, holds_in}
+use Rattle.office.proofs.Holds.{holds_start, holds_more}
 use borrow.Author.Rules.{rules}
 use Rattle.office.proofs.entries.hold_own.Statement.{statement}
 use Rattle.office.proofs.entries.hold_own.Tie as tie
 
 abbrev invariant-loop : tie.invariant-loop
-invariant-loop store₀ held count own i₀ store i = (i ≤ count) × (length store ≡ length store₀) × (store ≡ holdsIn held store₀ (ownTo own i))
+invariant-loop store₀ held count own i₀ store i = (i ≤ count) × (length store ≡ length store₀) × (store ≡ holds_in held store₀ (own_to own i))
 
 abbrev decreases-loop : tie.decreases-loop
 decreases-loop store₀ held count own i₀ store i = count - i
 
 loop-holds : tie.Need-loop-init invariant-loop decreases-loop
 loop-holds c = let s = c.before in
-    (search rules, refl, holds-start s.args.held s.args.t3 s.args.store.now)
+    (search rules, refl, holds_start s.args.held s.args.t3 s.args.store.now)
 
 mul-e : tie.Need-overflow-mul-e invariant-loop decreases-loop
 mul-e c = search rules
@@ -43,7 +43,7 @@ same_length c = search rules
 
 returns : tie.Need-returns invariant-loop decreases-loop
 returns c = let s = c.before.before.before in
-    c.before.loop.invariant.2 ∙ ap (λ (i : ℕ). holdsIn s.args.held s.args.store.now (ownTo s.args.t3 i)) (omega arith)
+    c.before.loop.invariant.2 ∙ ap (λ (i : ℕ). holds_in s.args.held s.args.store.now (own_to s.args.t3 i)) (omega arith)
 
 pub hold-own-spec : {M : Type 1} → statement M
 hold-own-spec =

@@ -1,5 +1,5 @@
 use mathlib.Core.Path.{sym, ap}
-use Rattle.office.specs.Decide.{placeNumber}
+use Rattle.office.specs.Decide.{place_number}
 use borrow.Author.Rules.{rules}
 use Rattle.office.proofs.note.place_number.Statement.{statement}
 use Rattle.office.proofs.note.place_number.Tie as tie
@@ -11,12 +11,12 @@ enum_told : tie.Need-enum-told
 enum_told c = search rules
 
 returns : tie.Need-returns
-unfolding placeNumber
-returns c = sym (ap placeNumber c.before.place.given.1)
+unfolding place_number
+returns c = sym (ap place_number c.before.place.given.1)
 
 returns-2 : tie.Need-returns-2
-unfolding placeNumber
-returns-2 c = sym (ap placeNumber c.enum_told.given.1)
+unfolding place_number
+returns-2 c = sym (ap place_number c.enum_told.given.1)
 
 pub place-number-spec : {M : Type 1} → statement M
 place-number-spec = tie.close (tie.spec enum-known-place enum_told returns returns-2)

@@ -4,8 +4,8 @@ use borrow.Author.Tests.{le-leb, lt-leb}
 use Rattle.causal.specs.Codes.{check}
 use Rattle.causal.specs.Tests.{both}
 use Rattle.frame.specs.Refusals.{code_of, number_of}
-use Rattle.office.specs.Calls.{freshCode}
-use Rattle.office.specs.Answers.{freshBy}
+use Rattle.office.specs.Calls.{fresh_code}
+use Rattle.office.specs.Answers.{fresh_by}
 use borrow.Author.Rules.{rules}
 use Rattle.office.proofs.open.fresh_session.Statement.{statement}
 use Rattle.office.proofs.open.fresh_session.Tie as tie
@@ -14,7 +14,7 @@ blank-requires : tie.Need-blank-requires
 blank-requires c κs = search rules
 
 returns : tie.Need-returns
-unfolding freshCode freshBy code_of number_of check both
+unfolding fresh_code fresh_by code_of number_of check both
 returns c = let s = c.before.before.args in
     let h = lt-leb 2 s.offices (omega arith) in
     (rw h refl, rw h c.blank.ensures)
@@ -23,7 +23,7 @@ blank-requires-2 : tie.Need-blank-requires-2
 blank-requires-2 c κs = search rules
 
 returns-2 : tie.Need-returns-2
-unfolding freshCode freshBy code_of number_of check both
+unfolding fresh_code fresh_by code_of number_of check both
 returns-2 c = let s = c.before.before.before.args in
     let h = le-leb 2 s.offices (omega arith) in
     let g = lt-leb s.offices 8 (omega arith) in
@@ -33,7 +33,7 @@ blank-requires-3 : tie.Need-blank-requires-3
 blank-requires-3 c κs = search rules
 
 returns-3 : tie.Need-returns-3
-unfolding freshCode freshBy code_of number_of check both
+unfolding fresh_code fresh_by code_of number_of check both
 returns-3 c = let s = c.before.before.before.args in
     let h = le-leb 2 s.offices (omega arith) in
     let g = le-leb s.offices 8 (omega arith) in

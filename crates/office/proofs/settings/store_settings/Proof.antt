@@ -4,9 +4,9 @@ use mathlib.Core.Path.{refl, sym, ◌∙◌}
 use lib.ListN.{length}
 use borrow.Author.Tests.{not-true, not-false}
 use Rattle.frame.specs.Refusals.{code_of, number_of}
-use Rattle.store.specs.Offices.{officeOf}
+use Rattle.store.specs.Offices.{office_of}
 use Rattle.store.proofs.Rules.{laid}
-use Rattle.office.specs.Calls.{storeSettings}
+use Rattle.office.specs.Calls.{store_settings}
 use borrow.Author.Rules.{rules}
 use Rattle.office.proofs.settings.store_settings.Statement.{statement}
 use Rattle.office.proofs.settings.store_settings.Tie as tie
@@ -15,7 +15,7 @@ is-sound-requires : tie.Need-is-sound-requires
 is-sound-requires c κs = search rules
 
 returns : tie.Need-returns
-unfolding storeSettings code_of number_of
+unfolding store_settings code_of number_of
 returns c = let h = sym c.before.is-sound.ensures ∙ not-true _ c.if1.true in
     (rw h refl, rw h refl, rw h refl, rw h refl)
 
@@ -38,7 +38,7 @@ shared-slice-read-t12 c =
     let h : 2 < length ws = omega (arith, (laid ws t).long) in h
 
 returns-2 : tie.Need-returns-2
-unfolding storeSettings code_of officeOf
+unfolding store_settings code_of office_of
 returns-2 c =
     let t = sym c.before.before.before.before.is-sound.ensures ∙ not-false _ c.before.before.before.if1.false in
     (rw t refl, rw t refl, rw t refl, rw t refl)

@@ -13,14 +13,14 @@ use Rattle.player.proofs.ahead.receive_ahead.Tie as tie
 
 -- the forecast was of lent parts
 told : (stores : List ℕ) (o : ℕ) (lines : List ℕ) (a len : ℕ) (row : List ℕ) → (receive (take (1747 * o + 1747 - 1747 * o) (drop (1747 * o) stores)) (take (a + len - a) (drop a lines)) row).code ≡ (receive (part stores (1747 * o) 1747) (part lines a len) row).code
-told stores o lines a len row = λ i. (receive (dl.lent-part stores (1747 * o) 1747 i) (dl.lent-part lines a len i) row).code
+told stores o lines a len row = λ i. (receive (dl.lent_part stores (1747 * o) 1747 i) (dl.lent_part lines a len i) row).code
 
 returns : tie.Need-returns
 returns c = λ row long.
     let z = c.before.before.before in
     let a = z.args.slot + 1 in
     let len = get_or z.args.lines.now z.args.slot 0 in
-    fo.receive-room z.args.lines.now a len (omega (arith, z.requires.2)) _ row z.args.waiting c.if1.true
+    fo.receive_room z.args.lines.now a len (omega (arith, z.requires.2)) _ row z.args.waiting c.if1.true
 
 add-from : tie.Need-overflow-add-from
 add-from c = search rules
@@ -33,7 +33,7 @@ returns-2 c = λ row long.
     let z = c.before.before.before.before.before in
     let a = z.args.slot + 1 in
     let len = get_or z.args.lines.now z.args.slot 0 in
-    fo.receive-last z.args.lines.now a len (omega (arith, z.requires.2)) _ row z.args.waiting z.requires.4 (sym c.before.hops-at.ensures ∙ c.if2.true)
+    fo.receive_last z.args.lines.now a len (omega (arith, z.requires.2)) _ row z.args.waiting z.requires.4 (sym c.before.hops-at.ensures ∙ c.if2.true)
 
 mul-end : tie.Need-overflow-mul-end
 mul-end c = search rules
@@ -94,7 +94,7 @@ returns-4 c = λ row long.
     let a = z.args.slot + 1 in
     let len = get_or z.args.lines.now z.args.slot 0 in
     let q = c.before.receive-forecast in
-    fo.receive-full z.args.lines.now a len (omega (arith, z.requires.2)) _ row z.args.waiting c.before.before.before.before.before.before.before.if1.false (λ e. c.before.before.before.before.before.if2.false (c.before.before.before.before.before.before.hops-at.ensures ∙ e))
+    fo.receive_full z.args.lines.now a len (omega (arith, z.requires.2)) _ row z.args.waiting c.before.before.before.before.before.before.before.if1.false (λ e. c.before.before.before.before.before.if2.false (c.before.before.before.before.before.before.hops-at.ensures ∙ e))
     (sym (q.ensures row long ∙ told z.args.stores.now z.args.office z.args.lines.now a len row) ∙ c.if3.false)
 
 pub receive-ahead-spec : {M : Type 1} → statement M

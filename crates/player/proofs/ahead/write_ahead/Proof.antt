@@ -6,7 +6,7 @@ use Rattle.player.proofs.ahead.write_ahead.Statement.{statement}
 use Rattle.player.proofs.ahead.write_ahead.Tie as tie
 
 returns : tie.Need-returns
-returns c = λ row long. let z = c.before.before in fo.write-room _ z.requires.3 z.args.s z.args.plot z.args.value row long z.args.waiting c.if1.true
+returns c = λ row long. let z = c.before.before in fo.write_room _ z.requires.3 z.args.s z.args.plot z.args.value row long z.args.waiting c.if1.true
 
 mul-from : tie.Need-overflow-mul-from
 mul-from c = search rules
@@ -33,7 +33,7 @@ returns-2 : tie.Need-returns-2
 returns-2 c = λ row long.
     let z = c.before.before.before.before.before in
     let q = c.before.write-forecast in
-    fo.write-told _ z.requires.3 z.args.s z.args.plot z.args.value row long _ (dl.lent-part z.args.stores.now (1747 * z.args.office) 1747) _ _ q.ensures z.args.waiting c.if2.true
+    fo.write_told _ z.requires.3 z.args.s z.args.plot z.args.value row long _ (dl.lent_part z.args.stores.now (1747 * z.args.office) 1747) _ _ q.ensures z.args.waiting c.if2.true
 
 sub-if3 : tie.Need-overflow-sub-if3
 sub-if3 c = search rules
@@ -42,13 +42,13 @@ returns-3 : tie.Need-returns-3
 returns-3 c = λ row long.
     let z = c.before.before.before.before.before.before.before in
     let q = c.before.before.before.write-forecast in
-    fo.write-full _ z.requires.3 z.args.s z.args.plot z.args.value row long _ (dl.lent-part z.args.stores.now (1747 * z.args.office) 1747) _ _ q.ensures z.args.waiting z.requires.2 c.before.before.if2.false c.if3.true
+    fo.write_full _ z.requires.3 z.args.s z.args.plot z.args.value row long _ (dl.lent_part z.args.stores.now (1747 * z.args.office) 1747) _ _ q.ensures z.args.waiting z.requires.2 c.before.before.if2.false c.if3.true
 
 returns-4 : tie.Need-returns-4
 returns-4 c = λ row long.
     let z = c.before.before.before.before.before.before.before in
     let q = c.before.before.before.write-forecast in
-    fo.write_goes _ z.requires.3 z.args.s z.args.plot z.args.value row long _ (dl.lent-part z.args.stores.now (1747 * z.args.office) 1747) _ _ q.ensures z.args.waiting z.requires.2 c.before.before.if2.false c.if3.false
+    fo.write_goes _ z.requires.3 z.args.s z.args.plot z.args.value row long _ (dl.lent_part z.args.stores.now (1747 * z.args.office) 1747) _ _ q.ensures z.args.waiting z.requires.2 c.before.before.if2.false c.if3.false
 
 pub write-ahead-spec : {M : Type 1} → statement M
 write-ahead-spec =

@@ -33,7 +33,7 @@ same_length c = search rules
 returns : tie.Need-returns
 returns c = let z = c.before.before.before.before.before in
     let q = c.before.before.open-office in
-    st.opens_at z.args.stores.now _ q.new.1.1.1.0 z.args.office (dl.lent-part z.args.stores.now (1747 * z.args.office) 1747) q.ensures.1 (omega (arith, z.requires.0, z.requires.1)) q.auto.1.1.1.0
+    st.opens_at z.args.stores.now _ q.new.1.1.1.0 z.args.office (dl.lent_part z.args.stores.now (1747 * z.args.office) 1747) q.ensures.1 (omega (arith, z.requires.0, z.requires.1)) q.auto.1.1.1.0
 
 pub open-at-spec : {M : Type 1} → statement M
 open-at-spec =

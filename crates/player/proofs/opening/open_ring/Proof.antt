@@ -26,7 +26,7 @@ returns c = let z = c.before.before.before.before.before.before.before.before.be
     let r = c.before.before.before.before.open-at3 in
     let f = c.before.fresh-session in
     λ lines long.
-    st.ring-opened z.args.stores.now p.new.0 q.new.0 r.new.0 _ _ _ z.requires p.ensures.0 q.ensures.0 r.ensures.0 refl refl refl p.ensures.1 q.ensures.1 r.ensures.1 f.result.session (f.ensures.1 ∙ st.fresh-is) lines long
+    st.ring_opened z.args.stores.now p.new.0 q.new.0 r.new.0 _ _ _ z.requires p.ensures.0 q.ensures.0 r.ensures.0 refl refl refl p.ensures.1 q.ensures.1 r.ensures.1 f.result.session (f.ensures.1 ∙ st.fresh_is) lines long
 
 pub open-ring-spec : {M : Type 1} → statement M
 open-ring-spec =

@@ -2,7 +2,7 @@ use Prim.Native.Nat.{◌+◌}
 use mathlib.Core.Path.{◌∙◌, ◌≡◌, ap}
 use native.Mathlib.Omega.{arith}
 use lib.ListN.{get_or}
-use Rattle.player.specs.Desks.{desk, pushed, withFrames}
+use Rattle.player.specs.Desks.{desk, pushed, with_frames}
 use Rattle.player.proofs.Delivery as dl
 use borrow.Author.Rules.{rules}
 use Rattle.player.proofs.play.deliver.Statement.{statement}
@@ -31,7 +31,7 @@ push-frames-requires c κs =
     let z = c.before.before.before.before.before.before in
     let C = z.requires.5 in
     let m : c.before.count-frames.result ≡ C.0 = c.before.count-frames.ensures C.0 C.1 in
-    (z.requires.0, omega (arith, z.requires.1, C.2), omega (arith, C.2), z.requires.2, dl.frames-room z.args.out.now z.args.words _ C.0 C.1 m (omega (arith, z.requires.3, z.requires.4)), dl.frames-short z.args.out.now z.args.words _ C.0 C.1 m (omega (arith, z.requires.3, z.requires.4)))
+    (z.requires.0, omega (arith, z.requires.1, C.2), omega (arith, C.2), z.requires.2, dl.frames_room z.args.out.now z.args.words _ C.0 C.1 m (omega (arith, z.requires.3, z.requires.4)), dl.frames_short z.args.out.now z.args.words _ C.0 C.1 m (omega (arith, z.requires.3, z.requires.4)))
 
 with-frames-requires : tie.Need-with-frames-requires
 with-frames-requires c κs =
@@ -47,7 +47,7 @@ returns : tie.Need-returns
 returns c = λ n C.
     let z = c.before.before.before.before.before.before.before.before.before.before in
     let m : c.before.before.before.before.before.count-frames.result ≡ n = c.before.before.before.before.before.count-frames.ensures n C in (
-      (λ ss. c.with-frames.ensures ss ∙ ap (withFrames (desk ss z.args.board) z.args.next) m),
+      (λ ss. c.with-frames.ensures ss ∙ ap (with_frames (desk ss z.args.board) z.args.next) m),
       c.before.before.before.push-frames.ensures ∙ ap (pushed z.args.lines.now z.args.next (get_or z.args.board.first z.args.next 0 + get_or z.args.board.count z.args.next 0) z.args.out.now) m,
     )
 

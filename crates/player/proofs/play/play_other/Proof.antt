@@ -17,7 +17,7 @@ returns : tie.Need-returns
 returns c = λ ss g T.
     let z = c.before.before.before.before.before.before.before in
     let a = z.args in
-    rw c.before.before.line2.given.1 (mv.receive-odd g (desk ss a.board) a.stores.now a.lines.now T a.out.now c.before.before.line2.given.0.0 c.if1.true)
+    rw c.before.before.line2.given.1 (mv.receive_odd g (desk ss a.board) a.stores.now a.lines.now T a.out.now c.before.before.line2.given.0.0 c.if1.true)
 
 cast-receive-line : tie.Need-overflow-cast-receive-line
 cast-receive-line c = search rules
@@ -50,7 +50,7 @@ returns-4 : tie.Need-returns-4
 returns-4 c = λ ss g T.
     let z = c.before.before.before.before in
     let a = z.args in
-    rw (mv.odd-line a.line c.match.keys3) (mv.other-odd g (desk ss a.board) a.stores.now a.lines.now T a.out.now)
+    rw (mv.odd_line a.line c.match.keys3) (mv.other_odd g (desk ss a.board) a.stores.now a.lines.now T a.out.now)
 
 pub play-other-spec : {M : Type 1} → statement M
 play-other-spec =

@@ -1,4 +1,4 @@
-use Rattle.reading.specs.Releases.{withRest}
+use Rattle.reading.specs.Releases.{with_rest}
 use Rattle.player.specs.Desks.{desk}
 use Rattle.player.proofs.LineRead as rd
 use borrow.Author.Rules.{rules}
@@ -15,7 +15,7 @@ cast-office : tie.Need-overflow-cast-office
 cast-office c = search rules
 
 read-at-requires : tie.Need-read-at-requires
-read-at-requires c κs = let z = c.before.before.before in let S = z.requires.1.3.1 in (S.placed z.args.i z.requires.0, S.long-stores)
+read-at-requires c κs = let z = c.before.before.before in let S = z.requires.1.3.1 in (S.placed z.args.i z.requires.0, S.long_stores)
 
 enum-known-status : tie.Need-enum-known-status
 enum-known-status c = search rules
@@ -40,7 +40,7 @@ returns c =
       q.ensures.0.0,
       λ ss row lines g own S.
           rd.line_refused g (desk ss z.args.board) z.args.stores.now lines S z.args.i z.requires.0 z.args.s own z.args.plot row d.status d.found d.entry
-          (withRest z.args.s d.seen q.result.rest) q.new.0 q.ensures.0.1 q.ensures.1 c.before.before.status.given.0.0 c.number_of_lem.result c.before.before.status.given.1 c.number_of_lem.ensures,
+          (with_rest z.args.s d.seen q.result.rest) q.new.0 q.ensures.0.1 q.ensures.1 c.before.before.status.given.0.0 c.number_of_lem.result c.before.before.status.given.1 c.number_of_lem.ensures,
     )
 
 same-length-2 : tie.Need-same-length-2
@@ -53,8 +53,8 @@ returns-2 c =
     let d = q.result.done in (
       q.ensures.0.0,
       λ ss row lines g own S.
-          rd.line-done g (desk ss z.args.board) z.args.stores.now lines S z.args.i z.requires.0 z.args.s own z.args.plot row d.status d.found d.entry
-          (withRest z.args.s d.seen q.result.rest) q.new.0 q.ensures.0.1 q.ensures.1 c.reply-of.result c.before.before.enum_told.given.1 c.reply-of.ensures,
+          rd.line_done g (desk ss z.args.board) z.args.stores.now lines S z.args.i z.requires.0 z.args.s own z.args.plot row d.status d.found d.entry
+          (with_rest z.args.s d.seen q.result.rest) q.new.0 q.ensures.0.1 q.ensures.1 c.reply-of.result c.before.before.enum_told.given.1 c.reply-of.ensures,
     )
 
 pub read-line-spec : {M : Type 1} → statement M

@@ -4,7 +4,7 @@ use mathlib.Core.Path.{subst}
 use native.Mathlib.Omega.{arith}
 use lib.ListN.{drop, get_or, take}
 use Rattle.causal.specs.Lists.{part}
-use Rattle.frame.specs.Refusals.{replyOf}
+use Rattle.frame.specs.Refusals.{reply_of}
 use Rattle.office.specs.Promises.{ReceivePromise}
 use Rattle.player.proofs.Delivery as dl
 use borrow.Author.Rules.{rules}
@@ -74,8 +74,8 @@ returns c =
     let q = c.before.before.before.before.receive in
     let stores = z.args.stores.now in
     let words = part z.args.lines.now f n in
-    dl.lent_at stores (take (a + 1747 - a) (drop a stores)) q.new.0 a (dl.lent-part stores a 1747) (λ W X. ReceivePromise W words z.args.out.now (replyOf q.result) X q.new.1.1.0)
-    (subst (λ (x : List ℕ). ReceivePromise (take (a + 1747 - a) (drop a stores)) x z.args.out.now (replyOf q.result) q.new.0 q.new.1.1.0) (dl.lent-part z.args.lines.now f n) q.ensures)
+    dl.lent_at stores (take (a + 1747 - a) (drop a stores)) q.new.0 a (dl.lent_part stores a 1747) (λ W X. ReceivePromise W words z.args.out.now (reply_of q.result) X q.new.1.1.0)
+    (subst (λ (x : List ℕ). ReceivePromise (take (a + 1747 - a) (drop a stores)) x z.args.out.now (reply_of q.result) q.new.0 q.new.1.1.0) (dl.lent_part z.args.lines.now f n) q.ensures)
     (omega (arith, z.requires.0, z.requires.1)) q.auto.0
 
 pub receive-at-spec : {M : Type 1} → statement M

@@ -1,7 +1,7 @@
 use mathlib.Core.Path.{◌∙◌, ◌≡◌, ap, refl}
 use native.Mathlib.Omega.{arith}
 use Rattle.ring.specs.Run.{next_of}
-use Rattle.player.specs.Desks.{Desk, countAt, desk, first_at, withoutOldest}
+use Rattle.player.specs.Desks.{Desk, count_at, desk, first_at, without_oldest}
 use Rattle.player.proofs.LineReceive as lr
 use Rattle.player.proofs.PlayReceive as pr
 use Rattle.player.proofs.Scenes.{next_low}
@@ -18,7 +18,7 @@ array-read-count c = search rules
 returns : tie.Need-returns
 returns c = λ ss g T.
     let z = c.before.before.before.before.before in
-    pr.receive-none g (desk ss z.args.board) z.args.stores.now z.args.lines.now T z.args.office z.requires.0 z.args.out.now c.if1.true
+    pr.receive_none g (desk ss z.args.board) z.args.stores.now z.args.lines.now T z.args.office z.requires.0 z.args.out.now c.if1.true
 
 mul-slot : tie.Need-overflow-mul-slot
 mul-slot c = search rules
@@ -70,10 +70,10 @@ receive-ahead-requires c κs = let z = c.before.before.before.before.before.befo
     let S = z.requires.2.1.1 in
     let d = desk z.requires.2.0 a.board in
     let Q = S.line a.office z.requires.0 in
-    let O = pr.oldest a.lines.now a.office (first_at d a.office) (countAt d a.office) _ S.long-lines z.requires.0 c.before.before.before.before.if1.false Q in
+    let O = pr.oldest a.lines.now a.office (first_at d a.office) (count_at d a.office) _ S.long_lines z.requires.0 c.before.before.before.before.if1.false Q in
     let e : c.before.before.next-of.result ≡ next_of 3 a.office = c.before.before.next-of.ensures in
     let N = S.line (next_of 3 a.office) (next_low a.office z.requires.0) in
-    (z.requires.0, S.long-stores, omega (arith, Q.start, S.long-lines), O.short, rw e N.few)
+    (z.requires.0, S.long_stores, omega (arith, Q.start, S.long_lines), O.short, rw e N.few)
 
 enum_told : tie.Need-enum-told
 enum_told c = search rules
@@ -90,8 +90,8 @@ receive-at-requires c κs = let z = c.before.before.before.before.before.before.
     let S = z.requires.2.1.1 in
     let d = desk z.requires.2.0 a.board in
     let Q = S.line a.office z.requires.0 in
-    let O = pr.oldest a.lines.now a.office (first_at d a.office) (countAt d a.office) _ S.long-lines z.requires.0 c.before.before.before.before.before.before.before.before.before.before.if1.false Q in
-    (z.requires.0, S.long-stores, omega (arith, Q.start, S.long-lines), O.short)
+    let O = pr.oldest a.lines.now a.office (first_at d a.office) (count_at d a.office) _ S.long_lines z.requires.0 c.before.before.before.before.before.before.before.before.before.before.if1.false Q in
+    (z.requires.0, S.long_stores, omega (arith, Q.start, S.long_lines), O.short)
 
 enum-known-written : tie.Need-enum-known-written
 enum-known-written c = search rules
@@ -108,20 +108,20 @@ deliver-requires c κs = let z = c.before.before.before.before.before.before.bef
     let S = z.requires.2.1.1 in
     let d = desk z.requires.2.0 a.board in
     let Q = S.line a.office z.requires.0 in
-    let O = pr.oldest a.lines.now a.office (first_at d a.office) (countAt d a.office) _ S.long-lines z.requires.0 c.before.before.before.before.before.before.before.before.before.before.before.before.before.before.before.before.before.before.before.before.if1.false Q in
+    let O = pr.oldest a.lines.now a.office (first_at d a.office) (count_at d a.office) _ S.long_lines z.requires.0 c.before.before.before.before.before.before.before.before.before.before.before.before.before.before.before.before.before.before.before.before.if1.false Q in
     let e : c.before.before.before.before.before.before.before.before.before.before.before.before.before.before.before.before.before.before.next-of.result ≡ next_of 3 a.office = c.before.before.before.before.before.before.before.before.before.before.before.before.before.before.before.before.before.before.next-of.ensures in
     let N = S.line (next_of 3 a.office) (next_low a.office z.requires.0) in
     let g = z.requires.2.1.0 in
     let q = c.before.before.before.before.before.before.before.before.before.receive-at in (
       omega (arith, next_low a.office z.requires.0),
       rw e N.start,
-      S.long-lines,
+      S.long_lines,
       q.auto.1.1.1.1.0 ∙ z.requires.1,
       omega (arith, lr.small g d a.stores.now a.lines.now S a.office z.requires.0 a.out.now _ O.rest O.are _ c.before.before.before.before.before.before.before.before.before.before.before.before.before.before.before.before.before.before.next-of.ensures c.before.before.before.before.before.before.before.before.before.receive-at.result c.before.before.before.before.before.before.before.before.before.receive-at.new.0 c.before.before.before.before.before.before.before.before.before.receive-at.new.1.1.1.1.0 c.before.before.before.before.before.before.before.before.before.receive-at.ensures.0 c.before.before.before.before.before.before.before.before.before.receive-at.ensures.1 c.before.before.before.written2.given.0.0 c.before.before.before.written2.given.1, z.requires.1),
       (
         _,
         lr.cut g d a.stores.now a.lines.now S a.office z.requires.0 a.out.now _ O.rest O.are _ c.before.before.before.before.before.before.before.before.before.before.before.before.before.before.before.before.before.before.next-of.ensures c.before.before.before.before.before.before.before.before.before.receive-at.result c.before.before.before.before.before.before.before.before.before.receive-at.new.0 c.before.before.before.before.before.before.before.before.before.receive-at.new.1.1.1.1.0 c.before.before.before.before.before.before.before.before.before.receive-at.ensures.0 c.before.before.before.before.before.before.before.before.before.receive-at.ensures.1 c.before.before.before.written2.given.0.0 c.before.before.before.written2.given.1,
-        lr.ahead-goes g d a.stores.now a.lines.now S a.office z.requires.0 a.out.now _ O.rest O.are _ c.before.before.before.before.before.before.before.before.before.before.before.before.before.before.before.before.before.before.next-of.ensures c.before.before.before.before.before.before.before.before.before.before.before.before.before.before.before.receive-ahead.result (c.before.before.before.before.before.before.before.before.before.before.before.before.before.before.before.receive-ahead.ensures a.out.now z.requires.1) c.before.before.before.before.before.before.before.before.before.before.before.before.before.enum-told2.given.1 (lr.code g d a.stores.now a.lines.now S a.office z.requires.0 a.out.now _ O.rest O.are _ c.before.before.before.before.before.before.before.before.before.before.before.before.before.before.before.before.before.before.next-of.ensures c.before.before.before.before.before.before.before.before.before.receive-at.result c.before.before.before.before.before.before.before.before.before.receive-at.new.0 c.before.before.before.before.before.before.before.before.before.receive-at.new.1.1.1.1.0 c.before.before.before.before.before.before.before.before.before.receive-at.ensures.0 c.before.before.before.before.before.before.before.before.before.receive-at.ensures.1 c.before.before.before.written2.given.0.0 c.before.before.before.written2.given.1),
+        lr.ahead_goes g d a.stores.now a.lines.now S a.office z.requires.0 a.out.now _ O.rest O.are _ c.before.before.before.before.before.before.before.before.before.before.before.before.before.before.before.before.before.before.next-of.ensures c.before.before.before.before.before.before.before.before.before.before.before.before.before.before.before.receive-ahead.result (c.before.before.before.before.before.before.before.before.before.before.before.before.before.before.before.receive-ahead.ensures a.out.now z.requires.1) c.before.before.before.before.before.before.before.before.before.before.before.before.before.enum-told2.given.1 (lr.code g d a.stores.now a.lines.now S a.office z.requires.0 a.out.now _ O.rest O.are _ c.before.before.before.before.before.before.before.before.before.before.before.before.before.before.before.before.before.before.next-of.ensures c.before.before.before.before.before.before.before.before.before.receive-at.result c.before.before.before.before.before.before.before.before.before.receive-at.new.0 c.before.before.before.before.before.before.before.before.before.receive-at.new.1.1.1.1.0 c.before.before.before.before.before.before.before.before.before.receive-at.ensures.0 c.before.before.before.before.before.before.before.before.before.receive-at.ensures.1 c.before.before.before.written2.given.0.0 c.before.before.before.written2.given.1),
       ),
     )
 
@@ -131,7 +131,7 @@ without-oldest-requires c κs = let z = c.before.before.before.before.before.bef
     let S = z.requires.2.1.1 in
     let d = desk z.requires.2.0 a.board in
     let Q = S.line a.office z.requires.0 in
-    let O = pr.oldest a.lines.now a.office (first_at d a.office) (countAt d a.office) _ S.long-lines z.requires.0 c.before.before.before.before.before.before.before.before.before.before.before.before.before.before.before.before.before.before.before.before.before.before.before.if1.false Q in
+    let O = pr.oldest a.lines.now a.office (first_at d a.office) (count_at d a.office) _ S.long_lines z.requires.0 c.before.before.before.before.before.before.before.before.before.before.before.before.before.before.before.before.before.before.before.before.before.before.before.if1.false Q in
     let g = z.requires.2.1.0 in
     let t = lr.still d (desk z.requires.2.0 c.before.before.deliver.result) a.office _ _ z.requires.0 c.before.before.before.before.before.before.before.before.before.before.before.before.before.before.before.before.before.before.before.before.before.next-of.ensures ((c.before.before.deliver.ensures _ (lr.cut g d a.stores.now a.lines.now S a.office z.requires.0 a.out.now _ O.rest O.are _ c.before.before.before.before.before.before.before.before.before.before.before.before.before.before.before.before.before.before.before.before.before.next-of.ensures c.before.before.before.before.before.before.before.before.before.before.before.before.receive-at.result c.before.before.before.before.before.before.before.before.before.before.before.before.receive-at.new.0 c.before.before.before.before.before.before.before.before.before.before.before.before.receive-at.new.1.1.1.1.0 c.before.before.before.before.before.before.before.before.before.before.before.before.receive-at.ensures.0 c.before.before.before.before.before.before.before.before.before.before.before.before.receive-at.ensures.1 c.before.before.before.before.before.before.written2.given.0.0 c.before.before.before.before.before.before.written2.given.1)).0 z.requires.2.0) in
     (z.requires.0, omega (arith, t.0, Q.start), omega (arith, t.1, c.before.before.before.before.before.before.before.before.before.before.before.before.before.before.before.before.before.before.before.before.before.before.before.if1.false))
@@ -161,8 +161,8 @@ returns-2 c = λ ss g T.
     let z = c.before.before.before.before.before.before.before.before.before.before.before.before in
     let a = z.args in
     let d = desk ss a.board in
-    let O = pr.oldest a.lines.now a.office (first_at d a.office) (countAt d a.office) _ T.long-lines z.requires.0 c.before.before.before.before.before.before.before.if1.false (T.line a.office z.requires.0) in
-    lr.ahead-full g d a.stores.now a.lines.now T a.office z.requires.0 a.out.now _ O.rest O.are _ c.before.before.before.before.before.next-of.ensures c.before.before.receive-ahead.result (c.before.before.receive-ahead.ensures a.out.now z.requires.1) c.enum_told.given.1
+    let O = pr.oldest a.lines.now a.office (first_at d a.office) (count_at d a.office) _ T.long_lines z.requires.0 c.before.before.before.before.before.before.before.if1.false (T.line a.office z.requires.0) in
+    lr.ahead_full g d a.stores.now a.lines.now T a.office z.requires.0 a.out.now _ O.rest O.are _ c.before.before.before.before.before.next-of.ensures c.before.before.receive-ahead.result (c.before.before.receive-ahead.ensures a.out.now z.requires.1) c.enum_told.given.1
 
 same-length-3 : tie.Need-same-length-3
 same-length-3 c = search rules
@@ -175,8 +175,8 @@ returns-3 c = λ ss g T.
     let z = c.before.before.before.before.before.before.before.before.before.before.before.before.before in
     let a = z.args in
     let d = desk ss a.board in
-    let O = pr.oldest a.lines.now a.office (first_at d a.office) (countAt d a.office) _ T.long-lines z.requires.0 c.before.before.before.before.before.before.before.before.if1.false (T.line a.office z.requires.0) in
-    lr.ahead-refused g d a.stores.now a.lines.now T a.office z.requires.0 a.out.now _ O.rest O.are _ c.before.before.before.before.before.before.next-of.ensures c.before.before.before.receive-ahead.result (c.before.before.before.receive-ahead.ensures a.out.now z.requires.1) c.before.ahead.given.0.0 c.before.ahead.given.1
+    let O = pr.oldest a.lines.now a.office (first_at d a.office) (count_at d a.office) _ T.long_lines z.requires.0 c.before.before.before.before.before.before.before.before.if1.false (T.line a.office z.requires.0) in
+    lr.ahead_refused g d a.stores.now a.lines.now T a.office z.requires.0 a.out.now _ O.rest O.are _ c.before.before.before.before.before.before.next-of.ensures c.before.before.before.receive-ahead.result (c.before.before.before.receive-ahead.ensures a.out.now z.requires.1) c.before.ahead.given.0.0 c.before.ahead.given.1
 
 same-length-5 : tie.Need-same-length-5
 same-length-5 c = search rules
@@ -192,7 +192,7 @@ returns-4 c = λ ss g T.
     let z = c.before.before.before.before.before.before.before.before.before.before.before.before.before.before.before.before.before.before.before.before.before.before.before.before in
     let a = z.args in
     let d = desk ss a.board in
-    let O = pr.oldest a.lines.now a.office (first_at d a.office) (countAt d a.office) _ T.long-lines z.requires.0 c.before.before.before.before.before.before.before.before.before.before.before.before.before.before.before.before.before.before.before.if1.false (T.line a.office z.requires.0) in
+    let O = pr.oldest a.lines.now a.office (first_at d a.office) (count_at d a.office) _ T.long_lines z.requires.0 c.before.before.before.before.before.before.before.before.before.before.before.before.before.before.before.before.before.before.before.if1.false (T.line a.office z.requires.0) in
     lr.line_refused g d a.stores.now a.lines.now T a.office z.requires.0 a.out.now _ O.rest O.are _ c.before.before.before.before.before.before.before.before.before.before.before.before.before.before.before.before.before.next-of.ensures c.before.before.before.before.before.before.before.before.receive-at.result c.before.before.before.before.before.before.before.before.receive-at.new.0 c.before.before.before.before.before.before.before.before.receive-at.new.1.1.1.1.0 c.before.before.before.before.before.before.before.before.receive-at.ensures.0 c.before.before.before.before.before.before.before.before.receive-at.ensures.1 c.before.before.written.given.0.0 c.number_of_lem.result c.before.before.written.given.1 c.number_of_lem.ensures
 
 same-length-8 : tie.Need-same-length-8
@@ -209,9 +209,9 @@ returns-5 c = λ ss g T.
     let z = c.before.before.before.before.before.before.before.before.before.before.before.before.before.before.before.before.before.before.before.before.before.before.before.before.before.before.before.before.before in
     let a = z.args in
     let d = desk ss a.board in
-    let O = pr.oldest a.lines.now a.office (first_at d a.office) (countAt d a.office) _ T.long-lines z.requires.0 c.before.before.before.before.before.before.before.before.before.before.before.before.before.before.before.before.before.before.before.before.before.before.before.before.if1.false (T.line a.office z.requires.0) in
+    let O = pr.oldest a.lines.now a.office (first_at d a.office) (count_at d a.office) _ T.long_lines z.requires.0 c.before.before.before.before.before.before.before.before.before.before.before.before.before.before.before.before.before.before.before.before.before.before.before.before.if1.false (T.line a.office z.requires.0) in
     let D = (c.before.before.before.deliver.ensures _ (lr.cut g d a.stores.now a.lines.now T a.office z.requires.0 a.out.now _ O.rest O.are _ c.before.before.before.before.before.before.before.before.before.before.before.before.before.before.before.before.before.before.before.before.before.before.next-of.ensures c.before.before.before.before.before.before.before.before.before.before.before.before.before.receive-at.result c.before.before.before.before.before.before.before.before.before.before.before.before.before.receive-at.new.0 c.before.before.before.before.before.before.before.before.before.before.before.before.before.receive-at.new.1.1.1.1.0 c.before.before.before.before.before.before.before.before.before.before.before.before.before.receive-at.ensures.0 c.before.before.before.before.before.before.before.before.before.before.before.before.before.receive-at.ensures.1 c.before.before.before.before.before.before.before.written2.given.0.0 c.before.before.before.before.before.before.before.written2.given.1)) in
-    lr.line-done g d a.stores.now a.lines.now T a.office z.requires.0 a.out.now _ O.rest O.are _ c.before.before.before.before.before.before.before.before.before.before.before.before.before.before.before.before.before.before.before.before.before.before.next-of.ensures c.before.before.before.before.before.before.before.before.before.before.before.before.before.receive-at.result c.before.before.before.before.before.before.before.before.before.before.before.before.before.receive-at.new.0 c.before.before.before.before.before.before.before.before.before.before.before.before.before.receive-at.new.1.1.1.1.0 c.before.before.before.before.before.before.before.before.before.before.before.before.before.receive-at.ensures.0 c.before.before.before.before.before.before.before.before.before.before.before.before.before.receive-at.ensures.1 c.before.before.before.before.before.before.before.written2.given.0.0 c.before.before.before.before.before.before.before.written2.given.1 (lr.ahead-goes g d a.stores.now a.lines.now T a.office z.requires.0 a.out.now _ O.rest O.are _ c.before.before.before.before.before.before.before.before.before.before.before.before.before.before.before.before.before.before.before.before.before.before.next-of.ensures c.before.before.before.before.before.before.before.before.before.before.before.before.before.before.before.before.before.before.before.receive-ahead.result (c.before.before.before.before.before.before.before.before.before.before.before.before.before.before.before.before.before.before.before.receive-ahead.ensures a.out.now z.requires.1) c.before.before.before.before.before.before.before.before.before.before.before.before.before.before.before.before.before.enum-told2.given.1 (lr.code g d a.stores.now a.lines.now T a.office z.requires.0 a.out.now _ O.rest O.are _ c.before.before.before.before.before.before.before.before.before.before.before.before.before.before.before.before.before.before.before.before.before.before.next-of.ensures c.before.before.before.before.before.before.before.before.before.before.before.before.before.receive-at.result c.before.before.before.before.before.before.before.before.before.before.before.before.before.receive-at.new.0 c.before.before.before.before.before.before.before.before.before.before.before.before.before.receive-at.new.1.1.1.1.0 c.before.before.before.before.before.before.before.before.before.before.before.before.before.receive-at.ensures.0 c.before.before.before.before.before.before.before.before.before.before.before.before.before.receive-at.ensures.1 c.before.before.before.before.before.before.before.written2.given.0.0 c.before.before.before.before.before.before.before.written2.given.1)) (desk ss c.without-oldest.result) _ _ (c.without-oldest.ensures ss ∙ ap (λ (x : Desk). withoutOldest x a.office) (D.0 ss)) D.1 refl
+    lr.line_done g d a.stores.now a.lines.now T a.office z.requires.0 a.out.now _ O.rest O.are _ c.before.before.before.before.before.before.before.before.before.before.before.before.before.before.before.before.before.before.before.before.before.before.next-of.ensures c.before.before.before.before.before.before.before.before.before.before.before.before.before.receive-at.result c.before.before.before.before.before.before.before.before.before.before.before.before.before.receive-at.new.0 c.before.before.before.before.before.before.before.before.before.before.before.before.before.receive-at.new.1.1.1.1.0 c.before.before.before.before.before.before.before.before.before.before.before.before.before.receive-at.ensures.0 c.before.before.before.before.before.before.before.before.before.before.before.before.before.receive-at.ensures.1 c.before.before.before.before.before.before.before.written2.given.0.0 c.before.before.before.before.before.before.before.written2.given.1 (lr.ahead_goes g d a.stores.now a.lines.now T a.office z.requires.0 a.out.now _ O.rest O.are _ c.before.before.before.before.before.before.before.before.before.before.before.before.before.before.before.before.before.before.before.before.before.before.next-of.ensures c.before.before.before.before.before.before.before.before.before.before.before.before.before.before.before.before.before.before.before.receive-ahead.result (c.before.before.before.before.before.before.before.before.before.before.before.before.before.before.before.before.before.before.before.receive-ahead.ensures a.out.now z.requires.1) c.before.before.before.before.before.before.before.before.before.before.before.before.before.before.before.before.before.enum-told2.given.1 (lr.code g d a.stores.now a.lines.now T a.office z.requires.0 a.out.now _ O.rest O.are _ c.before.before.before.before.before.before.before.before.before.before.before.before.before.before.before.before.before.before.before.before.before.before.next-of.ensures c.before.before.before.before.before.before.before.before.before.before.before.before.before.receive-at.result c.before.before.before.before.before.before.before.before.before.before.before.before.before.receive-at.new.0 c.before.before.before.before.before.before.before.before.before.before.before.before.before.receive-at.new.1.1.1.1.0 c.before.before.before.before.before.before.before.before.before.before.before.before.before.receive-at.ensures.0 c.before.before.before.before.before.before.before.before.before.before.before.before.before.receive-at.ensures.1 c.before.before.before.before.before.before.before.written2.given.0.0 c.before.before.before.before.before.before.before.written2.given.1)) (desk ss c.without-oldest.result) _ _ (c.without-oldest.ensures ss ∙ ap (λ (x : Desk). without_oldest x a.office) (D.0 ss)) D.1 refl
 
 pub receive-line-spec : {M : Type 1} → statement M
 receive-line-spec =

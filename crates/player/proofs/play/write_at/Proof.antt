@@ -38,7 +38,7 @@ returns c =
     let z = c.before.before.before.before.before.before.before.before.before in
     let a = 1747 * z.args.office in
     let q = c.before.before.before.before.make in
-    dl.lent_at z.args.stores.now _ q.new.0 a (dl.lent-part z.args.stores.now a 1747)
+    dl.lent_at z.args.stores.now _ q.new.0 a (dl.lent_part z.args.stores.now a 1747)
     (λ W X. MakePromise W z.args.s z.args.plot z.args.value z.args.out.now q.result.written q.result.entry X q.new.1.1.1.1.0)
     q.ensures (omega (arith, z.requires.0, z.requires.1)) q.auto.0
 

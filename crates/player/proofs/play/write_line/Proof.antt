@@ -5,7 +5,7 @@ use mathlib.Core.Path.{◌∙◌, ◌≡◌, ap}
 use native.Mathlib.Omega.{arith}
 use lib.ListN.{get_or}
 use Rattle.ring.specs.Run.{next_of}
-use Rattle.player.specs.Desks.{desk, placeAt}
+use Rattle.player.specs.Desks.{desk, place_at}
 use Rattle.player.proofs.LineWrite as lw
 use Rattle.player.proofs.Scenes.{next_low}
 use borrow.Author.Rules.{rules}
@@ -26,7 +26,7 @@ next-of-requires c κs = let z = c.before.before.before.before in
     let a = z.args in
     let S = z.requires.2.2.1 in
     let d = desk z.requires.2.0 a.board in
-    let o = placeAt d a.i in
+    let o = place_at d a.i in
     let ol : o < 3 = S.placed a.i z.requires.0 in ol
 
 mul-write-ahead : tie.Need-overflow-mul-write-ahead
@@ -34,7 +34,7 @@ mul-write-ahead c = let z = c.before.before.before.before.before.before.before i
     let a = z.args in
     let S = z.requires.2.2.1 in
     let d = desk z.requires.2.0 a.board in
-    let o = placeAt d a.i in
+    let o = place_at d a.i in
     let ol : o < 3 = S.placed a.i z.requires.0 in
     let e : c.before.before.next-of.result ≡ next_of 3 o = c.before.before.next-of.ensures in
     let N = S.line (next_of 3 o) (next_low o ol) in omega (arith, next_low o ol)
@@ -44,7 +44,7 @@ array-read-write-ahead c = let z = c.before.before.before.before.before.before.b
     let a = z.args in
     let S = z.requires.2.2.1 in
     let d = desk z.requires.2.0 a.board in
-    let o = placeAt d a.i in
+    let o = place_at d a.i in
     let ol : o < 3 = S.placed a.i z.requires.0 in
     let e : c.before.before.next-of.result ≡ next_of 3 o = c.before.before.next-of.ensures in
     let N = S.line (next_of 3 o) (next_low o ol) in omega (arith, next_low o ol)
@@ -54,11 +54,11 @@ write-ahead-requires c κs = let z = c.before.before.before.before.before.before
     let a = z.args in
     let S = z.requires.2.2.1 in
     let d = desk z.requires.2.0 a.board in
-    let o = placeAt d a.i in
+    let o = place_at d a.i in
     let ol : o < 3 = S.placed a.i z.requires.0 in
     let e : c.before.before.next-of.result ≡ next_of 3 o = c.before.before.next-of.ensures in
     let N = S.line (next_of 3 o) (next_low o ol) in
-    (ol, S.long-stores, rw e N.few, ap (λ (l : List ℕ). get_or l 0 0) (S.store o ol) ∙ S.offices o ol)
+    (ol, S.long_stores, rw e N.few, ap (λ (l : List ℕ). get_or l 0 0) (S.store o ol) ∙ S.offices o ol)
 
 enum_told : tie.Need-enum-told
 enum_told c = search rules
@@ -80,8 +80,8 @@ write-at-requires c κs = let z = c.before.before.before.before.before.before.be
     let a = z.args in
     let S = z.requires.2.2.1 in
     let d = desk z.requires.2.0 a.board in
-    let o = placeAt d a.i in
-    let ol : o < 3 = S.placed a.i z.requires.0 in (ol, S.long-stores)
+    let o = place_at d a.i in
+    let ol : o < 3 = S.placed a.i z.requires.0 in (ol, S.long_stores)
 
 enum-known-written : tie.Need-enum-known-written
 enum-known-written c = search rules
@@ -100,20 +100,20 @@ deliver-requires c κs = let z = c.before.before.before.before.before.before.bef
     let a = z.args in
     let S = z.requires.2.2.1 in
     let d = desk z.requires.2.0 a.board in
-    let o = placeAt d a.i in
+    let o = place_at d a.i in
     let ol : o < 3 = S.placed a.i z.requires.0 in
     let e : c.before.before.before.before.before.before.before.before.before.before.before.before.before.before.before.before.before.next-of.result ≡ next_of 3 o = c.before.before.before.before.before.before.before.before.before.before.before.before.before.before.before.before.before.next-of.ensures in
     let N = S.line (next_of 3 o) (next_low o ol) in
     let q = c.before.before.before.before.before.before.before.before.before.write-at in (
       omega (arith, next_low o ol),
       rw e N.start,
-      S.long-lines,
+      S.long_lines,
       q.auto.1.1.1.1.1.0 ∙ z.requires.1,
       omega (arith, lw.small z.requires.2.2.0 d a.stores.now a.lines.now S a.i z.requires.0 a.s z.requires.2.1 a.plot a.value a.out.now _ c.before.before.before.before.before.before.before.before.before.before.before.before.before.before.before.before.before.next-of.ensures c.before.before.before.before.before.before.before.before.before.write-at.result.written c.before.before.before.before.before.before.before.before.before.write-at.result.entry c.before.before.before.before.before.before.before.before.before.write-at.new.0 c.before.before.before.before.before.before.before.before.before.write-at.new.1.1.1.1.1.0 c.before.before.before.before.before.before.before.before.before.write-at.ensures.0 c.before.before.before.before.before.before.before.before.before.write-at.ensures.1 c.before.before.before.written2.given.0.0 c.before.before.before.written2.given.1, z.requires.1),
       (
         _,
         lw.cut z.requires.2.2.0 d a.stores.now a.lines.now S a.i z.requires.0 a.s z.requires.2.1 a.plot a.value a.out.now _ c.before.before.before.before.before.before.before.before.before.before.before.before.before.before.before.before.before.next-of.ensures c.before.before.before.before.before.before.before.before.before.write-at.result.written c.before.before.before.before.before.before.before.before.before.write-at.result.entry c.before.before.before.before.before.before.before.before.before.write-at.new.0 c.before.before.before.before.before.before.before.before.before.write-at.new.1.1.1.1.1.0 c.before.before.before.before.before.before.before.before.before.write-at.ensures.0 c.before.before.before.before.before.before.before.before.before.write-at.ensures.1 c.before.before.before.written2.given.0.0 c.before.before.before.written2.given.1,
-        lw.ahead-goes z.requires.2.2.0 d a.stores.now a.lines.now S a.i z.requires.0 a.s z.requires.2.1 a.plot a.value a.out.now _ c.before.before.before.before.before.before.before.before.before.before.before.before.before.before.before.before.before.next-of.ensures c.before.before.before.before.before.before.before.before.before.before.before.before.before.before.write-ahead.result (c.before.before.before.before.before.before.before.before.before.before.before.before.before.before.write-ahead.ensures a.out.now z.requires.1) c.before.before.before.before.before.before.before.before.before.before.before.before.enum-told2.given.1 (lw.code z.requires.2.2.0 d a.stores.now a.lines.now S a.i z.requires.0 a.s z.requires.2.1 a.plot a.value a.out.now _ c.before.before.before.before.before.before.before.before.before.before.before.before.before.before.before.before.before.next-of.ensures c.before.before.before.before.before.before.before.before.before.write-at.result.written c.before.before.before.before.before.before.before.before.before.write-at.result.entry c.before.before.before.before.before.before.before.before.before.write-at.new.0 c.before.before.before.before.before.before.before.before.before.write-at.new.1.1.1.1.1.0 c.before.before.before.before.before.before.before.before.before.write-at.ensures.0 c.before.before.before.before.before.before.before.before.before.write-at.ensures.1 c.before.before.before.written2.given.0.0 c.before.before.before.written2.given.1),
+        lw.ahead_goes z.requires.2.2.0 d a.stores.now a.lines.now S a.i z.requires.0 a.s z.requires.2.1 a.plot a.value a.out.now _ c.before.before.before.before.before.before.before.before.before.before.before.before.before.before.before.before.before.next-of.ensures c.before.before.before.before.before.before.before.before.before.before.before.before.before.before.write-ahead.result (c.before.before.before.before.before.before.before.before.before.before.before.before.before.before.write-ahead.ensures a.out.now z.requires.1) c.before.before.before.before.before.before.before.before.before.before.before.before.enum-told2.given.1 (lw.code z.requires.2.2.0 d a.stores.now a.lines.now S a.i z.requires.0 a.s z.requires.2.1 a.plot a.value a.out.now _ c.before.before.before.before.before.before.before.before.before.before.before.before.before.before.before.before.before.next-of.ensures c.before.before.before.before.before.before.before.before.before.write-at.result.written c.before.before.before.before.before.before.before.before.before.write-at.result.entry c.before.before.before.before.before.before.before.before.before.write-at.new.0 c.before.before.before.before.before.before.before.before.before.write-at.new.1.1.1.1.1.0 c.before.before.before.before.before.before.before.before.before.write-at.ensures.0 c.before.before.before.before.before.before.before.before.before.write-at.ensures.1 c.before.before.before.written2.given.0.0 c.before.before.before.written2.given.1),
       ),
     )
 
@@ -125,7 +125,7 @@ returns c = let z = c.before.before.before.before.before.before.before.before.be
     let a = z.args in
     let u = c.not_done in (
       lw.not_more u.result a.s u.ensures.1,
-      λ ss g own T. let d = desk ss a.board in lw.undone _ g _ ss a.i a.s a.board u.result _ _ _ own u.ensures (lw.ahead-full g d a.stores.now a.lines.now T a.i z.requires.0 a.s own a.plot a.value a.out.now _ c.before.before.before.before.before.before.next-of.ensures c.before.before.before.write-ahead.result (c.before.before.before.write-ahead.ensures a.out.now z.requires.1) c.before.enum_told.given.1),
+      λ ss g own T. let d = desk ss a.board in lw.undone _ g _ ss a.i a.s a.board u.result _ _ _ own u.ensures (lw.ahead_full g d a.stores.now a.lines.now T a.i z.requires.0 a.s own a.plot a.value a.out.now _ c.before.before.before.before.before.before.next-of.ensures c.before.before.before.write-ahead.result (c.before.before.before.write-ahead.ensures a.out.now z.requires.1) c.before.enum_told.given.1),
     )
 
 same-length-2 : tie.Need-same-length-2
@@ -136,7 +136,7 @@ returns-2 c = let z = c.before.before.before.before.before.before.before.before.
     let a = z.args in
     let u = c.not-done2 in (
       lw.not_more u.result a.s u.ensures.1,
-      λ ss g own T. let d = desk ss a.board in lw.undone _ g _ ss a.i a.s a.board u.result _ _ _ own u.ensures (lw.ahead-refused g d a.stores.now a.lines.now T a.i z.requires.0 a.s own a.plot a.value a.out.now _ c.before.before.before.before.before.before.before.next-of.ensures c.before.before.before.before.write-ahead.result (c.before.before.before.before.write-ahead.ensures a.out.now z.requires.1) c.before.before.ahead.given.0.0 c.before.before.ahead.given.1),
+      λ ss g own T. let d = desk ss a.board in lw.undone _ g _ ss a.i a.s a.board u.result _ _ _ own u.ensures (lw.ahead_refused g d a.stores.now a.lines.now T a.i z.requires.0 a.s own a.plot a.value a.out.now _ c.before.before.before.before.before.before.before.next-of.ensures c.before.before.before.before.write-ahead.result (c.before.before.before.before.write-ahead.ensures a.out.now z.requires.1) c.before.before.ahead.given.0.0 c.before.before.ahead.given.1),
     )
 
 same-length-3 : tie.Need-same-length-3
@@ -169,7 +169,7 @@ returns-4 c = let z = c.before.before.before.before.before.before.before.before.
       λ ss g own T.
           let d = desk ss a.board in
           let D = c.before.before.before.deliver.ensures _ (lw.cut g d a.stores.now a.lines.now T a.i z.requires.0 a.s own a.plot a.value a.out.now _ c.before.before.before.before.before.before.before.before.before.before.before.before.before.before.before.before.before.before.before.before.before.next-of.ensures c.before.before.before.before.before.before.before.before.before.before.before.before.before.write-at.result.written c.before.before.before.before.before.before.before.before.before.before.before.before.before.write-at.result.entry c.before.before.before.before.before.before.before.before.before.before.before.before.before.write-at.new.0 c.before.before.before.before.before.before.before.before.before.before.before.before.before.write-at.new.1.1.1.1.1.0 c.before.before.before.before.before.before.before.before.before.before.before.before.before.write-at.ensures.0 c.before.before.before.before.before.before.before.before.before.before.before.before.before.write-at.ensures.1 c.before.before.before.before.before.before.before.written2.given.0.0 c.before.before.before.before.before.before.before.written2.given.1) in
-          lw.line-done g d a.stores.now a.lines.now T a.i z.requires.0 a.s own a.plot a.value a.out.now _ c.before.before.before.before.before.before.before.before.before.before.before.before.before.before.before.before.before.before.before.before.before.next-of.ensures c.before.before.before.before.before.before.before.before.before.before.before.before.before.write-at.result.written c.before.before.before.before.before.before.before.before.before.before.before.before.before.write-at.result.entry c.before.before.before.before.before.before.before.before.before.before.before.before.before.write-at.new.0 c.before.before.before.before.before.before.before.before.before.before.before.before.before.write-at.new.1.1.1.1.1.0 c.before.before.before.before.before.before.before.before.before.before.before.before.before.write-at.ensures.0 c.before.before.before.before.before.before.before.before.before.before.before.before.before.write-at.ensures.1 c.before.before.before.before.before.before.before.written2.given.0.0 c.before.before.before.before.before.before.before.written2.given.1 (lw.ahead-goes g d a.stores.now a.lines.now T a.i z.requires.0 a.s own a.plot a.value a.out.now _ c.before.before.before.before.before.before.before.before.before.before.before.before.before.before.before.before.before.before.before.before.before.next-of.ensures c.before.before.before.before.before.before.before.before.before.before.before.before.before.before.before.before.before.before.write-ahead.result (c.before.before.before.before.before.before.before.before.before.before.before.before.before.before.before.before.before.before.write-ahead.ensures a.out.now z.requires.1) c.before.before.before.before.before.before.before.before.before.before.before.before.before.before.before.before.enum-told2.given.1 (lw.code g d a.stores.now a.lines.now T a.i z.requires.0 a.s own a.plot a.value a.out.now _ c.before.before.before.before.before.before.before.before.before.before.before.before.before.before.before.before.before.before.before.before.before.next-of.ensures c.before.before.before.before.before.before.before.before.before.before.before.before.before.write-at.result.written c.before.before.before.before.before.before.before.before.before.before.before.before.before.write-at.result.entry c.before.before.before.before.before.before.before.before.before.before.before.before.before.write-at.new.0 c.before.before.before.before.before.before.before.before.before.before.before.before.before.write-at.new.1.1.1.1.1.0 c.before.before.before.before.before.before.before.before.before.before.before.before.before.write-at.ensures.0 c.before.before.before.before.before.before.before.before.before.before.before.before.before.write-at.ensures.1 c.before.before.before.before.before.before.before.written2.given.0.0 c.before.before.before.before.before.before.before.written2.given.1)) (desk ss c.before.before.before.deliver.result) _ (D.0 ss) D.1,
+          lw.line_done g d a.stores.now a.lines.now T a.i z.requires.0 a.s own a.plot a.value a.out.now _ c.before.before.before.before.before.before.before.before.before.before.before.before.before.before.before.before.before.before.before.before.before.next-of.ensures c.before.before.before.before.before.before.before.before.before.before.before.before.before.write-at.result.written c.before.before.before.before.before.before.before.before.before.before.before.before.before.write-at.result.entry c.before.before.before.before.before.before.before.before.before.before.before.before.before.write-at.new.0 c.before.before.before.before.before.before.before.before.before.before.before.before.before.write-at.new.1.1.1.1.1.0 c.before.before.before.before.before.before.before.before.before.before.before.before.before.write-at.ensures.0 c.before.before.before.before.before.before.before.before.before.before.before.before.before.write-at.ensures.1 c.before.before.before.before.before.before.before.written2.given.0.0 c.before.before.before.before.before.before.before.written2.given.1 (lw.ahead_goes g d a.stores.now a.lines.now T a.i z.requires.0 a.s own a.plot a.value a.out.now _ c.before.before.before.before.before.before.before.before.before.before.before.before.before.before.before.before.before.before.before.before.before.next-of.ensures c.before.before.before.before.before.before.before.before.before.before.before.before.before.before.before.before.before.before.write-ahead.result (c.before.before.before.before.before.before.before.before.before.before.before.before.before.before.before.before.before.before.write-ahead.ensures a.out.now z.requires.1) c.before.before.before.before.before.before.before.before.before.before.before.before.before.before.before.before.enum-told2.given.1 (lw.code g d a.stores.now a.lines.now T a.i z.requires.0 a.s own a.plot a.value a.out.now _ c.before.before.before.before.before.before.before.before.before.before.before.before.before.before.before.before.before.before.before.before.before.next-of.ensures c.before.before.before.before.before.before.before.before.before.before.before.before.before.write-at.result.written c.before.before.before.before.before.before.before.before.before.before.before.before.before.write-at.result.entry c.before.before.before.before.before.before.before.before.before.before.before.before.before.write-at.new.0 c.before.before.before.before.before.before.before.before.before.before.before.before.before.write-at.new.1.1.1.1.1.0 c.before.before.before.before.before.before.before.before.before.before.before.before.before.write-at.ensures.0 c.before.before.before.before.before.before.before.before.before.before.before.before.before.write-at.ensures.1 c.before.before.before.before.before.before.before.written2.given.0.0 c.before.before.before.before.before.before.before.written2.given.1)) (desk ss c.before.before.before.deliver.result) _ (D.0 ss) D.1,
     )
 
 pub write-line-spec : {M : Type 1} → statement M

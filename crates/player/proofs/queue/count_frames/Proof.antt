@@ -1,7 +1,7 @@
 use Prim.Native.Nat.{ℕ, ◌+◌, ◌-◌, ◌≤◌}
 use mathlib.Core.Path.{◌∙◌, ◌≡◌, ap}
 use native.Mathlib.Omega.{arith}
-use Rattle.player.specs.Desks.{Cut, lengthAt, start_of}
+use Rattle.player.specs.Desks.{Cut, length_at, start_of}
 use Rattle.player.proofs.Cuts as cuts
 use borrow.Author.Rules.{rules}
 use Rattle.player.proofs.queue.count_frames.Statement.{statement}
@@ -30,11 +30,11 @@ loop-less c = search rules
 
 loop-again : tie.Need-loop-preserved invariant-loop decreases-loop
 loop-again c = let e : c.before.before.loop.at + c.length_at.result ≡ start_of c.before.before.before.before.args.row.now (c.before.before.loop.n + 1) =
-    omega (arith, c.before.before.loop.invariant.0, c.length_at.ensures ∙ ap (lengthAt c.before.before.before.before.args.row.now) c.before.before.loop.invariant.0, cuts.start-more c.before.before.before.before.args.row.now c.before.before.loop.n) in
-    (e, omega (arith, c.length_at.ensures), omega (arith, c.length_at.ensures), λ m k. cuts.count-goes c.before.before.before.before.args.row.now c.before.before.before.before.args.words m c.before.before.loop.n k (omega (arith, c.before.before.loop.invariant.0)) (c.before.before.loop.invariant.3 m k))
+    omega (arith, c.before.before.loop.invariant.0, c.length_at.ensures ∙ ap (length_at c.before.before.before.before.args.row.now) c.before.before.loop.invariant.0, cuts.start_more c.before.before.before.before.args.row.now c.before.before.loop.n) in
+    (e, omega (arith, c.length_at.ensures), omega (arith, c.length_at.ensures), λ m k. cuts.count_goes c.before.before.before.before.args.row.now c.before.before.before.before.args.words m c.before.before.loop.n k (omega (arith, c.before.before.loop.invariant.0)) (c.before.before.loop.invariant.3 m k))
 
 returns : tie.Need-returns invariant-loop decreases-loop
-returns c = λ m k. cuts.count-ends c.before.before.before.args.row.now c.before.before.before.args.words m c.before.loop.n k (omega (arith, c.before.loop.invariant.0)) (c.before.loop.invariant.3 m k)
+returns c = λ m k. cuts.count_ends c.before.before.before.args.row.now c.before.before.before.args.words m c.before.loop.n k (omega (arith, c.before.loop.invariant.0)) (c.before.loop.invariant.3 m k)
 
 pub count-frames-spec : {M : Type 1} → statement M
 count-frames-spec =

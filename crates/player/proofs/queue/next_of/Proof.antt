@@ -1,4 +1,4 @@
-use Rattle.ring.proofs.Fit.{next-step, next-wrap}
+use Rattle.ring.proofs.Fit.{next_step, next_wrap}
 use mathlib.Core.Path.{◌∙◌, sym}
 use native.Mathlib.Omega.{arith}
 use native.Mathlib.Numerals.{add-one}
@@ -13,10 +13,10 @@ add-result : tie.Need-overflow-add-result
 add-result c = search rules
 
 returns : tie.Need-returns
-returns c = let o = c.before.args.office in add-one o ∙ sym (next-step 3 o (omega arith))
+returns c = let o = c.before.args.office in add-one o ∙ sym (next_step 3 o (omega arith))
 
 returns-2 : tie.Need-returns-2
-returns-2 c = let o = c.before.args.office in sym (next-wrap 3 o (omega (arith, c.before.requires)))
+returns-2 c = let o = c.before.args.office in sym (next_wrap 3 o (omega (arith, c.before.requires)))
 
 pub next-of-spec : {M : Type 1} → statement M
 next-of-spec = tie.close (tie.spec add-if1 add-result returns returns-2)

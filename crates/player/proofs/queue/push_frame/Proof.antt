@@ -25,7 +25,7 @@ same_length : tie.Need-same-length
 same_length c = c.before.before.copy-words.auto.1.1.0 ∙ simp length-set
 
 returns : tie.Need-returns
-returns c = c.before.before.copy-words.ensures ∙ cuts.push-one c.before.before.before.before.before.before.args.lines.now c.before.before.before.before.before.before.args.row.now c.before.before.before.before.before.before.args.slot c.before.before.before.before.before.before.args.at c.before.before.before.before.before.before.args.len c.before.before.before.before.before.before.requires.2
+returns c = c.before.before.copy-words.ensures ∙ cuts.push_one c.before.before.before.before.before.before.args.lines.now c.before.before.before.before.before.before.args.row.now c.before.before.before.before.before.before.args.slot c.before.before.before.before.before.before.args.at c.before.before.before.before.before.before.args.len c.before.before.before.before.before.before.requires.2
 
 pub push-frame-spec : {M : Type 1} → statement M
 push-frame-spec =

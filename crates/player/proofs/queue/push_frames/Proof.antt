@@ -5,7 +5,7 @@ use native.Mathlib.Omega.{arith}
 use lib.ListN.{length}
 use lib.Seq.{sets}
 use Rattle.causal.specs.Lists.{part}
-use Rattle.player.specs.Desks.{frameLen, lengthAt, pushed, slot_at, start_of}
+use Rattle.player.specs.Desks.{frame_len, length_at, pushed, slot_at, start_of}
 use Rattle.player.proofs.Cuts as cuts
 use borrow.Author.Rules.{rules}
 use Rattle.player.proofs.queue.push_frames.Statement.{statement}
@@ -21,7 +21,7 @@ loop-holds : tie.Need-loop-init invariant-loop decreases-loop
 loop-holds c = (omega arith, cuts.start_none _, omega arith, cuts.pushed_none _ _ _ _)
 
 length-at-requires : tie.Need-length-at-requires invariant-loop decreases-loop
-length-at-requires c κs = omega (arith, c.before.loop.invariant.1, cuts.start-next c.before.before.before.before.args.row.now c.before.loop.k c.before.before.before.before.args.n c.loop-test.true, c.before.before.before.before.requires.4)
+length-at-requires c κs = omega (arith, c.before.loop.invariant.1, cuts.start_next c.before.before.before.before.args.row.now c.before.loop.k c.before.before.before.before.args.n c.loop-test.true, c.before.before.before.before.requires.4)
 
 mul-slot : tie.Need-overflow-mul-slot invariant-loop decreases-loop
 mul-slot c = search rules
@@ -38,14 +38,14 @@ mul-slot-2 c = search rules
 push-frame-requires : tie.Need-push-frame-requires invariant-loop decreases-loop
 push-frame-requires c κs = let L = c.before.before.before.loop in
     let z = c.before.before.before.before.before.before in
-    let e : c.before.length_at.result ≡ frameLen z.args.row.now L.k = c.before.length_at.ensures ∙ ap (lengthAt z.args.row.now) L.invariant.1 in
-    (omega (arith, z.requires.5 L.k c.before.before.loop-test.true), omega (arith, L.invariant.2, z.requires.0), omega (arith, L.invariant.1, cuts.start-next z.args.row.now L.k z.args.n c.before.before.loop-test.true, z.requires.4))
+    let e : c.before.length_at.result ≡ frame_len z.args.row.now L.k = c.before.length_at.ensures ∙ ap (length_at z.args.row.now) L.invariant.1 in
+    (omega (arith, z.requires.5 L.k c.before.before.loop-test.true), omega (arith, L.invariant.2, z.requires.0), omega (arith, L.invariant.1, cuts.start_next z.args.row.now L.k z.args.n c.before.before.loop-test.true, z.requires.4))
 
 add_at : tie.Need-overflow-add-at invariant-loop decreases-loop
 add_at c = let L = c.before.before.before.before.before.before.loop in
     let z = c.before.before.before.before.before.before.before.before.before in
-    let e : c.before.before.before.before.length_at.result ≡ frameLen z.args.row.now L.k = c.before.before.before.before.length_at.ensures ∙ ap (lengthAt z.args.row.now) L.invariant.1 in
-    omega (arith, z.well-formed, L.invariant.1, cuts.start-next z.args.row.now L.k z.args.n c.before.before.before.before.before.loop-test.true, z.requires.4)
+    let e : c.before.before.before.before.length_at.result ≡ frame_len z.args.row.now L.k = c.before.before.before.before.length_at.ensures ∙ ap (length_at z.args.row.now) L.invariant.1 in
+    omega (arith, z.well-formed, L.invariant.1, cuts.start_next z.args.row.now L.k z.args.n c.before.before.before.before.before.loop-test.true, z.requires.4)
 
 add-k : tie.Need-overflow-add-k invariant-loop decreases-loop
 add-k c = search rules
@@ -56,9 +56,9 @@ loop-less c = search rules
 loop-again : tie.Need-loop-preserved invariant-loop decreases-loop
 loop-again c = let L = c.before.before.before.before.before.before.loop in
     let z = c.before.before.before.before.before.before.before.before.before in
-    let e : c.before.before.before.before.length_at.result ≡ frameLen z.args.row.now L.k = c.before.before.before.before.length_at.ensures ∙ ap (lengthAt z.args.row.now) L.invariant.1 in (
+    let e : c.before.before.before.before.length_at.result ≡ frame_len z.args.row.now L.k = c.before.before.before.before.length_at.ensures ∙ ap (length_at z.args.row.now) L.invariant.1 in (
       omega arith,
-      omega (arith, L.invariant.1, cuts.start-more z.args.row.now L.k),
+      omega (arith, L.invariant.1, cuts.start_more z.args.row.now L.k),
       c.before.before.push-frame.auto.0 ∙ L.invariant.2,
       c.before.before.push-frame.ensures ∙ (λ i. sets (L.invariant.3 i) (slot_at z.args.office ((z.args.q + L.k) % 32)) (e i ∷ part z.args.row.now (L.invariant.1 i) (e i))) ∙ cuts.pushed_more z.args.lines.now z.args.office z.args.q z.args.row.now L.k,
     )

@@ -2,7 +2,7 @@ use native.Mathlib.Omega.{arith}
 use mathlib.Core.Path.{◌≡◌, refl, ap, ◌∙◌}
 use Prim.Native.Nat.{ℕ, ◌+◌, ◌-◌, ◌*◌, ◌≤◌}
 use lib.ListN.{length}
-use Rattle.reading.specs.Readings.{foundAmong, words_to}
+use Rattle.reading.specs.Readings.{found_among, words_to}
 use Rattle.reading.proofs.JointReads.{words_more}
 use lib.Seq.{sets}
 use borrow.Author.Rules.{rules}
@@ -10,7 +10,7 @@ use Rattle.reading.proofs.answer.put_alone.Statement.{statement}
 use Rattle.reading.proofs.answer.put_alone.Tie as tie
 
 abbrev invariant-loop : tie.invariant-loop
-invariant-loop store n answer₀ places i₀ answer i = (i ≤ n) × (length answer ≡ length answer₀) × (answer ≡ sets answer₀ 0 (words_to (foundAmong store places) i))
+invariant-loop store n answer₀ places i₀ answer i = (i ≤ n) × (length answer ≡ length answer₀) × (answer ≡ sets answer₀ 0 (words_to (found_among store places) i))
 
 abbrev decreases-loop : tie.decreases-loop
 decreases-loop store n answer₀ places i₀ answer i = n - i
@@ -41,10 +41,10 @@ loop-less : tie.Need-loop-smaller invariant-loop decreases-loop
 loop-less c = search rules
 
 loop-again : tie.Need-loop-preserved invariant-loop decreases-loop
-unfolding foundAmong
+unfolding found_among
 loop-again c = let l = c.before.before.before.before.before in
     let z = c.before.before.before.before.before.before.before.before in
-    (omega arith, c.before.before.put-current.auto.1.1.0 ∙ l.loop.invariant.1, words_more (foundAmong z.args.store.now z.args.t2) _ _ _ l.loop.i l.loop.invariant.2 c.before.before.put-current.ensures)
+    (omega arith, c.before.before.put-current.auto.1.1.0 ∙ l.loop.invariant.1, words_more (found_among z.args.store.now z.args.t2) _ _ _ l.loop.i l.loop.invariant.2 c.before.before.put-current.ensures)
 
 same_length : tie.Need-same-length invariant-loop decreases-loop
 same_length c = search rules
@@ -53,7 +53,7 @@ returns : tie.Need-returns invariant-loop decreases-loop
 returns c = let l = c.before in
     let z = c.before.before.before.before in
     let q : l.loop.i ≡ z.args.n = omega arith in
-    l.loop.invariant.2 ∙ ap (λ (i : ℕ). sets z.args.answer.now 0 (words_to (foundAmong z.args.store.now z.args.t2) i)) q
+    l.loop.invariant.2 ∙ ap (λ (i : ℕ). sets z.args.answer.now 0 (words_to (found_among z.args.store.now z.args.t2) i)) q
 
 pub put-alone-spec : {M : Type 1} → statement M
 put-alone-spec =

@@ -1,4 +1,4 @@
-use Rattle.reading.proofs.JointReads.{words-alone}
+use Rattle.reading.proofs.JointReads.{words_alone}
 use borrow.Author.Rules.{rules}
 use Rattle.reading.proofs.answer.put_answers.Statement.{statement}
 use Rattle.reading.proofs.answer.put_answers.Tie as tie
@@ -10,7 +10,7 @@ same_length : tie.Need-same-length
 same_length c = search rules
 
 returns : tie.Need-returns
-returns c = words-alone _ _ _ _ _ _ _ _ c.before.before.before.before.if1.true c.before.before.put_alone.ensures
+returns c = words_alone _ _ _ _ _ _ _ _ c.before.before.before.before.if1.true c.before.before.put_alone.ensures
 
 put-handed-requires : tie.Need-put-handed-requires
 put-handed-requires c κs = search rules

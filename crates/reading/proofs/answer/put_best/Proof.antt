@@ -1,5 +1,5 @@
 use borrow.Author.Tests.{not-true, not-false}
-use Rattle.reading.proofs.JointReads.{best_none, best-some}
+use Rattle.reading.proofs.JointReads.{best_none, best_some}
 use borrow.Author.Rules.{rules}
 use Rattle.reading.proofs.answer.put_best.Statement.{statement}
 use Rattle.reading.proofs.answer.put_best.Tie as tie
@@ -26,7 +26,7 @@ same-length-2 : tie.Need-same-length-2
 same-length-2 c = search rules
 
 returns-2 : tie.Need-returns-2
-returns-2 c = best-some _ _ _ _ (not-false _ c.before.before.before.before.before.before.before.if1.false) c.before.before.put-three2.ensures
+returns-2 c = best_some _ _ _ _ (not-false _ c.before.before.before.before.before.before.before.if1.false) c.before.before.put-three2.ensures
 
 pub put-best-spec : {M : Type 1} → statement M
 put-best-spec =

@@ -1,5 +1,5 @@
 use native.Mathlib.Omega.{arith}
-use Rattle.reading.proofs.JointReads.{three-none, three-some}
+use Rattle.reading.proofs.JointReads.{three_none, three_some}
 use borrow.Author.Rules.{rules}
 use Rattle.reading.proofs.answer.put_current.Statement.{statement}
 use Rattle.reading.proofs.answer.put_current.Tie as tie
@@ -11,7 +11,7 @@ same_length : tie.Need-same-length
 same_length c = search rules
 
 returns : tie.Need-returns
-returns c = three-none _ _ _ _ _ c.before.before.before.before.if1.true c.before.before.put_three.ensures
+returns c = three_none _ _ _ _ _ c.before.before.before.before.if1.true c.before.before.put_three.ensures
 
 mul-name : tie.Need-overflow-mul-name
 mul-name c = search rules
@@ -47,7 +47,7 @@ same-length-2 : tie.Need-same-length-2
 same-length-2 c = search rules
 
 returns-2 : tie.Need-returns-2
-returns-2 c = three-some _ _ _ _ _ c.before.before.before.before.before.if1.false c.before.before.put-three2.ensures
+returns-2 c = three_some _ _ _ _ _ c.before.before.before.before.before.if1.false c.before.before.put-three2.ensures
 
 pub put-current-spec : {M : Type 1} → statement M
 put-current-spec =

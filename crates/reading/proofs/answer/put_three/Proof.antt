@@ -1,7 +1,7 @@
 use Prim.Native.Nat.{◌+◌}
 use lib.ListN.{set, length-set}
 use native.Mathlib.Omega.{arith}
-use Rattle.reading.proofs.JointReads.{three-sets}
+use Rattle.reading.proofs.JointReads.{three_sets}
 use borrow.Author.Rules.{rules}
 use Rattle.reading.proofs.answer.put_three.Statement.{statement}
 use Rattle.reading.proofs.answer.put_three.Tie as tie
@@ -36,7 +36,7 @@ same_length : tie.Need-same-length
 same_length c = search rules
 
 returns : tie.Need-returns
-returns c = three-sets c.args.answer.now c.args.at c.args.known c.args.value c.args.name
+returns c = three_sets c.args.answer.now c.args.at c.args.known c.args.value c.args.name
 
 pub put-three-spec : {M : Type 1} → statement M
 put-three-spec =

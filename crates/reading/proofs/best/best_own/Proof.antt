@@ -1,21 +1,21 @@
 use mathlib.Core.Logic.{⊎_elim}
-use Rattle.reading.proofs.Readings.{best-skip, best-more}
+use Rattle.reading.proofs.Readings.{best_skip, best_more}
 use native.Mathlib.Omega.{arith}
 use mathlib.Core.Path.{◌≡◌, refl, ap, ◌∙◌}
 use Prim.Native.Nat.{◌-◌, ◌≤◌}
-use Rattle.reading.specs.Readings.{bestTo}
+use Rattle.reading.specs.Readings.{best_to}
 use borrow.Author.Rules.{rules}
 use Rattle.reading.proofs.best.best_own.Statement.{statement}
 use Rattle.reading.proofs.best.best_own.Tie as tie
 
 abbrev invariant-loop : tie.invariant-loop
-invariant-loop count plot own best₀ i₀ best i = (i ≤ count) × (best ≡ bestTo own plot best₀ i)
+invariant-loop count plot own best₀ i₀ best i = (i ≤ count) × (best ≡ best_to own plot best₀ i)
 
 abbrev decreases-loop : tie.decreases-loop
 decreases-loop count plot own best₀ i₀ best i = count - i
 
 loop-holds : tie.Need-loop-init invariant-loop decreases-loop
-unfolding bestTo
+unfolding best_to
 loop-holds c = (omega arith, refl)
 
 mul-if1 : tie.Need-overflow-mul-if1 invariant-loop decreases-loop
@@ -42,13 +42,13 @@ loop-less c = search rules
 loop-again : tie.Need-loop-preserved invariant-loop decreases-loop
 loop-again c = let l = c.before.before in
     let z = l.before in
-    (omega arith, ⊎_elim (λ w. w.3 ∙ best-more z.args.t1 z.args.plot z.args.first l.loop.i _ _ l.loop.invariant.1 w.0.taken w.2.ensures) (λ w. w.1 ∙ best-skip z.args.t1 z.args.plot z.args.first l.loop.i _ l.loop.invariant.1 w.0.left) c.if1.branch)
+    (omega arith, ⊎_elim (λ w. w.3 ∙ best_more z.args.t1 z.args.plot z.args.first l.loop.i _ _ l.loop.invariant.1 w.0.taken w.2.ensures) (λ w. w.1 ∙ best_skip z.args.t1 z.args.plot z.args.first l.loop.i _ l.loop.invariant.1 w.0.left) c.if1.branch)
 
 returns : tie.Need-returns invariant-loop decreases-loop
 returns c = let l = c.before in
     let z = l.before in
     let q : l.loop.i ≡ z.args.count = omega arith in
-    l.loop.invariant.1 ∙ ap (bestTo z.args.t1 z.args.plot z.args.first) q
+    l.loop.invariant.1 ∙ ap (best_to z.args.t1 z.args.plot z.args.first) q
 
 pub best-own-spec : {M : Type 1} → statement M
 best-own-spec =

@@ -1,8 +1,8 @@
 use native.Mathlib.Omega.{arith}
 use mathlib.Core.Path.{sym, ◌∙◌}
 use Rattle.causal.proofs.Codes.{codes}
-use Rattle.reading.specs.Readings.{jointRefusal}
-use Rattle.office.proofs.Numbers.{start-facts}
+use Rattle.reading.specs.Readings.{joint_refusal}
+use Rattle.office.proofs.Numbers.{start_facts}
 use Rattle.store.proofs.Rules.{laid}
 use borrow.Author.Rules.{rules}
 use Rattle.reading.proofs.joint.alone_code.Statement.{statement}
@@ -15,35 +15,35 @@ alone-code-requires : tie.Need-alone-code-requires
 alone-code-requires c κs = c.is-sound.ensures
 
 returns : tie.Need-returns
-unfolding jointRefusal
+unfolding joint_refusal
 returns c = search (codes, arith) depth 9
 
 shared-slice-read-plots-ok : tie.Need-shared-slice-read-plots-ok
-shared-slice-read-plots-ok c = omega (arith, (laid c.before.before.before.before.before.before.args.store.now (start-facts _ _ (sym c.before.before.alone-code.ensures ∙ c.before.if1.false)).0).long)
+shared-slice-read-plots-ok c = omega (arith, (laid c.before.before.before.before.before.before.args.store.now (start_facts _ _ (sym c.before.before.alone-code.ensures ∙ c.before.if1.false)).0).long)
 
 plots-ok-requires : tie.Need-plots-ok-requires
 plots-ok-requires c κs = search rules
 
 returns-2 : tie.Need-returns-2
-unfolding jointRefusal
+unfolding joint_refusal
 returns-2 c = search (codes, arith) depth 9
 
 mul-if3 : tie.Need-overflow-mul-if3
 mul-if3 c = search rules
 
 returns-3 : tie.Need-returns-3
-unfolding jointRefusal
+unfolding joint_refusal
 returns-3 c = search (codes, arith) depth 9
 
 held-all-requires : tie.Need-held-all-requires
-held-all-requires c κs = (start-facts _ _ (sym c.before.before.before.before.before.alone-code.ensures ∙ c.before.before.before.before.if1.false)).0
+held-all-requires c κs = (start_facts _ _ (sym c.before.before.before.before.before.alone-code.ensures ∙ c.before.before.before.before.if1.false)).0
 
 returns-4 : tie.Need-returns-4
-unfolding jointRefusal
+unfolding joint_refusal
 returns-4 c = search (codes, arith) depth 9
 
 returns-5 : tie.Need-returns-5
-unfolding jointRefusal
+unfolding joint_refusal
 returns-5 c = search (codes, arith) depth 9
 
 pub alone-code-spec : {M : Type 1} → statement M

@@ -1,10 +1,10 @@
 use native.Mathlib.Omega.{arith}
 use mathlib.Core.Path.{sym, ◌∙◌}
 use Rattle.causal.proofs.Codes.{codes}
-use Rattle.reading.specs.Readings.{jointRefusal}
-use Rattle.office.proofs.Numbers.{start-facts}
+use Rattle.reading.specs.Readings.{joint_refusal}
+use Rattle.office.proofs.Numbers.{start_facts}
 use Rattle.store.proofs.Rules.{laid}
-use Rattle.frame.specs.Sessions.{contentOf}
+use Rattle.frame.specs.Sessions.{content_of}
 use borrow.Author.Rules.{rules}
 use Rattle.reading.proofs.joint.joint_code.Statement.{statement}
 use Rattle.reading.proofs.joint.joint_code.Tie as tie
@@ -19,40 +19,40 @@ start-of-requires : tie.Need-start-of-requires
 start-of-requires c κs = c.alone-code.ensures
 
 returns : tie.Need-returns
-unfolding jointRefusal contentOf
+unfolding joint_refusal content_of
 returns c = search (codes, arith) depth 9
 
 shared-slice-read-plots-ok : tie.Need-shared-slice-read-plots-ok
 shared-slice-read-plots-ok c =
     let a = c.before.before.before.before in
     let z = a.before.before.before.before.before.before.before in
-    omega (arith, (laid z.args.store.now (start-facts _ _ (sym a.start_of_lem.ensures.0 ∙ c.before.if1.false)).0).long)
+    omega (arith, (laid z.args.store.now (start_facts _ _ (sym a.start_of_lem.ensures.0 ∙ c.before.if1.false)).0).long)
 
 plots-ok-requires : tie.Need-plots-ok-requires
 plots-ok-requires c κs = search rules
 
 returns-2 : tie.Need-returns-2
-unfolding jointRefusal contentOf
+unfolding joint_refusal content_of
 returns-2 c = (search (codes, arith) depth 9, λ h. absurd (omega (arith, h)))
 
 mul-if3 : tie.Need-overflow-mul-if3
 mul-if3 c = search rules
 
 returns-3 : tie.Need-returns-3
-unfolding jointRefusal contentOf
+unfolding joint_refusal content_of
 returns-3 c = (search (codes, arith) depth 9, λ h. absurd (omega (arith, h)))
 
 held-all-requires : tie.Need-held-all-requires
 held-all-requires c κs =
     let t = c.before.before.before.before in
-    (start-facts _ _ (sym t.before.before.before.start_of_lem.ensures.0 ∙ t.if1.false)).0
+    (start_facts _ _ (sym t.before.before.before.start_of_lem.ensures.0 ∙ t.if1.false)).0
 
 returns-4 : tie.Need-returns-4
-unfolding jointRefusal contentOf
+unfolding joint_refusal content_of
 returns-4 c = (search (codes, arith) depth 9, λ h. absurd (omega (arith, h)))
 
 returns-5 : tie.Need-returns-5
-unfolding jointRefusal contentOf
+unfolding joint_refusal content_of
 returns-5 c =
     let t = c.before.before.before.before.before.before in
     (search (codes, arith) depth 9, λ h. t.before.before.before.start_of_lem.ensures.1 t.if1.false)

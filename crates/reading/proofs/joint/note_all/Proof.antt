@@ -1,20 +1,20 @@
 use native.Mathlib.Omega.{arith}
 use mathlib.Core.Path.{◌≡◌, refl, ap, ◌∙◌}
 use Prim.Native.Nat.{ℕ, ◌-◌, ◌≤◌}
-use Rattle.reading.specs.Readings.{foundAmong, seenTo}
+use Rattle.reading.specs.Readings.{found_among, seen_to}
 use Rattle.reading.proofs.JointReads.{seen_more}
 use borrow.Author.Rules.{rules}
 use Rattle.reading.proofs.joint.note_all.Statement.{statement}
 use Rattle.reading.proofs.joint.note_all.Tie as tie
 
 abbrev invariant-loop : tie.invariant-loop
-invariant-loop store n places seen₀ i₀ seen i = (i ≤ n) × (seen ≡ seenTo (foundAmong store places) i seen₀)
+invariant-loop store n places seen₀ i₀ seen i = (i ≤ n) × (seen ≡ seen_to (found_among store places) i seen₀)
 
 abbrev decreases-loop : tie.decreases-loop
 decreases-loop store n places seen₀ i₀ seen i = n - i
 
 loop-holds : tie.Need-loop-init invariant-loop decreases-loop
-unfolding seenTo
+unfolding seen_to
 loop-holds c = (omega arith, refl)
 
 mul-note : tie.Need-overflow-mul-note invariant-loop decreases-loop
@@ -33,17 +33,17 @@ loop-less : tie.Need-loop-smaller invariant-loop decreases-loop
 loop-less c = search rules
 
 loop-again : tie.Need-loop-preserved invariant-loop decreases-loop
-unfolding foundAmong
+unfolding found_among
 loop-again c = let l = c.before.before in
     let z = l.before.before in
-    (omega arith, seen_more (foundAmong z.args.store.now z.args.t2) _ _ _ l.loop.i l.loop.invariant.1 c.note.ensures)
+    (omega arith, seen_more (found_among z.args.store.now z.args.t2) _ _ _ l.loop.i l.loop.invariant.1 c.note.ensures)
 
 returns : tie.Need-returns invariant-loop decreases-loop
 returns c =
     let l = c.before in
     let z = l.before.before in
     let q : l.loop.i ≡ z.args.n = omega arith in
-    l.loop.invariant.1 ∙ ap (λ (i : ℕ). seenTo (foundAmong z.args.store.now z.args.t2) i z.args.first) q
+    l.loop.invariant.1 ∙ ap (λ (i : ℕ). seen_to (found_among z.args.store.now z.args.t2) i z.args.first) q
 
 pub note-all-spec : {M : Type 1} → statement M
 note-all-spec =

@@ -2,9 +2,9 @@ use native.Mathlib.Omega.{arith}
 use mathlib.Core.Path.{◌≡◌, refl, ap, ◌∙◌}
 use Prim.Native.Nat.{◌-◌, ◌≤◌}
 use lib.ListN.{length, length-set}
-use Rattle.office.specs.Decide.{placeNumber}
+use Rattle.office.specs.Decide.{place_number}
 use Rattle.reading.specs.Readings.{PlacesTo}
-use Rattle.reading.proofs.JointReads.{places-more}
+use Rattle.reading.proofs.JointReads.{places_more}
 use borrow.Author.Rules.{rules}
 use Rattle.reading.proofs.joint.places_of.Statement.{statement}
 use Rattle.reading.proofs.joint.places_of.Tie as tie
@@ -45,7 +45,7 @@ loop-less c = search rules
 loop-again : tie.Need-loop-preserved invariant-loop decreases-loop
 loop-again c = let l = c.before.before.before.before in
     let z = l.before.before.before in
-    (omega arith, length-set l.loop.places l.loop.i _ ∙ l.loop.invariant.1, places-more z.args.store.now z.args.visible z.args.plots.now l.loop.places l.loop.i _ (omega arith) l.loop.invariant.2 (c.place-number.ensures ∙ ap placeNumber c.before.current.ensures))
+    (omega arith, length-set l.loop.places l.loop.i _ ∙ l.loop.invariant.1, places_more z.args.store.now z.args.visible z.args.plots.now l.loop.places l.loop.i _ (omega arith) l.loop.invariant.2 (c.place-number.ensures ∙ ap place_number c.before.current.ensures))
 
 returns : tie.Need-returns invariant-loop decreases-loop
 returns c = λ j l. c.before.loop.invariant.2 j (omega arith)

@@ -4,15 +4,15 @@ use mathlib.Core.Path.{ap, refl, sym, ◌∙◌}
 use mathlib.Core.List.{[]}
 use lib.ListN.{length, get_or}
 use Rattle.causal.specs.Lists.{tab}
-use Rattle.causal.proofs.Array.{id-set}
+use Rattle.causal.proofs.Array.{id_set}
 use Rattle.frame.specs.declared.refusal.Status.TheVariants.{Accepted}
 use Rattle.frame.specs.Refusals.{code_of}
-use Rattle.frame.specs.Sessions.{contentOf}
+use Rattle.frame.specs.Sessions.{content_of}
 use Rattle.store.proofs.Rules.{laid}
-use Rattle.store.proofs.SoundChanges.{reveal-held}
-use Rattle.office.specs.Decide.{alone, withSeen}
-use Rattle.office.proofs.Numbers.{with-own}
-use Rattle.reading.proofs.JointReads.{joint-accepted, joint-refused, joint-small, left_alone, show-sighted, sighted, stands-alone, starts}
+use Rattle.store.proofs.SoundChanges.{reveal_held}
+use Rattle.office.specs.Decide.{alone, with_seen}
+use Rattle.office.proofs.Numbers.{with_own}
+use Rattle.reading.proofs.JointReads.{joint_accepted, joint_refused, joint_small, left_alone, show_sighted, sighted, stands_alone, starts}
 use borrow.Author.Rules.{rules}
 use Rattle.reading.proofs.joint.see_joint_alone.Statement.{statement}
 use Rattle.reading.proofs.joint.see_joint_alone.Tie as tie
@@ -24,16 +24,16 @@ alone-code-requires : tie.Need-alone-code-requires
 alone-code-requires c κs = search rules
 
 unseen-requires : tie.Need-unseen-requires
-unfolding contentOf tab
+unfolding content_of tab
 unseen-requires c κs =
     let k = c.before in
-    rw k.alone-code.ensures (joint-small _ _ _ _)
+    rw k.alone-code.ensures (joint_small _ _ _ _)
 
 same_length : tie.Need-same-length
 same_length c = search rules
 
 returns : tie.Need-returns
-unfolding contentOf tab
+unfolding content_of tab
 returns c =
     let k = c.before.before in
     let z = k.before.before.before.before.before in
@@ -42,10 +42,10 @@ returns c =
     let row = z.args.answer.now in
     λ own.
     let s = alone z.args.offices z.args.clock z.args.read own in
-    joint-refused ws s plots row _ _ _ k.alone-code.ensures c.before.if1.true c.unseen.ensures.0 (ap (withSeen s) c.unseen.ensures.1 ∙ with-own s)
+    joint_refused ws s plots row _ _ _ k.alone-code.ensures c.before.if1.true c.unseen.ensures.0 (ap (with_seen s) c.unseen.ensures.1 ∙ with_own s)
 
 revealed-by-requires : tie.Need-revealed-by-requires
-unfolding contentOf tab
+unfolding content_of tab
 revealed-by-requires c κs =
     let t = c.before in
     let k = t.before in
@@ -58,7 +58,7 @@ revealed-by-requires c κs =
     (q.sound, q.held)
 
 places-of-requires : tie.Need-places-of-requires
-unfolding contentOf tab
+unfolding content_of tab
 places-of-requires c κs =
     let r = c.before.before in
     let t = r.before.before in
@@ -69,12 +69,12 @@ places-of-requires c κs =
     let row = z.args.answer.now in
     let s = alone z.args.offices z.args.clock z.args.read [] in
     let q = starts ws s plots (length row) (sym k.alone-code.ensures ∙ t.if1.false) in
-    let ids = id-set z.args.read z.well-formed.1.1.1.0 in
+    let ids = id_set z.args.read z.well-formed.1.1.1.0 in
     let fit : (i : ℕ) → get_or ws i 0 < 2 ^ 32 = λ i. (k.before.before.before.before.slice-known.given i).fits in
-    (q.sound, reveal-held ws fit q.sound s.read ids q.held r.revealed-by.result r.revealed-by.ensures, q.short)
+    (q.sound, reveal_held ws fit q.sound s.read ids q.held r.revealed-by.result r.revealed-by.ensures, q.short)
 
 put-alone-requires : tie.Need-put-alone-requires
-unfolding contentOf tab
+unfolding content_of tab
 put-alone-requires c κs =
     let p = c.before.before in
     let r = p.before.before.before in
@@ -86,13 +86,13 @@ put-alone-requires c κs =
     let row = z.args.answer.now in
     let s = alone z.args.offices z.args.clock z.args.read [] in
     let q = starts ws s plots (length row) (sym k.alone-code.ensures ∙ t.if1.false) in
-    let ids = id-set z.args.read z.well-formed.1.1.1.0 in
+    let ids = id_set z.args.read z.well-formed.1.1.1.0 in
     let fit : (i : ℕ) → get_or ws i 0 < 2 ^ 32 = λ i. (k.before.before.before.before.slice-known.given i).fits in
     let L = sighted ws fit q.sound s.read ids q.held r.revealed-by.result r.revealed-by.ensures plots p.places_of.result p.places_of.ensures in
     (q.short, q.room_for, L.reach)
 
 note-all-requires : tie.Need-note-all-requires
-unfolding contentOf tab
+unfolding content_of tab
 note-all-requires c κs =
     let a = c.before.before.before in
     let p = a.before.before.before in
@@ -105,13 +105,13 @@ note-all-requires c κs =
     let row = z.args.answer.now in
     let s = alone z.args.offices z.args.clock z.args.read [] in
     let q = starts ws s plots (length row) (sym k.alone-code.ensures ∙ t.if1.false) in
-    let ids = id-set z.args.read z.well-formed.1.1.1.0 in
+    let ids = id_set z.args.read z.well-formed.1.1.1.0 in
     let fit : (i : ℕ) → get_or ws i 0 < 2 ^ 32 = λ i. (k.before.before.before.before.slice-known.given i).fits in
     let L = sighted ws fit q.sound s.read ids q.held r.revealed-by.result r.revealed-by.ensures plots p.places_of.result p.places_of.ensures in
     (q.short, L.reach)
 
 show-requires : tie.Need-show-requires
-unfolding contentOf tab
+unfolding content_of tab
 show-requires c κs =
     let a = c.before.before.before.before.before in
     let p = a.before.before.before in
@@ -133,7 +133,7 @@ same-length-3 : tie.Need-same-length-3
 same-length-3 c = search rules
 
 returns-2 : tie.Need-returns-2
-unfolding code_of contentOf tab
+unfolding code_of content_of tab
 returns-2 c =
     let n = c.before.before.before.before in
     let a = n.before.before.before.before in
@@ -148,13 +148,13 @@ returns-2 c =
     let s = alone z.args.offices z.args.clock z.args.read [] in
     let none = sym k.alone-code.ensures ∙ t.if1.false in
     let q = starts ws s plots (length row) none in
-    let ids = id-set z.args.read z.well-formed.1.1.1.0 in
+    let ids = id_set z.args.read z.well-formed.1.1.1.0 in
     let fit : (i : ℕ) → get_or ws i 0 < 2 ^ 32 = λ i. (k.before.before.before.before.slice-known.given i).fits in
     let L = sighted ws fit q.sound s.read ids q.held r.revealed-by.result r.revealed-by.ensures plots p.places_of.result p.places_of.ensures in
-    let left = c.before.before.show.ensures ∙ show-sighted ws fit q.sound s.read ids q.held plots _ _ L in
+    let left = c.before.before.show.ensures ∙ show_sighted ws fit q.sound s.read ids q.held plots _ _ L in
     λ own.
     let s = alone z.args.offices z.args.clock z.args.read own in
-    joint-accepted ws s plots row _ _ _ Accepted _ _ _ none L (stands-alone ws s plots _ _ L refl) refl (left_alone ws s plots _ _ L refl _ n.note-all.ensures) left a.put_alone.ensures
+    joint_accepted ws s plots row _ _ _ Accepted _ _ _ none L (stands_alone ws s plots _ _ L refl) refl (left_alone ws s plots _ _ L refl _ n.note-all.ensures) left a.put_alone.ensures
 
 pub see-joint-alone-spec : {M : Type 1} → statement M
 see-joint-alone-spec =

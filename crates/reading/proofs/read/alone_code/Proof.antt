@@ -1,8 +1,8 @@
-use Rattle.office.proofs.Numbers.{start-facts}
+use Rattle.office.proofs.Numbers.{start_facts}
 use native.Mathlib.Omega.{arith}
 use mathlib.Core.Path.{sym, ◌∙◌}
 use Rattle.causal.proofs.Codes.{codes}
-use Rattle.reading.specs.Readings.{readRefusal}
+use Rattle.reading.specs.Readings.{read_refusal}
 use Rattle.store.proofs.Rules.{laid}
 use borrow.Author.Rules.{rules}
 use Rattle.reading.proofs.read.alone_code.Statement.{statement}
@@ -15,25 +15,25 @@ alone-code-requires : tie.Need-alone-code-requires
 alone-code-requires c κs = c.is-sound.ensures
 
 returns : tie.Need-returns
-unfolding readRefusal
+unfolding read_refusal
 returns c = search (codes, arith) depth 9
 
 shared-slice-read-if2 : tie.Need-shared-slice-read-if2
-shared-slice-read-if2 c = omega (arith, (laid c.before.before.before.before.before.args.store.now (start-facts _ _ (sym c.before.before.alone-code.ensures ∙ c.before.if1.false)).0).long)
+shared-slice-read-if2 c = omega (arith, (laid c.before.before.before.before.before.args.store.now (start_facts _ _ (sym c.before.before.alone-code.ensures ∙ c.before.if1.false)).0).long)
 
 returns-2 : tie.Need-returns-2
-unfolding readRefusal
+unfolding read_refusal
 returns-2 c = search (codes, arith) depth 9
 
 held-all-requires : tie.Need-held-all-requires
-held-all-requires c κs = (start-facts _ _ (sym c.before.before.before.alone-code.ensures ∙ c.before.before.if1.false)).0
+held-all-requires c κs = (start_facts _ _ (sym c.before.before.before.alone-code.ensures ∙ c.before.before.if1.false)).0
 
 returns-3 : tie.Need-returns-3
-unfolding readRefusal
+unfolding read_refusal
 returns-3 c = search (codes, arith) depth 9
 
 returns-4 : tie.Need-returns-4
-unfolding readRefusal
+unfolding read_refusal
 returns-4 c = search (codes, arith) depth 9
 
 pub alone-code-spec : {M : Type 1} → statement M

@@ -1,10 +1,10 @@
-use Rattle.office.proofs.Numbers.{start-facts}
+use Rattle.office.proofs.Numbers.{start_facts}
 use native.Mathlib.Omega.{arith}
 use mathlib.Core.Path.{sym, ◌∙◌}
 use Rattle.causal.proofs.Codes.{codes}
-use Rattle.reading.specs.Readings.{readRefusal}
+use Rattle.reading.specs.Readings.{read_refusal}
 use Rattle.store.proofs.Rules.{laid}
-use Rattle.frame.specs.Sessions.{contentOf}
+use Rattle.frame.specs.Sessions.{content_of}
 use borrow.Author.Rules.{rules}
 use Rattle.reading.proofs.read.read_code.Statement.{statement}
 use Rattle.reading.proofs.read.read_code.Tie as tie
@@ -19,28 +19,28 @@ start-of-requires : tie.Need-start-of-requires
 start-of-requires c κs = c.alone-code.ensures
 
 returns : tie.Need-returns
-unfolding readRefusal
+unfolding read_refusal
 returns c = search (codes, arith) depth 9
 
 shared-slice-read-if2 : tie.Need-shared-slice-read-if2
 shared-slice-read-if2 c =
     let a = c.before.before.before.before in
     let z = a.before.before.before.before.before.before in
-    omega (arith, (laid z.args.store.now (start-facts _ _ (sym a.start_of_lem.ensures.0 ∙ c.before.if1.false)).0).long)
+    omega (arith, (laid z.args.store.now (start_facts _ _ (sym a.start_of_lem.ensures.0 ∙ c.before.if1.false)).0).long)
 
 returns-2 : tie.Need-returns-2
-unfolding readRefusal contentOf
+unfolding read_refusal content_of
 returns-2 c = (search (codes, arith) depth 9, λ h. absurd (omega (arith, h)))
 
 held-all-requires : tie.Need-held-all-requires
-held-all-requires c κs = (start-facts _ _ (sym c.before.before.before.before.before.start_of_lem.ensures.0 ∙ c.before.before.if1.false)).0
+held-all-requires c κs = (start_facts _ _ (sym c.before.before.before.before.before.start_of_lem.ensures.0 ∙ c.before.before.if1.false)).0
 
 returns-3 : tie.Need-returns-3
-unfolding readRefusal contentOf
+unfolding read_refusal content_of
 returns-3 c = (search (codes, arith) depth 9, λ h. absurd (omega (arith, h)))
 
 returns-4 : tie.Need-returns-4
-unfolding readRefusal contentOf
+unfolding read_refusal content_of
 returns-4 c =
     let t = c.before.before.before.before in
     (search (codes, arith) depth 9, λ h. t.before.before.before.start_of_lem.ensures.1 t.if1.false)

@@ -7,7 +7,7 @@ use lib.Seq.{sets}
 use borrow.Author.Tests.{not-false, not-true}
 use Rattle.frame.specs.declared.entry.Entry.{Entry}
 use Rattle.reading.specs.Releases.{unflagged}
-use Rattle.reading.proofs.Releases.{place-ahead, place-more, place_same, place-within, row_more, row_same}
+use Rattle.reading.proofs.Releases.{place_ahead, place_more, place_same, place_within, row_more, row_same}
 use borrow.Author.Rules.{rules}
 use Rattle.reading.proofs.release.keep_own.Statement.{statement}
 use Rattle.reading.proofs.release.keep_own.Tie as tie
@@ -35,19 +35,19 @@ mul-row : tie.Need-overflow-mul-row invariant-loop decreases-loop
 mul-row c =
     let l = c.before.before.before.loop in
     let z = c.before.before.before.before in
-    omega (arith, place-within z.args.own z.args.t3 l.i l.at l.invariant.1, c.before.before.loop-test.true, z.requires)
+    omega (arith, place_within z.args.own z.args.t3 l.i l.at l.invariant.1, c.before.before.loop-test.true, z.requires)
 
 array-set-from-row : tie.Need-array-set-from-row invariant-loop decreases-loop
 array-set-from-row c =
     let l = c.before.before.before.loop in
     let z = c.before.before.before.before in
-    omega (arith, place-within z.args.own z.args.t3 l.i l.at l.invariant.1, c.before.before.loop-test.true, z.requires)
+    omega (arith, place_within z.args.own z.args.t3 l.i l.at l.invariant.1, c.before.before.loop-test.true, z.requires)
 
 add_at : tie.Need-overflow-add-at invariant-loop decreases-loop
 add_at c =
     let l = c.before.before.before.loop in
     let z = c.before.before.before.before in
-    omega (arith, place-within z.args.own z.args.t3 l.i l.at l.invariant.1, c.before.before.loop-test.true, z.requires)
+    omega (arith, place_within z.args.own z.args.t3 l.i l.at l.invariant.1, c.before.before.loop-test.true, z.requires)
 
 add-i : tie.Need-overflow-add-i invariant-loop decreases-loop
 add-i c = search rules
@@ -60,9 +60,9 @@ loop-again c =
     let l = c.before.before.loop in
     let z = c.before.before.before.args in
     let i = l.i in
-    let came = place-ahead z.own z.t3 i l.row l.invariant.2 in (
+    let came = place_ahead z.own z.t3 i l.row l.invariant.2 in (
       search rules,
-      ⊎_elim (λ w. place-more z.own z.t3 i l.at _ (not-true _ w.0.taken) l.invariant.1 w.3)
+      ⊎_elim (λ w. place_more z.own z.t3 i l.at _ (not-true _ w.0.taken) l.invariant.1 w.3)
           (λ w. place_same z.own z.t3 i l.at _ (not-false _ w.0.left) l.invariant.1 w.2) c.if1.branch,
       ⊎_elim
           (λ w.

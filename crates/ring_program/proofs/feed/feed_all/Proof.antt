@@ -5,20 +5,20 @@ use mathlib.Core.Path.{◌∙◌, ◌≡◌, refl, sym}
 use native.Mathlib.Omega.{arith}
 use lib.ListN.{length}
 use borrow.Author.Tests.{not-false, not-true}
-use Rattle.causal.proofs.Tests.{false-true}
+use Rattle.causal.proofs.Tests.{false_true}
 use Rattle.causal.specs.Lists.{part}
-use Rattle.script.specs.Pendings.{pendingOf}
+use Rattle.script.specs.Pendings.{pending_of}
 use Rattle.player.specs.Play.{Scene}
 use Rattle.player.specs.Shows.{Shows}
 use Rattle.ring_program.proofs.Feeding as fd
-use Rattle.ring_program.specs.Fed.{Leads, deskOf, fed}
+use Rattle.ring_program.specs.Fed.{Leads, desk_of, fed}
 use Rattle.ring_program.proofs.feed.feed_all.Statement.{statement}
 use Rattle.ring_program.proofs.feed.feed_all.Tie as tie
 
 abbrev invariant-loop : tie.invariant-loop
 invariant-loop bytes stores₀ lines₀ out₀ text₀ cur₀ from₀ stores lines out text cur from =
     (from ≤ length bytes) × (length out ≡ length out₀) × (length text ≡ length text₀) × (length stores ≡ length stores₀) × (length lines ≡ length lines₀) × (cur.at ≡ 0) × (cur.wrote ≡ true)
-    × ((g : Scene) (l : List ℕ) → Shows g (deskOf cur₀) stores₀ lines₀ → cur₀.pending ≡ pendingOf l → Leads (fed g l (part bytes 0 from)) cur stores lines)
+    × ((g : Scene) (l : List ℕ) → Shows g (desk_of cur₀) stores₀ lines₀ → cur₀.pending ≡ pending_of l → Leads (fed g l (part bytes 0 from)) cur stores lines)
 
 abbrev decreases-loop : tie.decreases-loop
 decreases-loop bytes stores₀ lines₀ out₀ text₀ cur₀ from₀ stores lines out text cur from = length bytes - from
@@ -27,7 +27,7 @@ loop-holds : tie.Need-loop-init invariant-loop decreases-loop
 loop-holds c =
     let z = c.before.before.before.before.before in
     let a = z.args in
-    (omega arith, refl, refl, refl, refl, z.requires.2, z.requires.4, λ g l S e. fd.leads-none a.bytes.now a.stage a.stores.now a.lines.now g l S e)
+    (omega arith, refl, refl, refl, refl, z.requires.2, z.requires.4, λ g l S e. fd.leads_none a.bytes.now a.stage a.stores.now a.lines.now g l S e)
 
 feed-some-requires : tie.Need-feed-some-requires invariant-loop decreases-loop
 feed-some-requires c κs =
@@ -59,10 +59,10 @@ returns c =
     let w = c.before.before.write-out in (
       w.ensures.2,
       q.ensures.1,
-      (λ (t : w.result.wrote ≡ true). false-true (sym (not-true w.result.wrote c.if1.true) ∙ t)),
+      (λ (t : w.result.wrote ≡ true). false_true (sym (not-true w.result.wrote c.if1.true) ∙ t)),
       λ g l S e.
           let X = L.invariant.7 g l S e in
-          fd.leads-then z.args.bytes.now L.from q.result.next (omega (arith, q.ensures.0)) g l L.cur.at _ q.result.stage w.result _ _ _ (q.ensures.4 _ _ X.shows X.pending) w.ensures.0 w.ensures.1,
+          fd.leads_then z.args.bytes.now L.from q.result.next (omega (arith, q.ensures.0)) g l L.cur.at _ q.result.stage w.result _ _ _ (q.ensures.4 _ _ X.shows X.pending) w.ensures.0 w.ensures.1,
     )
 
 loop-less : tie.Need-loop-smaller invariant-loop decreases-loop
@@ -83,7 +83,7 @@ loop-again c =
       not-false w.result.wrote c.if1.false,
       λ g l S e.
           let X = L.invariant.7 g l S e in
-          fd.leads-then z.args.bytes.now L.from q.result.next (omega (arith, q.ensures.0)) g l L.cur.at _ q.result.stage w.result _ _ _ (q.ensures.4 _ _ X.shows X.pending) w.ensures.0 w.ensures.1,
+          fd.leads_then z.args.bytes.now L.from q.result.next (omega (arith, q.ensures.0)) g l L.cur.at _ q.result.stage w.result _ _ _ (q.ensures.4 _ _ X.shows X.pending) w.ensures.0 w.ensures.1,
     )
 
 same-length-5 : tie.Need-same-length-5 invariant-loop decreases-loop

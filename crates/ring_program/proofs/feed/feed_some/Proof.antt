@@ -8,11 +8,11 @@ use lib.ListN.{length, set}
 use borrow.Author.Tests.{not-false, not-true}
 use Rattle.causal.specs.Lists.{part}
 use Rattle.script.specs.Lines.{Named}
-use Rattle.script.specs.Pendings.{pendingOf}
+use Rattle.script.specs.Pendings.{pending_of}
 use Rattle.player.specs.Desks.{desk}
 use Rattle.player.specs.Play.{Scene}
 use Rattle.player.specs.Shows.{Shows}
-use Rattle.player.proofs.PlayMove.{no-session}
+use Rattle.player.proofs.PlayMove.{no_session}
 use Rattle.ring_program.specs.Fed.{Follows, fed}
 use Rattle.ring_program.proofs.Feeding as fd
 use borrow.Author.Rules.{rules}
@@ -22,7 +22,7 @@ use Rattle.ring_program.proofs.feed.feed_some.Tie as tie
 abbrev invariant-loop : tie.invariant-loop
 invariant-loop bytes from stores₀ lines₀ out₀ text₀ sessions₀ board₀ pending₀ at₀ i₀ stores lines out text sessions board pending at i =
     (i₀ ≤ i) × (i ≤ length bytes) × (length out ≡ length out₀) × (length text ≡ length text₀) × (length stores ≡ length stores₀) × (length lines ≡ length lines₀) × (at ≤ length text) × (i ≡ i₀ → at + 40 ≤ length text)
-    × ((g : Scene) (l : List ℕ) → Shows g (desk sessions₀ board₀) stores₀ lines₀ → pending₀ ≡ pendingOf l
+    × ((g : Scene) (l : List ℕ) → Shows g (desk sessions₀ board₀) stores₀ lines₀ → pending₀ ≡ pending_of l
     → Follows (fed g l (part bytes i₀ (i - i₀))) at₀ text₀ (record { sessions = sessions; board = board; pending = pending; at = at; wrote = true }) stores lines text)
 
 abbrev decreases-loop : tie.decreases-loop
@@ -32,7 +32,7 @@ loop-holds : tie.Need-loop-init invariant-loop decreases-loop
 loop-holds c =
     let z = c.before.before.before.before.before.before.before.before in
     let a = z.args in
-    (omega arith, omega (arith, z.requires.2), refl, refl, refl, refl, omega (arith, z.requires.1), (λ (_ : a.from ≡ a.from). z.requires.1), λ g l S e. fd.nothing-fed a.bytes.now a.from (record { sessions = a.stage.sessions; board = a.stage.board; pending = a.stage.pending; at = a.stage.at; wrote = true }) _ _ _ g l S e)
+    (omega arith, omega (arith, z.requires.2), refl, refl, refl, refl, omega (arith, z.requires.1), (λ (_ : a.from ≡ a.from). z.requires.1), λ g l S e. fd.nothing_fed a.bytes.now a.from (record { sessions = a.stage.sessions; board = a.stage.board; pending = a.stage.pending; at = a.stage.at; wrote = true }) _ _ _ g l S e)
 
 sub-if1 : tie.Need-overflow-sub-if1 invariant-loop decreases-loop
 sub-if1 c = c.before.loop.invariant.6
@@ -88,11 +88,11 @@ returns-2 c =
     let L = c.before.before.before.before.before.before.before.loop in
     let k = c.before.before.before.before.take in
     rw c.reach2.ensures (
-      omega (arith, fd.taken-some _ _ _ _ k.ensures c.before.before.before.before.before.before.loop-test.true, L.invariant.0),
+      omega (arith, fd.taken_some _ _ _ _ k.ensures c.before.before.before.before.before.before.loop-test.true, L.invariant.0),
       k.ensures.within,
       omega (arith, L.invariant.6, L.invariant.3),
       refl,
-      λ g l S e. fd.line-waits z.args.bytes.now z.args.from L.i L.invariant.0 g l z.args.stage.at _ _ _ _ _ (L.invariant.8 g l S e) _ k.ensures (not-true k.result.ended c.before.if2.true),
+      λ g l S e. fd.line_waits z.args.bytes.now z.args.from L.i L.invariant.0 g l z.args.stage.at _ _ _ _ _ (L.invariant.8 g l S e) _ k.ensures (not-true k.result.ended c.before.if2.true),
     )
 
 parse-requires : tie.Need-parse-requires invariant-loop decreases-loop
@@ -188,7 +188,7 @@ nothing-requires : tie.Need-nothing-requires invariant-loop decreases-loop
 nothing-requires c κs = search rules
 
 loop-less : tie.Need-loop-smaller invariant-loop decreases-loop
-loop-less c = let L = c.before.before.before.before.before.before.before.before.before.loop in let k = c.before.before.before.before.before.before.take in omega (arith, fd.taken-some _ _ _ _ k.ensures c.before.before.before.before.before.before.before.before.loop-test.true, k.ensures.within)
+loop-less c = let L = c.before.before.before.before.before.before.before.before.before.loop in let k = c.before.before.before.before.before.before.take in omega (arith, fd.taken_some _ _ _ _ k.ensures c.before.before.before.before.before.before.before.before.loop-test.true, k.ensures.within)
 
 loop-again : tie.Need-loop-preserved invariant-loop decreases-loop
 loop-again c =
@@ -203,36 +203,36 @@ loop-again c =
     (λ w.
     let q = w.7 in
     let y = w.17 in
-    fd.turn-of _ _ _ _ _ _ _ _ q.result.reply _ q.result.board y.result _ _ _ _ q.kept.1.1.1.1.1.0 q.kept.1.1.1.1.1.1.0 q.kept.1.1.1.1.1.1.1.0 y.kept.1.0
+    fd.turn_of _ _ _ _ _ _ _ _ q.result.reply _ q.result.board y.result _ _ _ _ q.kept.1.1.1.1.1.0 q.kept.1.1.1.1.1.1.0 q.kept.1.1.1.1.1.1.1.0 y.kept.1.0
     (λ g S. rw w.1.given.1 (q.ensures.1 L.sessions g refl S)) y.ensures _ _ _ _ _ _ _
-    (w.24 ∙ ⊎_elim (λ v. fd.put-done L.sessions _ _ q.result.entry q.result.done _ v.0.taken v.3.ensures v.4) (λ v. fd.not-put L.sessions _ _ q.result.entry q.result.done v.0.left v.1) w.14.came)
+    (w.24 ∙ ⊎_elim (λ v. fd.put_done L.sessions _ _ q.result.entry q.result.done _ v.0.taken v.3.ensures v.4) (λ v. fd.not_put L.sessions _ _ q.result.entry q.result.done v.0.left v.1) w.14.came)
     w.25 w.26 w.20 w.21 w.22 w.23)
     (λ v.
     ⊎_elim
     (λ w.
     let q = w.5 in
     let y = w.13 in
-    fd.turn-of _ _ _ _ _ _ _ _ q.result.reply _ L.board y.result _ _ _ _ q.kept.1.1.1.1.0 refl refl y.kept.1.0
+    fd.turn_of _ _ _ _ _ _ _ _ q.result.reply _ L.board y.result _ _ _ _ q.kept.1.1.1.1.0 refl refl y.kept.1.0
     (λ g S. rw w.1.given.1 (q.ensures.1 L.sessions L.out L.lines g refl S)) y.ensures _ _ _ _ _ _ _
     (w.20 ∙ ap (set L.sessions _) w.11.ensures) w.21 w.22 w.16 w.17 w.18 w.19)
     (λ w.
     let q = w.4 in
     let y = w.13 in
-    fd.turn-of _ _ _ _ _ _ _ _ q.result.reply L.sessions q.result.board y.result _ _ _ _ q.kept.1.1.0 q.kept.1.1.1.0 q.kept.1.1.1.1.0 y.kept.1.0
-    (λ g S. rw (no-session p.result w.0.keys3) at (q.ensures L.sessions g S)) y.ensures _ _ _ _ _ _ _ w.20 w.21 w.22 w.16 w.17 w.18 w.19)
+    fd.turn_of _ _ _ _ _ _ _ _ q.result.reply L.sessions q.result.board y.result _ _ _ _ q.kept.1.1.0 q.kept.1.1.1.0 q.kept.1.1.1.1.0 y.kept.1.0
+    (λ g S. rw (no_session p.result w.0.keys3) at (q.ensures L.sessions g S)) y.ensures _ _ _ _ _ _ _ w.20 w.21 w.22 w.16 w.17 w.18 w.19)
     v)
     M.branch
     in (
-      omega (arith, fd.taken-some _ _ _ _ k.ensures c.before.before.before.before.before.before.before.before.loop-test.true, L.invariant.0),
+      omega (arith, fd.taken_some _ _ _ _ k.ensures c.before.before.before.before.before.before.before.before.loop-test.true, L.invariant.0),
       k.ensures.within,
-      T.out-same ∙ L.invariant.2,
+      T.out_same ∙ L.invariant.2,
       T.text_same ∙ L.invariant.3,
       T.stores_same ∙ L.invariant.4,
       T.lines_same ∙ L.invariant.5,
       omega (arith, T.near, T.text_same, c.before.before.before.before.before.before.before.if1.false, L.invariant.6),
-      (λ (e : k.result.next ≡ a.from). absurd (omega (arith, e, fd.taken-some _ _ _ _ k.ensures c.before.before.before.before.before.before.before.before.loop-test.true, L.invariant.0))),
+      (λ (e : k.result.next ≡ a.from). absurd (omega (arith, e, fd.taken_some _ _ _ _ k.ensures c.before.before.before.before.before.before.before.before.loop-test.true, L.invariant.0))),
       λ g l S e.
-          fd.line-played a.bytes.now a.from L.i L.invariant.0 g l a.stage.at _ _ _ _ _ (L.invariant.8 g l S e) _ k.ensures (not-false k.result.ended c.before.before.before.if2.false) p.result p.ensures.0 L.out (L.invariant.2 ∙ z.requires.0) _ _ _ _ _ _ _ _ c.nothing.ensures T,
+          fd.line_played a.bytes.now a.from L.i L.invariant.0 g l a.stage.at _ _ _ _ _ (L.invariant.8 g l S e) _ k.ensures (not-false k.result.ended c.before.before.before.if2.false) p.result p.ensures.0 L.out (L.invariant.2 ∙ z.requires.0) _ _ _ _ _ _ _ _ c.nothing.ensures T,
     )
 
 reach-requires-3 : tie.Need-reach-requires-3 invariant-loop decreases-loop

@@ -13,7 +13,7 @@ is-empty-requires c κs = search rules
 returns : tie.Need-returns
 returns c =
     let z = c.before.before.before.before.before.before.before in
-    λ (g : Scene) (l : List ℕ) (S : _) (e : _). fd.nothing-finishes g l _ z.args.stage _ _ S e (sym c.before.is-empty.ensures ∙ c.if1.true)
+    λ (g : Scene) (l : List ℕ) (S : _) (e : _). fd.nothing_finishes g l _ z.args.stage _ _ S e (sym c.before.is-empty.ensures ∙ c.if1.true)
 
 slice-aggregate-feed-some : tie.Need-slice-aggregate-feed-some
 slice-aggregate-feed-some c = search rules
@@ -41,7 +41,7 @@ returns-2 c =
     let z = c.before.before.before.before.before.before.before.before.before.before.before.before.before.before.before.before.before.before.before.before.before.before.before.before in
     let q = c.before.before.before.before.before.before.before.before.before.before.before.feed-some in
     λ (g : Scene) (l : List ℕ) (S : _) (e : _).
-    fd.last-finishes g l _ _ q.result.stage c.write-out.result _ _ _ z.args.stage.pending q.result.next e (sym c.before.before.before.before.before.before.before.before.before.before.before.before.before.before.before.before.before.before.is-empty.ensures ∙ c.before.before.before.before.before.before.before.before.before.before.before.before.before.before.before.before.before.if1.false) z.requires.2 q.ensures.0 q.ensures.1 (q.ensures.4 g l S e) c.write-out.ensures.0 c.write-out.ensures.1
+    fd.last_finishes g l _ _ q.result.stage c.write-out.result _ _ _ z.args.stage.pending q.result.next e (sym c.before.before.before.before.before.before.before.before.before.before.before.before.before.before.before.before.before.before.is-empty.ensures ∙ c.before.before.before.before.before.before.before.before.before.before.before.before.before.before.before.before.before.if1.false) z.requires.2 q.ensures.0 q.ensures.1 (q.ensures.4 g l S e) c.write-out.ensures.0 c.write-out.ensures.1
 
 pub finish_spec : {M : Type 1} → statement M
 finish_spec =

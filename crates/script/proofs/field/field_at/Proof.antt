@@ -1,6 +1,6 @@
 use mathlib.Core.Path.{ap, ◌∙◌}
 use Rattle.script.specs.Steps.{field_of}
-use Rattle.script.proofs.Fields.{field-part}
+use Rattle.script.proofs.Fields.{field_part}
 use borrow.Author.Rules.{rules}
 use Rattle.script.proofs.field.field_at.Statement.{statement}
 use Rattle.script.proofs.field.field_at.Tie as tie
@@ -21,7 +21,7 @@ number-requires : tie.Need-number-requires
 number-requires c κs = search rules
 
 returns : tie.Need-returns
-returns c = record { number = c.number.ensures ∙ ap field_of (field-part c.before.before.before.before.args.bytes.now c.before.before.before.before.args.from c.before.before.field-end.result c.before.before.field-end.ensures.0); ends = c.before.before.field-end.ensures.0; within = c.before.before.field-end.ensures.1 }
+returns c = record { number = c.number.ensures ∙ ap field_of (field_part c.before.before.before.before.args.bytes.now c.before.before.before.before.args.from c.before.before.field-end.result c.before.before.field-end.ensures.0); ends = c.before.before.field-end.ensures.0; within = c.before.before.field-end.ensures.1 }
 
 pub field-at-spec : {M : Type 1} → statement M
 field-at-spec =

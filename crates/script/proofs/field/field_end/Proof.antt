@@ -2,14 +2,14 @@ use native.Mathlib.Omega.{arith}
 use mathlib.Core.Path.{◌≡◌, refl, ◌∙◌}
 use Prim.Native.Nat.{◌≤◌, ◌+◌, ◌-◌}
 use lib.ListN.{length, drop}
-use Rattle.script.specs.Steps.{firstField}
-use Rattle.script.proofs.Fields.{first-space, first_step, first-end}
+use Rattle.script.specs.Steps.{first_field}
+use Rattle.script.proofs.Fields.{first_space, first_step, first_end}
 use borrow.Author.Rules.{rules}
 use Rattle.script.proofs.field.field_end.Statement.{statement}
 use Rattle.script.proofs.field.field_end.Tie as tie
 
 abbrev invariant-loop : tie.invariant-loop
-invariant-loop bytes from i₀ i = (i ≤ length bytes) × (from + length (firstField (drop from bytes)) ≡ i + length (firstField (drop i bytes)))
+invariant-loop bytes from i₀ i = (i ≤ length bytes) × (from + length (first_field (drop from bytes)) ≡ i + length (first_field (drop i bytes)))
 
 abbrev decreases-loop : tie.decreases-loop
 decreases-loop bytes from i₀ i = length bytes - i
@@ -21,7 +21,7 @@ shared-slice-read-if1 : tie.Need-shared-slice-read-if1 invariant-loop decreases-
 shared-slice-read-if1 c = search rules
 
 returns : tie.Need-returns invariant-loop decreases-loop
-returns c = (omega (arith, first-space c.before.before.before.before.args.bytes.now c.before.before.before.loop.i (omega arith) c.if1.true), omega arith)
+returns c = (omega (arith, first_space c.before.before.before.before.args.bytes.now c.before.before.before.loop.i (omega arith) c.if1.true), omega arith)
 
 add-i : tie.Need-overflow-add-i invariant-loop decreases-loop
 add-i c = search rules
@@ -33,7 +33,7 @@ loop-again : tie.Need-loop-preserved invariant-loop decreases-loop
 loop-again c = (omega arith, c.before.before.before.loop.invariant.1 ∙ first_step c.before.before.before.before.args.bytes.now c.before.before.before.loop.i (omega arith) c.if1.false)
 
 returns-2 : tie.Need-returns-2 invariant-loop decreases-loop
-returns-2 c = (omega (arith, first-end c.before.before.args.bytes.now c.before.loop.i (omega arith)), omega arith)
+returns-2 c = (omega (arith, first_end c.before.before.args.bytes.now c.before.loop.i (omega arith)), omega arith)
 
 pub field-end-spec : {M : Type 1} → statement M
 field-end-spec =

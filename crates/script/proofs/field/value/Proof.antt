@@ -3,7 +3,7 @@ use mathlib.Core.Path.{◌≡◌, refl, ap, ◌∙◌}
 use Prim.Native.Nat.{ℕ, ◌≤◌, ◌-◌}
 use lib.ListN.{length, take, get_or}
 use Rattle.script.specs.Steps.{turned, capped}
-use Rattle.script.proofs.Numbers.{capped-more, capped-done}
+use Rattle.script.proofs.Numbers.{capped_more, capped_done}
 use borrow.Author.Rules.{rules}
 use Rattle.script.proofs.field.value.Statement.{statement}
 use Rattle.script.proofs.field.value.Tie as tie
@@ -31,10 +31,10 @@ loop-less : tie.Need-loop-smaller invariant-loop decreases-loop
 loop-less c = search rules
 
 loop-again : tie.Need-loop-preserved invariant-loop decreases-loop
-loop-again c = (omega arith, refl, c.turn.ensures.1, c.turn.ensures.0 ∙ ap (λ (x : ℕ). turned x (get_or c.before.before.before.before.before.args.part.now c.before.before.before.loop.i 0)) c.before.before.before.loop.invariant.3 ∙ capped-more c.before.before.before.before.before.args.part.now c.before.before.before.loop.i (omega arith))
+loop-again c = (omega arith, refl, c.turn.ensures.1, c.turn.ensures.0 ∙ ap (λ (x : ℕ). turned x (get_or c.before.before.before.before.before.args.part.now c.before.before.before.loop.i 0)) c.before.before.before.loop.invariant.3 ∙ capped_more c.before.before.before.before.before.args.part.now c.before.before.before.loop.i (omega arith))
 
 returns : tie.Need-returns invariant-loop decreases-loop
-returns c = c.before.loop.invariant.3 ∙ capped-done c.before.before.before.args.part.now c.before.loop.i (omega arith)
+returns c = c.before.loop.invariant.3 ∙ capped_done c.before.before.before.args.part.now c.before.loop.i (omega arith)
 
 pub value_spec : {M : Type 1} → statement M
 value_spec =

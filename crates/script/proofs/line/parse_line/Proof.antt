@@ -1,8 +1,8 @@
 use native.Mathlib.Omega.{arith}
 use mathlib.Core.Path.{◌≡◌, ◌∙◌}
 use lib.ListN.{length}
-use Rattle.script.specs.Steps.{firstField}
-use Rattle.script.proofs.Lines.{odd-line, letter-line, one_line, two-line, three-line, more-line}
+use Rattle.script.specs.Steps.{first_field}
+use Rattle.script.proofs.Lines.{odd_line, letter_line, one_line, two_line, three_line, more_line}
 use borrow.Author.Rules.{rules}
 use Rattle.script.proofs.line.parse_line.Statement.{statement}
 use Rattle.script.proofs.line.parse_line.Tie as tie
@@ -12,11 +12,11 @@ field-end-requires c κs = search rules
 
 returns : tie.Need-returns
 returns c = let l = c.before.before.before.args.bytes.now in
-    odd-line l (λ (e : length (firstField l) ≡ 1). c.if1.true (omega (arith, c.before.field-end.ensures.0)))
+    odd_line l (λ (e : length (first_field l) ≡ 1). c.if1.true (omega (arith, c.before.field-end.ensures.0)))
 
 returns-2 : tie.Need-returns-2
 returns-2 c = let l = c.before.before.before.before.args.bytes.now in
-    letter-line l (omega arith) c.if2.true
+    letter_line l (omega arith) c.if2.true
 
 shared-slice-read-letter : tie.Need-shared-slice-read-letter
 shared-slice-read-letter c = search rules
@@ -42,7 +42,7 @@ two-requires c κs = search rules
 
 returns-4 : tie.Need-returns-4
 returns-4 c = let l = c.before.before.before.before.before.before.before.before.before.before.before.before.before.args.bytes.now in
-    c.two.ensures ∙ two-line l (omega arith) (omega arith) _ _ _ _ c.before.before.before.before.before.before.before.field_at.ensures c.before.before.before.before.before.if3.false c.before.before.before.field-at2.ensures c.before.if4.true
+    c.two.ensures ∙ two_line l (omega arith) (omega arith) _ _ _ _ c.before.before.before.before.before.before.before.field_at.ensures c.before.before.before.before.before.if3.false c.before.before.before.field-at2.ensures c.before.if4.true
 
 add-field-at-2 : tie.Need-overflow-add-field-at-2
 add-field-at-2 c = search rules
@@ -55,11 +55,11 @@ three-requires c κs = search rules
 
 returns-5 : tie.Need-returns-5
 returns-5 c = let l = c.before.before.before.before.before.before.before.before.before.before.before.before.before.before.before.before.before.args.bytes.now in
-    c.three.ensures ∙ three-line l (omega arith) (omega arith) _ _ _ _ _ _ c.before.before.before.before.before.before.before.before.before.before.before.field_at.ensures c.before.before.before.before.before.before.before.before.before.if3.false c.before.before.before.before.before.before.before.field-at2.ensures c.before.before.before.before.before.if4.false c.before.before.before.field-at3.ensures c.before.if5.true
+    c.three.ensures ∙ three_line l (omega arith) (omega arith) _ _ _ _ _ _ c.before.before.before.before.before.before.before.before.before.before.before.field_at.ensures c.before.before.before.before.before.before.before.before.before.if3.false c.before.before.before.before.before.before.before.field-at2.ensures c.before.before.before.before.before.if4.false c.before.before.before.field-at3.ensures c.before.if5.true
 
 returns-6 : tie.Need-returns-6
 returns-6 c = let l = c.before.before.before.before.before.before.before.before.before.before.before.before.before.before.before.before.args.bytes.now in
-    more-line l (omega arith) (omega arith) _ _ _ _ _ _ c.before.before.before.before.before.before.before.before.before.before.field_at.ensures c.before.before.before.before.before.before.before.before.if3.false c.before.before.before.before.before.before.field-at2.ensures c.before.before.before.before.if4.false c.before.before.field-at3.ensures c.if5.false
+    more_line l (omega arith) (omega arith) _ _ _ _ _ _ c.before.before.before.before.before.before.before.before.before.before.field_at.ensures c.before.before.before.before.before.before.before.before.if3.false c.before.before.before.before.before.before.field-at2.ensures c.before.before.before.before.if4.false c.before.before.field-at3.ensures c.if5.false
 
 pub parse-line-spec : {M : Type 1} → statement M
 parse-line-spec =

@@ -1,20 +1,20 @@
 use borrow.Author.Tests.{lt-ltb, le-ltb}
 use Rattle.causal.specs.Tests.{both}
-use Rattle.script.specs.Steps.{writeOf}
+use Rattle.script.specs.Steps.{write_of}
 use borrow.Author.Rules.{rules}
 use Rattle.script.proofs.line.write.Statement.{statement}
 use Rattle.script.proofs.line.write.Tie as tie
 
 returns : tie.Need-returns
-unfolding writeOf both
+unfolding write_of both
 returns c = simp (le-ltb _ _ c.if1.true)
 
 returns-2 : tie.Need-returns-2
-unfolding writeOf both
+unfolding write_of both
 returns-2 c = simp (lt-ltb _ _ c.before.if1.false, le-ltb _ _ c.if2.true)
 
 returns-3 : tie.Need-returns-3
-unfolding writeOf both
+unfolding write_of both
 returns-3 c = simp (lt-ltb _ _ c.before.before.if1.false, lt-ltb _ _ c.before.if2.false, le-ltb _ _ c.if3.true)
 
 cast-t5 : tie.Need-overflow-cast-t5
@@ -27,7 +27,7 @@ cast-t7 : tie.Need-overflow-cast-t7
 cast-t7 c = search rules
 
 returns-4 : tie.Need-returns-4
-unfolding writeOf both
+unfolding write_of both
 returns-4 c = simp (lt-ltb _ _ c.before.before.if1.false, lt-ltb _ _ c.before.if2.false, lt-ltb _ _ c.if3.false)
 
 pub write_spec : {M : Type 1} → statement M

@@ -5,7 +5,7 @@ use lib.Seq.{length-take-le}
 use borrow.Author.Tests.{le-leb, lt-leb}
 use Rattle.script.specs.Lines.{Named}
 use Rattle.script.specs.Pendings.{parsed}
-use Rattle.script.proofs.Lines.{line-named}
+use Rattle.script.proofs.Lines.{line_named}
 use borrow.Author.Rules.{rules}
 use Rattle.script.proofs.pending.parse.Statement.{statement}
 use Rattle.script.proofs.pending.parse.Tie as tie
@@ -28,7 +28,7 @@ returns-2 : tie.Need-returns-2
 unfolding parsed
 returns-2 c = (
   simp (le-leb _ _ c.before.before.if1.false) c.parse-line.ensures,
-  subst Named (sym c.parse-line.ensures) (line-named _),
+  subst Named (sym c.parse-line.ensures) (line_named _),
 )
 
 pub parse-spec : {M : Type 1} → statement M

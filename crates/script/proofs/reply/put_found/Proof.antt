@@ -1,5 +1,5 @@
 use native.Mathlib.Omega.{arith}
-use Rattle.script.proofs.Decimals.{ten-enough}
+use Rattle.script.proofs.Decimals.{ten_enough}
 use Rattle.script.proofs.Puts.{put_then}
 use borrow.Author.Rules.{rules}
 use Rattle.script.proofs.reply.put_found.Statement.{statement}
@@ -12,16 +12,16 @@ put-text-requires : tie.Need-put-text-requires
 put-text-requires c κs = search rules
 
 put-decimal-requires : tie.Need-put-decimal-requires
-put-decimal-requires c κs = omega (arith, ten-enough c.before.before.before.before.before.before.before.args.v c.before.before.before.before.before.before.before.ranges.v.fits, c.before.before.before.put-text.ensures.ends, c.before.before.before.put-text.auto.1.0)
+put-decimal-requires c κs = omega (arith, ten_enough c.before.before.before.before.before.before.before.args.v c.before.before.before.before.before.before.before.ranges.v.fits, c.before.before.before.put-text.ensures.ends, c.before.before.before.put-text.auto.1.0)
 
 slice-aggregate-put-text-2 : tie.Need-slice-aggregate-put-text-2
 slice-aggregate-put-text-2 c = search rules
 
 put-text-requires-2 : tie.Need-put-text-requires-2
-put-text-requires-2 c κs = omega (arith, ten-enough c.before.before.before.before.before.before.before.before.before.before.before.before.args.v c.before.before.before.before.before.before.before.before.before.before.before.before.ranges.v.fits, c.before.before.before.before.before.before.before.before.put-text.ensures.ends, c.before.before.before.before.before.before.before.before.put-text.auto.1.0, c.before.before.before.before.put-decimal.ensures.ends, c.before.before.before.before.put-decimal.auto.1.0)
+put-text-requires-2 c κs = omega (arith, ten_enough c.before.before.before.before.before.before.before.before.before.before.before.before.args.v c.before.before.before.before.before.before.before.before.before.before.before.before.ranges.v.fits, c.before.before.before.before.before.before.before.before.put-text.ensures.ends, c.before.before.before.before.before.before.before.before.put-text.auto.1.0, c.before.before.before.before.put-decimal.ensures.ends, c.before.before.before.before.put-decimal.auto.1.0)
 
 put-name-requires : tie.Need-put-name-requires
-put-name-requires c κs = omega (arith, ten-enough c.before.before.before.before.before.before.before.before.before.before.before.before.before.before.before.before.args.v c.before.before.before.before.before.before.before.before.before.before.before.before.before.before.before.before.ranges.v.fits, c.before.before.before.before.before.before.before.before.before.before.before.before.put-text.ensures.ends, c.before.before.before.before.before.before.before.before.before.before.before.before.put-text.auto.1.0, c.before.before.before.before.before.before.before.before.put-decimal.ensures.ends, c.before.before.before.before.before.before.before.before.put-decimal.auto.1.0, c.before.before.before.put-text2.ensures.ends, c.before.before.before.put-text2.auto.1.0)
+put-name-requires c κs = omega (arith, ten_enough c.before.before.before.before.before.before.before.before.before.before.before.before.before.before.before.before.args.v c.before.before.before.before.before.before.before.before.before.before.before.before.before.before.before.before.ranges.v.fits, c.before.before.before.before.before.before.before.before.before.before.before.before.put-text.ensures.ends, c.before.before.before.before.before.before.before.before.before.before.before.before.put-text.auto.1.0, c.before.before.before.before.before.before.before.before.put-decimal.ensures.ends, c.before.before.before.before.before.before.before.before.put-decimal.auto.1.0, c.before.before.before.put-text2.ensures.ends, c.before.before.before.put-text2.auto.1.0)
 
 same_length : tie.Need-same-length
 same_length c = search rules

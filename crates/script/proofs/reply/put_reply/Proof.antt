@@ -1,5 +1,5 @@
-use Rattle.script.proofs.Puts.{put-reply}
-use Rattle.script.specs.Replies.{replyBytes}
+use Rattle.script.proofs.Puts.{put_reply}
+use Rattle.script.specs.Replies.{reply_bytes}
 use borrow.Author.Rules.{rules}
 use Rattle.script.proofs.reply.put_reply.Statement.{statement}
 use Rattle.script.proofs.reply.put_reply.Tie as tie
@@ -83,64 +83,64 @@ same_length : tie.Need-same-length
 same_length c = search rules
 
 returns : tie.Need-returns
-unfolding replyBytes
-returns c = put-reply c.before.before.before.before.before.before.before.before.args.reply _ c.before.before.before.before.before.reply.given.1 (search rules) c.before.before.put-wrote.ensures
+unfolding reply_bytes
+returns c = put_reply c.before.before.before.before.before.before.before.before.args.reply _ c.before.before.before.before.before.reply.given.1 (search rules) c.before.before.put-wrote.ensures
 
 same-length-2 : tie.Need-same-length-2
 same-length-2 c = search rules
 
 returns-2 : tie.Need-returns-2
-unfolding replyBytes
-returns-2 c = put-reply c.before.before.before.before.before.before.before.before.args.reply _ c.before.before.before.before.before.reply2.given.1 (search rules) c.before.before.put-found.ensures
+unfolding reply_bytes
+returns-2 c = put_reply c.before.before.before.before.before.before.before.before.args.reply _ c.before.before.before.before.before.reply2.given.1 (search rules) c.before.before.put-found.ensures
 
 same-length-3 : tie.Need-same-length-3
 same-length-3 c = search rules
 
 returns-3 : tie.Need-returns-3
-unfolding replyBytes
-returns-3 c = put-reply c.before.before.before.before.before.before.before.before.args.reply _ c.before.before.before.before.before.enum_told.given.1 tt c.before.before.put-text.ensures
+unfolding reply_bytes
+returns-3 c = put_reply c.before.before.before.before.before.before.before.before.args.reply _ c.before.before.before.before.before.enum_told.given.1 tt c.before.before.put-text.ensures
 
 same-length-4 : tie.Need-same-length-4
 same-length-4 c = search rules
 
 returns-4 : tie.Need-returns-4
-unfolding replyBytes
-returns-4 c = put-reply c.before.before.before.before.before.before.before.before.args.reply _ c.before.before.before.before.before.enum-told2.given.1 tt c.before.before.put-text2.ensures
+unfolding reply_bytes
+returns-4 c = put_reply c.before.before.before.before.before.before.before.before.args.reply _ c.before.before.before.before.before.enum-told2.given.1 tt c.before.before.put-text2.ensures
 
 same-length-5 : tie.Need-same-length-5
 same-length-5 c = search rules
 
 returns-5 : tie.Need-returns-5
-unfolding replyBytes
-returns-5 c = put-reply c.before.before.before.before.before.before.before.before.before.args.reply _ c.before.before.before.before.before.before.reply3.given.1 (search rules) c.before.before.put-numbered.ensures
+unfolding reply_bytes
+returns-5 c = put_reply c.before.before.before.before.before.before.before.before.before.args.reply _ c.before.before.before.before.before.before.reply3.given.1 (search rules) c.before.before.put-numbered.ensures
 
 same-length-6 : tie.Need-same-length-6
 same-length-6 c = search rules
 
 returns-6 : tie.Need-returns-6
-unfolding replyBytes
-returns-6 c = put-reply c.before.before.before.before.before.before.before.before.args.reply _ c.before.before.before.before.before.enum-told3.given.1 tt c.before.before.put-text3.ensures
+unfolding reply_bytes
+returns-6 c = put_reply c.before.before.before.before.before.before.before.before.args.reply _ c.before.before.before.before.before.enum-told3.given.1 tt c.before.before.put-text3.ensures
 
 same-length-7 : tie.Need-same-length-7
 same-length-7 c = search rules
 
 returns-7 : tie.Need-returns-7
-unfolding replyBytes
-returns-7 c = put-reply c.before.before.before.before.before.before.before.before.before.args.reply _ c.before.before.before.before.before.before.reply4.given.1 (search rules) c.before.before.put-numbered2.ensures
+unfolding reply_bytes
+returns-7 c = put_reply c.before.before.before.before.before.before.before.before.before.args.reply _ c.before.before.before.before.before.before.reply4.given.1 (search rules) c.before.before.put-numbered2.ensures
 
 same-length-8 : tie.Need-same-length-8
 same-length-8 c = search rules
 
 returns-8 : tie.Need-returns-8
-unfolding replyBytes
-returns-8 c = put-reply c.before.before.before.before.before.before.before.before.args.reply _ c.before.before.before.before.before.enum-told4.given.1 tt c.before.before.put-text4.ensures
+unfolding reply_bytes
+returns-8 c = put_reply c.before.before.before.before.before.before.before.before.args.reply _ c.before.before.before.before.before.enum-told4.given.1 tt c.before.before.put-text4.ensures
 
 same-length-9 : tie.Need-same-length-9
 same-length-9 c = search rules
 
 returns-9 : tie.Need-returns-9
-unfolding replyBytes
-returns-9 c = put-reply c.before.before.before.before.before.before.before.before.args.reply _ c.before.before.before.before.before.enum-told5.given.1 tt c.before.before.put-text5.ensures
+unfolding reply_bytes
+returns-9 c = put_reply c.before.before.before.before.before.before.before.before.args.reply _ c.before.before.before.before.before.enum-told5.given.1 tt c.before.before.put-text5.ensures
 
 pub put-reply-spec : {M : Type 1} → statement M
 put-reply-spec =

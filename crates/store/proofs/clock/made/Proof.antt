@@ -1,5 +1,5 @@
 use Rattle.std.proofs.Common.{arith, rules}
-use Rattle.store.proofs.Joins.{made-is}
+use Rattle.store.proofs.Joins.{made_is}
 use Rattle.store.proofs.clock.made.Statement.{statement}
 use Rattle.store.proofs.clock.made.Tie as tie
 
@@ -19,7 +19,7 @@ shared-slice-read-result : tie.Need-shared-slice-read-result
 shared-slice-read-result c = let z = c.before.before in omega (arith, z.requires.long, z.requires.few, z.requires.own)
 
 returns : tie.Need-returns
-returns c = let z = c.before.before in made-is z.args.store.now (omega (arith, z.requires.few, z.requires.own)) (c.shared-slice-known2.given _).fits
+returns c = let z = c.before.before in made_is z.args.store.now (omega (arith, z.requires.few, z.requires.own)) (c.shared-slice-known2.given _).fits
 
 pub made-spec : {M : Type 1} → statement M
 made-spec =

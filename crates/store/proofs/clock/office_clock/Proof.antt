@@ -1,16 +1,16 @@
 use Rattle.std.proofs.Common.{◌≡◌, ℕ, ◌-◌, ◌*◌, ◌≤◌, List, get_or, ap, ◌∙◌, arith, rules}
-use Rattle.store.proofs.Rules.{rules, reach-word}
+use Rattle.store.proofs.Rules.{rules, reach_word}
 use Rattle.causal.specs.Lists.{part}
-use Rattle.causal.specs.Sets.{subsetOf}
-use Rattle.store.proofs.Joins.{tops_next, tops-none, clock-is}
-use Rattle.store.proofs.Ready.{entry-visible}
-use Rattle.causal.proofs.Array.{id-set}
-use Rattle.store.specs.Tops.{topsTo}
+use Rattle.causal.specs.Sets.{subset_of}
+use Rattle.store.proofs.Joins.{tops_next, tops_none, clock_is}
+use Rattle.store.proofs.Ready.{entry_visible}
+use Rattle.causal.proofs.Array.{id_set}
+use Rattle.store.specs.Tops.{tops_to}
 use Rattle.store.proofs.clock.office_clock.Statement.{statement}
 use Rattle.store.proofs.clock.office_clock.Tie as tie
 
 abbrev invariant-loop : tie.invariant-loop
-invariant-loop store visible n tops₀ i₀ tops i = (i ≤ n) × (tops ≡ topsTo store visible (32 * i))
+invariant-loop store visible n tops₀ i₀ tops i = (i ≤ n) × (tops ≡ tops_to store visible (32 * i))
 
 abbrev decreases-loop : tie.decreases-loop
 decreases-loop store visible n tops₀ i₀ tops i = n - i
@@ -32,7 +32,7 @@ cast-n c = let z = c.before.before.before in
 
 loop-holds : tie.Need-loop-init invariant-loop decreases-loop
 loop-holds c = let z = c.before.before.before in
-    (omega arith, tops-none z.args.store.now c.before.set_at.result)
+    (omega arith, tops_none z.args.store.now c.before.set_at.result)
 
 mul-tops-in : tie.Need-overflow-mul-tops-in invariant-loop decreases-loop
 mul-tops-in c = let z = c.before.before.before.before.before in
@@ -49,7 +49,7 @@ tops-in-requires c κs = let z = c.before.before.before.before.before in
     let r = rules z.args.store.now z.requires in
     let l = c.before in
     let v = c.before.before.before in
-    (omega (arith, r.laid.few), reach-word z.args.store.now v.set_at.result r (id-set v.set_at.result v.set_at.type-inv).eight (ap (λ (x : List ℕ). subsetOf x (part z.args.store.now 3 8)) v.set_at.ensures ∙ r.visible-held) l.loop.i)
+    (omega (arith, r.laid.few), reach_word z.args.store.now v.set_at.result r (id_set v.set_at.result v.set_at.type-inv).eight (ap (λ (x : List ℕ). subset_of x (part z.args.store.now 3 8)) v.set_at.ensures ∙ r.visible_held) l.loop.i)
 
 add-i : tie.Need-overflow-add-i invariant-loop decreases-loop
 add-i c = let z = c.before.before.before.before.before.before in
@@ -95,8 +95,8 @@ returns c = let z = c.before.before.before.before.before.before.before in
     let l = c.before.before.before in
     let w = z.args.store.now in
     let q : l.loop.i ≡ get_or w 0 0 = omega arith in
-    let t : l.loop.tops ≡ topsTo w (part w 11 8) (32 * get_or w 0 0) = l.loop.invariant.1 ∙ ap (λ (x : List ℕ). topsTo w x (32 * l.loop.i)) c.before.before.before.before.before.set_at.ensures ∙ ap (λ (m : ℕ). topsTo w (part w 11 8) (32 * m)) q in
-    clock-is w (entry-visible w r) c.made.result l.loop.tops c.made.ensures (omega (arith, r.laid.few, r.laid.own)) t
+    let t : l.loop.tops ≡ tops_to w (part w 11 8) (32 * get_or w 0 0) = l.loop.invariant.1 ∙ ap (λ (x : List ℕ). tops_to w x (32 * l.loop.i)) c.before.before.before.before.before.set_at.ensures ∙ ap (λ (m : ℕ). tops_to w (part w 11 8) (32 * m)) q in
+    clock_is w (entry_visible w r) c.made.result l.loop.tops c.made.ensures (omega (arith, r.laid.few, r.laid.own)) t
 
 pub office-clock-spec : {M : Type 1} → statement M
 office-clock-spec =

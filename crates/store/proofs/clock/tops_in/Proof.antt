@@ -1,19 +1,19 @@
 use Rattle.std.proofs.Common.{◌≡◌, ℕ, ◌+◌, refl, arith, rules}
 use lib.Count.{count_trailing_zeros, trailing_le}
 use Rattle.causal.proofs.Walk.{Passed, passed_none, next}
-use Rattle.store.specs.Tops.{topsIn}
-use Rattle.store.proofs.Joins.{tops-more, tops-done}
+use Rattle.store.specs.Tops.{tops_in}
+use Rattle.store.proofs.Joins.{tops_more, tops_done}
 use Rattle.store.proofs.clock.tops_in.Statement.{statement}
 use Rattle.store.proofs.clock.tops_in.Tie as tie
 
 abbrev invariant-loop : tie.invariant-loop
-invariant-loop store i w tops₀ rest₀ tops rest = (b : ℕ) × Passed w b rest × (tops ≡ topsIn store i w b tops₀)
+invariant-loop store i w tops₀ rest₀ tops rest = (b : ℕ) × Passed w b rest × (tops ≡ tops_in store i w b tops₀)
 
 abbrev decreases-loop : tie.decreases-loop
 decreases-loop store i w tops₀ rest₀ tops rest = rest
 
 loop-holds : tie.Need-loop-init invariant-loop decreases-loop
-unfolding topsIn
+unfolding tops_in
 loop-holds c = let z = c.before in (0, passed_none z.args.w (omega arith), refl)
 
 mul-k : tie.Need-overflow-mul-k invariant-loop decreases-loop
@@ -50,12 +50,12 @@ loop-again c = let t = c.before.before in
     let l = t.before in
     let z = l.before.before in
     let x = next z.args.w l.loop.invariant.0 l.loop.rest l.loop.invariant.1 t.loop-test.true in
-    (count_trailing_zeros 32 l.loop.rest + 1, x.then, tops-more z.args.store.now z.args.i z.args.w z.args.before l.loop.invariant.0 l.loop.rest _ l.loop.tops _ _ x l.loop.invariant.2 c.before.clock-at.ensures c.join.ensures)
+    (count_trailing_zeros 32 l.loop.rest + 1, x.then, tops_more z.args.store.now z.args.i z.args.w z.args.before l.loop.invariant.0 l.loop.rest _ l.loop.tops _ _ x l.loop.invariant.2 c.before.clock-at.ensures c.join.ensures)
 
 returns : tie.Need-returns invariant-loop decreases-loop
 returns c = let l = c.before in
     let z = l.before.before in
-    tops-done z.args.store.now z.args.i z.args.w z.args.before l.loop.invariant.0 l.loop.rest l.loop.tops l.loop.invariant.1 c.loop-test.false l.loop.invariant.2
+    tops_done z.args.store.now z.args.i z.args.w z.args.before l.loop.invariant.0 l.loop.rest l.loop.tops l.loop.invariant.1 c.loop-test.false l.loop.invariant.2
 
 pub tops-in-spec : {M : Type 1} → statement M
 tops-in-spec =

@@ -2,7 +2,7 @@ use Rattle.std.proofs.Common.{◌≡◌, ℕ, ◌+◌, ◌*◌, length, refl, ar
 use lib.Count.{count_trailing_zeros, trailing_le}
 use Rattle.causal.proofs.Walk.{Passed, passed_none, next}
 use Rattle.store.specs.Current.{InSlots, place_in}
-use Rattle.store.proofs.Places.{in-slots, place-more, place-done}
+use Rattle.store.proofs.Places.{in_slots, place_more, place_done}
 use Rattle.store.proofs.current.best_in.Statement.{statement}
 use Rattle.store.proofs.current.best_in.Tie as tie
 
@@ -48,12 +48,12 @@ loop-again c = let t = c.before in
     let z = l.before.before in
     let x = next z.args.w l.loop.invariant.0 l.loop.rest l.loop.invariant.1 t.loop-test.true in
     let k = 32 * z.args.i + count_trailing_zeros 32 l.loop.rest in
-    (count_trailing_zeros 32 l.loop.rest + 1, x.then, rw c.weigh.ensures (in-slots z.args.store.now _ z.args.plot k l.loop.best (omega (arith, x.below)) (z.requires.1 _ x.below x.member) l.loop.invariant.2), place-more z.args.store.now z.args.plot z.args.i z.args.w z.args.before l.loop.invariant.0 l.loop.rest _ l.loop.best _ x l.loop.invariant.3 c.weigh.ensures)
+    (count_trailing_zeros 32 l.loop.rest + 1, x.then, rw c.weigh.ensures (in_slots z.args.store.now _ z.args.plot k l.loop.best (omega (arith, x.below)) (z.requires.1 _ x.below x.member) l.loop.invariant.2), place_more z.args.store.now z.args.plot z.args.i z.args.w z.args.before l.loop.invariant.0 l.loop.rest _ l.loop.best _ x l.loop.invariant.3 c.weigh.ensures)
 
 returns : tie.Need-returns invariant-loop decreases-loop
 returns c = let l = c.before in
     let z = l.before.before in
-    place-done z.args.store.now z.args.plot z.args.i z.args.w z.args.before l.loop.invariant.0 l.loop.rest l.loop.best l.loop.invariant.1 c.loop-test.false l.loop.invariant.3
+    place_done z.args.store.now z.args.plot z.args.i z.args.w z.args.before l.loop.invariant.0 l.loop.rest l.loop.best l.loop.invariant.1 c.loop-test.false l.loop.invariant.3
 
 pub best-in-spec : {M : Type 1} → statement M
 best-in-spec =

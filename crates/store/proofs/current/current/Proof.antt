@@ -1,13 +1,13 @@
-use Rattle.store.proofs.Rules.{rules, reaches, reach-word}
-use Rattle.store.specs.Current.{placeTo, currentAt}
+use Rattle.store.proofs.Rules.{rules, reaches, reach_word}
+use Rattle.store.specs.Current.{place_to, current_at}
 use Rattle.std.proofs.Common.{◌≡◌, ℕ, ◌-◌, ◌*◌, ◌≤◌, length, get_or, ap, ◌∙◌, arith, rules}
-use Rattle.causal.proofs.Array.{id-set}
-use Rattle.store.proofs.Places.{place-next, place_none, place-in-slots}
+use Rattle.causal.proofs.Array.{id_set}
+use Rattle.store.proofs.Places.{place_next, place_none, place_in_slots}
 use Rattle.store.proofs.current.current.Statement.{statement}
 use Rattle.store.proofs.current.current.Tie as tie
 
 abbrev invariant-loop : tie.invariant-loop
-invariant-loop store plot visible n best₀ i₀ best i = (i ≤ n) × (best ≡ placeTo store visible plot (32 * i))
+invariant-loop store plot visible n best₀ i₀ best i = (i ≤ n) × (best ≡ place_to store visible plot (32 * i))
 
 abbrev decreases-loop : tie.decreases-loop
 decreases-loop store plot visible n best₀ i₀ best i = n - i
@@ -40,7 +40,7 @@ best-in-requires : tie.Need-best-in-requires invariant-loop decreases-loop
 best-in-requires c κs = let z = c.before.before.before.before in
     let r = rules z.args.store.now z.requires.0 in
     let l = c.before in
-    (omega (arith, r.laid.few), reach-word z.args.store.now z.args.t2 r (id-set z.args.t2 z.well-formed.1.0).eight z.requires.1 l.loop.i, rw l.loop.invariant.1 (place-in-slots z.args.store.now z.args.t2 z.args.plot (length z.args.store.now) (λ k h. let g = reaches z.args.store.now z.args.t2 r (id-set z.args.t2 z.well-formed.1.0).eight z.requires.1 k h in (g.small, g.reach)) (32 * l.loop.i)))
+    (omega (arith, r.laid.few), reach_word z.args.store.now z.args.t2 r (id_set z.args.t2 z.well-formed.1.0).eight z.requires.1 l.loop.i, rw l.loop.invariant.1 (place_in_slots z.args.store.now z.args.t2 z.args.plot (length z.args.store.now) (λ k h. let g = reaches z.args.store.now z.args.t2 r (id_set z.args.t2 z.well-formed.1.0).eight z.requires.1 k h in (g.small, g.reach)) (32 * l.loop.i)))
 
 add-i : tie.Need-overflow-add-i invariant-loop decreases-loop
 add-i c = let z = c.before.before.before.before.before in
@@ -53,14 +53,14 @@ loop-less c = search rules
 loop-again : tie.Need-loop-preserved invariant-loop decreases-loop
 loop-again c = let l = c.before.before in
     let z = l.before.before.before in
-    (omega arith, place-next z.args.store.now z.args.t2 z.args.plot l.loop.i l.loop.best _ l.loop.invariant.1 c.best-in.ensures)
+    (omega arith, place_next z.args.store.now z.args.t2 z.args.plot l.loop.i l.loop.best _ l.loop.invariant.1 c.best-in.ensures)
 
 returns : tie.Need-returns invariant-loop decreases-loop
-unfolding currentAt
+unfolding current_at
 returns c = let l = c.before in
     let z = l.before.before.before in
     let q : l.loop.i ≡ get_or z.args.store.now 0 0 = omega arith in
-    l.loop.invariant.1 ∙ ap (λ (m : ℕ). placeTo z.args.store.now z.args.t2 z.args.plot (32 * m)) q
+    l.loop.invariant.1 ∙ ap (λ (m : ℕ). place_to z.args.store.now z.args.t2 z.args.plot (32 * m)) q
 
 pub current-spec : {M : Type 1} → statement M
 current-spec =

@@ -1,7 +1,7 @@
 use Rattle.std.proofs.Common.{◌≡◌, ℕ, List, length, ap, ◌∙◌, arith, length-set, rules}
 use lib.Seq.{sets}
 use Rattle.causal.specs.Lists.{zeros}
-use Rattle.store.specs.Slots.{emptyWords}
+use Rattle.store.specs.Slots.{empty_words}
 use Rattle.store.proofs.empty.lay_empty.Statement.{statement}
 use Rattle.store.proofs.empty.lay_empty.Tie as tie
 
@@ -31,7 +31,7 @@ same_length : tie.Need-same-length
 same_length c = len2 c.before.before
 
 returns : tie.Need-returns
-unfolding emptyWords
+unfolding empty_words
 returns c = let p2 = c.before.before in
     let p1 = p2.before.before.before.before in
     p2.put2.ensures.0 ∙ ap (λ (l : List ℕ). sets l 11 zeros) p1.put.ensures.0

@@ -1,4 +1,4 @@
-use Rattle.store.proofs.Alike.{hold-is}
+use Rattle.store.proofs.Alike.{hold_is}
 use Rattle.std.proofs.Common.{rules}
 use Rattle.store.proofs.hold.hold.Statement.{statement}
 use Rattle.store.proofs.hold.hold.Tie as tie
@@ -34,7 +34,7 @@ returns c = let w = c.before.before in
     let a = i.before in
     let d = a.before.before in
     let s = d.before.before in
-    hold-is s.args.store.now s.args.e d.id-of.result a.set_at.result i.insert.result v.put-entry.new.0 w.put.new.0 d.id-of.ensures a.set_at.ensures i.insert.ensures v.put-entry.ensures.0 w.put.ensures.0
+    hold_is s.args.store.now s.args.e d.id-of.result a.set_at.result i.insert.result v.put-entry.new.0 w.put.new.0 d.id-of.ensures a.set_at.ensures i.insert.ensures v.put-entry.ensures.0 w.put.ensures.0
 
 pub hold-spec : {M : Type 1} → statement M
 hold-spec =

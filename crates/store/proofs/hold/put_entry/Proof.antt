@@ -1,6 +1,6 @@
 use Rattle.std.proofs.Common.{◌≡◌, ℕ, ◌+◌, List, length, ap, ◌∙◌, arith, length-set, rules}
 use lib.Seq.{sets}
-use Rattle.store.proofs.Eights.{entry-run, entry-eighteen}
+use Rattle.store.proofs.Eights.{entry_run, entry_eighteen}
 use Rattle.store.proofs.hold.put_entry.Statement.{statement}
 use Rattle.store.proofs.hold.put_entry.Tie as tie
 
@@ -46,7 +46,7 @@ returns c = let p2 = c.before.before in
     let p1 = p2.before.before.before.before in
     let s = p1.before.before.before.before.before in
     let at = s.args.at in
-    (p2.put2.ensures.0 ∙ ap (λ (l : List ℕ). sets l (at + 10) s.args.e.deps) p1.put.ensures.0 ∙ entry-run s.args.store.now at s.args.e p1.put.ensures.1, entry-eighteen s.args.e p1.put.ensures.1 p2.put2.ensures.1)
+    (p2.put2.ensures.0 ∙ ap (λ (l : List ℕ). sets l (at + 10) s.args.e.deps) p1.put.ensures.0 ∙ entry_run s.args.store.now at s.args.e p1.put.ensures.1, entry_eighteen s.args.e p1.put.ensures.1 p2.put2.ensures.1)
 
 pub put-entry-spec : {M : Type 1} → statement M
 put-entry-spec =

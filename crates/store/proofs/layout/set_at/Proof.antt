@@ -1,4 +1,4 @@
-use Rattle.store.proofs.Eights.{part-eight}
+use Rattle.store.proofs.Eights.{part_eight}
 use Rattle.std.proofs.Common.{rules}
 use Rattle.store.proofs.layout.set_at.Statement.{statement}
 use Rattle.store.proofs.layout.set_at.Tie as tie
@@ -73,7 +73,7 @@ shared-slice-read-t33 : tie.Need-shared-slice-read-t33
 shared-slice-read-t33 c = search rules
 
 returns : tie.Need-returns
-returns c = part-eight c.before.before.before.before.before.before.before.before.args.store.now c.before.before.before.before.before.before.before.before.args.at c.before.before.before.before.before.before.before.before.requires
+returns c = part_eight c.before.before.before.before.before.before.before.before.args.store.now c.before.before.before.before.before.before.before.before.args.at c.before.before.before.before.before.before.before.before.requires
 
 pub set-at-spec : {M : Type 1} → statement M
 set-at-spec =

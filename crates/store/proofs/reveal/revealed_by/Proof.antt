@@ -1,11 +1,11 @@
 use Rattle.std.proofs.Common.{◌≡◌, ℕ, ◌*◌, true, List, get_or, sym, ap, ◌∙◌, arith, rules}
 use Rattle.causal.specs.Lists.{part}
-use Rattle.causal.specs.Sets.{subsetOf}
-use Rattle.causal.proofs.Array.{id-set}
+use Rattle.causal.specs.Sets.{subset_of}
+use Rattle.causal.proofs.Array.{id_set}
 use Rattle.store.specs.Reveal.{revealed}
 use Rattle.store.proofs.Rules.{rules}
 use Rattle.store.proofs.Reached.{all_shown, step_end}
-use Rattle.store.proofs.Ready.{depsIn, ready}
+use Rattle.store.proofs.Ready.{deps_in, ready}
 use Rattle.store.proofs.reveal.revealed_by.Statement.{statement}
 use Rattle.store.proofs.reveal.revealed_by.Tie as tie
 
@@ -25,10 +25,10 @@ returns c =
     let z = v.before.before in
     let ws = z.args.store.now in
     let seeds = z.args.seeds in
-    let ids = id-set seeds z.good.1.0 in
-    let shown = (ready ws (λ i. (v.before.shared-slice-known.given i).fits) z.pre.0 seeds ids z.pre.1).visible-set in
-    let all : subsetOf seeds (part ws 11 8) ≡ true = ap (subsetOf seeds) (sym v.set_at.ensures) ∙ sym c.before.subset.ensures ∙ c.if1.taken in
-    let none = step_end (32 * get_or ws 0 0) (depsIn ws) seeds (part ws 11 8) 0 (all_shown seeds (part ws 11 8) ids shown all) in
+    let ids = id_set seeds z.good.1.0 in
+    let shown = (ready ws (λ i. (v.before.shared-slice-known.given i).fits) z.pre.0 seeds ids z.pre.1).visible_set in
+    let all : subset_of seeds (part ws 11 8) ≡ true = ap (subset_of seeds) (sym v.set_at.ensures) ∙ sym c.before.subset.ensures ∙ c.if1.taken in
+    let none = step_end (32 * get_or ws 0 0) (deps_in ws) seeds (part ws 11 8) 0 (all_shown seeds (part ws 11 8) ids shown all) in
     ap (λ (l : List ℕ). record { visible = l; steps = 0 }) v.set_at.ensures ∙ sym none
 
 reveal-on-requires : tie.Need-reveal-on-requires

@@ -1,6 +1,6 @@
 use Rattle.std.proofs.Common.{arith, rules}
 use Rattle.causal.proofs.Chain.{chain}
-use Rattle.store.proofs.Alike.{content-of}
+use Rattle.store.proofs.Alike.{content_of}
 use Rattle.store.proofs.same.has_content.Statement.{statement}
 use Rattle.store.proofs.same.has_content.Tie as tie
 
@@ -21,7 +21,7 @@ shared-slice-read-if1 c = search rules
 
 returns : tie.Need-returns
 returns c = let z = c.before.before.before.before.before in
-    content-of z.args.store.now z.args.e c.before.before.before.id-of.result c.before.before.before.id-of.ensures _ (search (chain, arith) depth 9)
+    content_of z.args.store.now z.args.e c.before.before.before.id-of.result c.before.before.before.id-of.ensures _ (search (chain, arith) depth 9)
 
 add-if2 : tie.Need-overflow-add-if2
 add-if2 c = search rules
@@ -34,7 +34,7 @@ shared-slice-read-if2 c = search rules
 
 returns-2 : tie.Need-returns-2
 returns-2 c = let z = c.before.before.before.before.before.before.before.before in
-    content-of z.args.store.now z.args.e c.before.before.before.before.before.before.id-of.result c.before.before.before.before.before.before.id-of.ensures _ (search (chain, arith) depth 9)
+    content_of z.args.store.now z.args.e c.before.before.before.before.before.before.id-of.result c.before.before.before.before.before.before.id-of.ensures _ (search (chain, arith) depth 9)
 
 add-stands-at : tie.Need-overflow-add-stands-at
 add-stands-at c = search rules
@@ -44,7 +44,7 @@ stands-at-requires c κs = search rules
 
 returns-3 : tie.Need-returns-3
 returns-3 c = let z = c.before.before.before.before.before.before.before.before.before.before.before.before in
-    content-of z.args.store.now z.args.e c.before.before.before.before.before.before.before.before.before.before.id-of.result c.before.before.before.before.before.before.before.before.before.before.id-of.ensures _ (search (chain, arith) depth 9)
+    content_of z.args.store.now z.args.e c.before.before.before.before.before.before.before.before.before.before.id-of.result c.before.before.before.before.before.before.before.before.before.before.id-of.ensures _ (search (chain, arith) depth 9)
 
 add-stands-at-2 : tie.Need-overflow-add-stands-at-2
 add-stands-at-2 c = search rules
@@ -54,7 +54,7 @@ stands-at-requires-2 c κs = search rules
 
 returns-4 : tie.Need-returns-4
 returns-4 c = let z = c.before.before.before.before.before.before.before.before.before.before.before.before.before in
-    content-of z.args.store.now z.args.e c.before.before.before.before.before.before.before.before.before.before.before.id-of.result c.before.before.before.before.before.before.before.before.before.before.before.id-of.ensures _ (search (chain, arith) depth 9)
+    content_of z.args.store.now z.args.e c.before.before.before.before.before.before.before.before.before.before.before.id-of.result c.before.before.before.before.before.before.before.before.before.before.before.id-of.ensures _ (search (chain, arith) depth 9)
 
 pub has-content-spec : {M : Type 1} → statement M
 has-content-spec =

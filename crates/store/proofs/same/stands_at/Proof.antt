@@ -1,8 +1,8 @@
 use Rattle.std.proofs.Common.{◌≡◌, ℕ, ◌+◌, ◌-◌, ◌≤◌, true, eqb, get_or, sym, ap, ◌∙◌, arith, rules, eq-eqb, ne_eqb}
-use Rattle.causal.proofs.Tests.{all_none, all_more, all-fails}
-use Rattle.causal.proofs.Array.{id-set}
+use Rattle.causal.proofs.Tests.{all_none, all_more, all_fails}
+use Rattle.causal.proofs.Array.{id_set}
 use Rattle.causal.specs.Tests.{all_below}
-use Rattle.store.proofs.Eights.{eq-eight}
+use Rattle.store.proofs.Eights.{eq_eight}
 use Rattle.store.proofs.same.stands_at.Statement.{statement}
 use Rattle.store.proofs.same.stands_at.Tie as tie
 
@@ -32,7 +32,7 @@ shared-slice-read-if1 c = search rules
 
 returns : tie.Need-returns invariant-loop decreases-loop
 returns c = let z = c.before.before.before.before in
-    sym (all-fails (λ i. eqb (get_or z.args.t3 i 0) (get_or z.args.store.now (z.args.at + i) 0)) 8 c.before.before.before.loop.j (omega arith) (ne_eqb _ _ c.if1.true)) ∙ eq-eight z.args.t3 z.args.store.now z.args.at (id-set z.args.t3 z.well-formed.1.1.0).eight z.requires
+    sym (all_fails (λ i. eqb (get_or z.args.t3 i 0) (get_or z.args.store.now (z.args.at + i) 0)) 8 c.before.before.before.loop.j (omega arith) (ne_eqb _ _ c.if1.true)) ∙ eq_eight z.args.t3 z.args.store.now z.args.at (id_set z.args.t3 z.well-formed.1.1.0).eight z.requires
 
 add-j : tie.Need-overflow-add-j invariant-loop decreases-loop
 add-j c = search rules
@@ -47,7 +47,7 @@ loop-again c = let z = c.before.before.before.before in
 returns-2 : tie.Need-returns-2 invariant-loop decreases-loop
 returns-2 c = let z = c.before.before in
     let e : c.before.loop.j ≡ 8 = omega arith in
-    sym (ap (λ (j : ℕ). all_below j (λ i. eqb (get_or z.args.t3 i 0) (get_or z.args.store.now (z.args.at + i) 0))) (sym e) ∙ c.before.loop.invariant.1) ∙ eq-eight z.args.t3 z.args.store.now z.args.at (id-set z.args.t3 z.well-formed.1.1.0).eight z.requires
+    sym (ap (λ (j : ℕ). all_below j (λ i. eqb (get_or z.args.t3 i 0) (get_or z.args.store.now (z.args.at + i) 0))) (sym e) ∙ c.before.loop.invariant.1) ∙ eq_eight z.args.t3 z.args.store.now z.args.at (id_set z.args.t3 z.well-formed.1.1.0).eight z.requires
 
 pub stands-at-spec : {M : Type 1} → statement M
 stands-at-spec =

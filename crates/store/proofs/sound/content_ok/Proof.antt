@@ -1,7 +1,7 @@
 use Rattle.std.proofs.Common.{sym, ◌∙◌, arith, rules}
 use borrow.Author.Tests.{not-false}
 use Rattle.causal.proofs.Chain.{chain}
-use Rattle.store.proofs.Rules.{content-is, empty-content}
+use Rattle.store.proofs.Rules.{content_is, empty_content}
 use Rattle.store.proofs.sound.content_ok.Statement.{statement}
 use Rattle.store.proofs.sound.content_ok.Tie as tie
 
@@ -16,7 +16,7 @@ subset-requires c κs = search rules
 
 returns : tie.Need-returns
 returns c = let z = c.before.before.before.before.before in
-    content-is z.args.store.now c.before.before.before.set_at.result c.before.before.set-at2.result c.before.before.before.set_at.ensures c.before.before.set-at2.ensures _ (search (chain, arith) depth 9)
+    content_is z.args.store.now c.before.before.before.set_at.result c.before.before.set-at2.result c.before.before.before.set_at.ensures c.before.before.set-at2.ensures _ (search (chain, arith) depth 9)
 
 is-empty-requires : tie.Need-is-empty-requires
 is-empty-requires c κs = search rules
@@ -27,8 +27,8 @@ returns-2 c =
     let held = c.before.before.before.before.before.set_at in
     let visible = c.before.before.before.before.set-at2 in
     let part_of = sym c.before.before.before.subset.ensures ∙ not-false _ c.before.before.if1.false in
-    content-is z.args.store.now held.result visible.result held.ensures visible.ensures _
-    (empty-content z.args.store.now held.result visible.result (omega (arith, z.requires.few, z.requires.own)) (sym c.before.is-empty.ensures ∙ c.if2.true) part_of)
+    content_is z.args.store.now held.result visible.result held.ensures visible.ensures _
+    (empty_content z.args.store.now held.result visible.result (omega (arith, z.requires.few, z.requires.own)) (sym c.before.is-empty.ensures ∙ c.if2.true) part_of)
 
 shared-slice-read-slots-ok : tie.Need-shared-slice-read-slots-ok
 shared-slice-read-slots-ok c = let z = c.before.before.before.before.before.before.before.before in omega (arith, z.requires.long, z.requires.few, z.requires.own)
@@ -42,7 +42,7 @@ slots-ok-requires c κs = let z = c.before.before.before.before.before.before.be
 
 returns-3 : tie.Need-returns-3
 returns-3 c = let z = c.before.before.before.before.before.before.before.before.before.before.before in
-    content-is z.args.store.now c.before.before.before.before.before.before.before.before.before.set_at.result c.before.before.before.before.before.before.before.before.set-at2.result c.before.before.before.before.before.before.before.before.before.set_at.ensures c.before.before.before.before.before.before.before.before.set-at2.ensures _ (search (chain, arith) depth 9)
+    content_is z.args.store.now c.before.before.before.before.before.before.before.before.before.set_at.result c.before.before.before.before.before.before.before.before.set-at2.result c.before.before.before.before.before.before.before.before.before.set_at.ensures c.before.before.before.before.before.before.before.before.set-at2.ensures _ (search (chain, arith) depth 9)
 
 shared-slice-read-own : tie.Need-shared-slice-read-own
 shared-slice-read-own c = let z = c.before.before.before.before.before.before.before.before.before.before.before.before in omega (arith, z.requires.long, z.requires.few, z.requires.own)
@@ -61,7 +61,7 @@ no-gap-requires c κs = search rules
 
 returns-4 : tie.Need-returns-4
 returns-4 c = let z = c.before.before.before.before.before.before.before.before.before.before.before.before.before in
-    content-is z.args.store.now c.before.before.before.before.before.before.before.before.before.before.before.set_at.result c.before.before.before.before.before.before.before.before.before.before.set-at2.result c.before.before.before.before.before.before.before.before.before.before.before.set_at.ensures c.before.before.before.before.before.before.before.before.before.before.set-at2.ensures _ (search (chain, arith) depth 9)
+    content_is z.args.store.now c.before.before.before.before.before.before.before.before.before.before.before.set_at.result c.before.before.before.before.before.before.before.before.before.before.set-at2.result c.before.before.before.before.before.before.before.before.before.before.before.set_at.ensures c.before.before.before.before.before.before.before.before.before.before.set-at2.ensures _ (search (chain, arith) depth 9)
 
 pub content-ok-spec : {M : Type 1} → statement M
 content-ok-spec =

@@ -1,8 +1,8 @@
 use Rattle.std.proofs.Common.{◌<◌, ◌≤◌, length, get_or, sym, ◌∙◌, arith, rules}
 use Rattle.causal.proofs.Chain.{chain}
 use borrow.Author.Tests.{not-false}
-use Rattle.store.specs.Offices.{need, soundStore}
-use Rattle.store.proofs.Rules.{short, settings-laid}
+use Rattle.store.specs.Offices.{need, sound_store}
+use Rattle.store.proofs.Rules.{short, settings_laid}
 use Rattle.store.proofs.sound.is_sound.Statement.{statement}
 use Rattle.store.proofs.sound.is_sound.Tie as tie
 
@@ -24,7 +24,7 @@ settings-ok-requires : tie.Need-settings-ok-requires
 settings-ok-requires c κs = search rules
 
 returns-2 : tie.Need-returns-2
-unfolding soundStore
+unfolding sound_store
 returns-2 c = search (chain, arith) depth 9
 
 shared-slice-read-need-of : tie.Need-shared-slice-read-need-of
@@ -39,11 +39,11 @@ returns-3 c = let z = c.before.before.before.before.before.before.before.before.
 
 content-ok-requires : tie.Need-content-ok-requires
 content-ok-requires c κs = let z = c.before.before.before.before.before.before.before.before.before.before in
-    let s = settings-laid _ _ _ (sym c.before.before.before.before.settings-ok.ensures ∙ not-false _ c.before.before.before.if2.false) in
+    let s = settings_laid _ _ _ (sym c.before.before.before.before.settings-ok.ensures ∙ not-false _ c.before.before.before.if2.false) in
     record { long = rw c.before.need-of.ensures at c.if3.false; few = s.0; own = s.1 }
 
 returns-4 : tie.Need-returns-4
-unfolding soundStore
+unfolding sound_store
 returns-4 c = let z = c.before.before.before.before.before.before.before.before.before.before.before in
     let h : need (get_or z.args.store.now 0 0) ≤ length z.args.store.now = rw c.before.before.need-of.ensures at c.before.if3.false in
     search (chain, arith) depth 9

@@ -1,13 +1,13 @@
 use Rattle.std.proofs.Common.{ℕ, ◌+◌, arith, rules}
 use lib.Count.{count_trailing_zeros, trailing_le}
-use Rattle.frame.specs.Entries.{underOk}
+use Rattle.frame.specs.Entries.{under_ok}
 use Rattle.causal.proofs.Walk.{Passed, passed_none, next}
-use Rattle.store.proofs.Deps.{Below, look_none, look-more, look-fails, look-done}
+use Rattle.store.proofs.Deps.{Below, look_none, look_more, look_fails, look_done}
 use Rattle.store.proofs.sound.look.Statement.{statement}
 use Rattle.store.proofs.sound.look.Tie as tie
 
 abbrev invariant-loop : tie.invariant-loop
-invariant-loop store most p i w bad₀ deps₀ rest₀ bad deps rest = (b : ℕ) × Passed w b rest × Below store (underOk most) p i w bad₀ deps₀ b bad deps
+invariant-loop store most p i w bad₀ deps₀ rest₀ bad deps rest = (b : ℕ) × Passed w b rest × Below store (under_ok most) p i w bad₀ deps₀ b bad deps
 
 abbrev decreases-loop : tie.decreases-loop
 decreases-loop store most p i w bad₀ deps₀ rest₀ bad deps rest = rest
@@ -28,7 +28,7 @@ returns c =
     let l = u.before.before.before in
     let z = l.before.before.before.before in
     let x = next z.args.w l.loop.invariant.0 l.loop.rest l.loop.invariant.1 u.before.before.loop-test.true in
-    look-fails z.args.store.now (underOk z.args.most) z.args.p z.args.i z.args.w _ _ l.loop.invariant.0 l.loop.rest _ _ _ x _ u.before.Slot-ok.ensures u.if1.true
+    look_fails z.args.store.now (under_ok z.args.most) z.args.p z.args.i z.args.w _ _ l.loop.invariant.0 l.loop.rest _ _ _ x _ u.before.Slot-ok.ensures u.if1.true
 
 mul-k : tie.Need-overflow-mul-k invariant-loop decreases-loop
 mul-k c = search rules
@@ -83,7 +83,7 @@ loop-again c =
     let x = next z.args.w l.loop.invariant.0 l.loop.rest l.loop.invariant.1 u.before.before.loop-test.true in (
       count_trailing_zeros 32 l.loop.rest + 1,
       x.then,
-      look-more z.args.store.now (underOk z.args.most) z.args.p z.args.i z.args.w _ _ l.loop.invariant.0 l.loop.rest _ _ _ x l.loop.invariant.2 _ u.before.Slot-ok.ensures u.if1.false
+      look_more z.args.store.now (under_ok z.args.most) z.args.p z.args.i z.args.w _ _ l.loop.invariant.0 l.loop.rest _ _ _ x l.loop.invariant.2 _ u.before.Slot-ok.ensures u.if1.false
           _ _ _ c.before.before.before.before.clock-at.ensures c.before.before.before.overs.ensures c.before.before.union.ensures
           _ _ c.before.deps-at.ensures c.union2.ensures,
     )
@@ -92,7 +92,7 @@ returns-2 : tie.Need-returns-2 invariant-loop decreases-loop
 returns-2 c =
     let l = c.before in
     let z = l.before.before.before.before in
-    look-done z.args.store.now (underOk z.args.most) z.args.p z.args.i z.args.w _ _ l.loop.invariant.0 l.loop.rest _ _ l.loop.invariant.1 c.loop-test.false l.loop.invariant.2
+    look_done z.args.store.now (under_ok z.args.most) z.args.p z.args.i z.args.w _ _ l.loop.invariant.0 l.loop.rest _ _ l.loop.invariant.1 c.loop-test.false l.loop.invariant.2
 
 pub look_spec : {M : Type 1} → statement M
 look_spec =

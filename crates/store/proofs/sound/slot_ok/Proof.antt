@@ -1,7 +1,7 @@
 use Rattle.std.proofs.Common.{arith, rules}
 use Rattle.causal.specs.Sets.{bit}
 use Rattle.causal.proofs.Chain.{chain}
-use Rattle.store.specs.Deps.{loneOk}
+use Rattle.store.specs.Deps.{lone_ok}
 use Rattle.store.proofs.sound.slot_ok.Statement.{statement}
 use Rattle.store.proofs.sound.slot_ok.Tie as tie
 
@@ -24,7 +24,7 @@ shared-slice-read-if1 : tie.Need-shared-slice-read-if1
 shared-slice-read-if1 c = search rules
 
 returns : tie.Need-returns
-unfolding loneOk bit
+unfolding lone_ok bit
 returns c = search (chain, arith) depth 9
 
 add-if2 : tie.Need-overflow-add-if2
@@ -37,7 +37,7 @@ shared-slice-read-if2 : tie.Need-shared-slice-read-if2
 shared-slice-read-if2 c = search rules
 
 returns-2 : tie.Need-returns-2
-unfolding loneOk bit
+unfolding lone_ok bit
 returns-2 c = search (chain, arith) depth 9
 
 add-if3 : tie.Need-overflow-add-if3
@@ -56,7 +56,7 @@ add-if3-3 : tie.Need-overflow-add-if3-3
 add-if3-3 c = search rules
 
 returns-3 : tie.Need-returns-3
-unfolding loneOk bit
+unfolding lone_ok bit
 returns-3 c = search (chain, arith) depth 9
 
 add-result : tie.Need-overflow-add-result
@@ -75,7 +75,7 @@ shr-result : tie.Need-overflow-shr-result
 shr-result c = search rules
 
 returns-4 : tie.Need-returns-4
-unfolding loneOk bit
+unfolding lone_ok bit
 returns-4 c = search (chain, arith) depth 9
 
 pub slot-ok-spec : {M : Type 1} → statement M

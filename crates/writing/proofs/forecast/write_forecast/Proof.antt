@@ -1,7 +1,7 @@
 use native.Mathlib.Omega.{arith}
 use mathlib.Core.Path.{sym, ◌∙◌}
 use Rattle.store.proofs.Rules.{laid}
-use Rattle.writing.proofs.Forecasts.{sends-are}
+use Rattle.writing.proofs.Forecasts.{sends_are}
 use Rattle.writing.proofs.Writes.{ready, few}
 use borrow.Author.Rules.{rules}
 use Rattle.writing.proofs.forecast.write_forecast.Statement.{statement}
@@ -43,7 +43,7 @@ returns-2 c = let h = c.before.before in
     let z = k.before.before in
     let ws = z.args.store.now in
     let s = z.args.s in
-    (sym t.if1.false ∙ k.early-code.ensures, λ q. sends-are ws s z.args.plot z.args.value h.set_at.result _ h.set_at.ensures c.own-frames.ensures.0)
+    (sym t.if1.false ∙ k.early-code.ensures, λ q. sends_are ws s z.args.plot z.args.value h.set_at.result _ h.set_at.ensures c.own_frames.ensures.0)
 
 pub write-forecast-spec : {M : Type 1} → statement M
 write-forecast-spec =

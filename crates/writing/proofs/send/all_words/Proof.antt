@@ -3,10 +3,10 @@ use mathlib.Core.Path.{◌≡◌, ap, ◌∙◌}
 use mathlib.Core.Bool.{false}
 use lib.ListN.{length, length-append}
 use Rattle.frame.specs.declared.entry.Frame.{Frame}
-use Rattle.frame.specs.Frames.{frameWords}
-use Rattle.office.specs.Steps.{ownTo}
-use Rattle.writing.specs.Writes.{started, framesIn, allFrames}
-use Rattle.writing.proofs.Sends.{frame-le, frames-le, alone}
+use Rattle.frame.specs.Frames.{frame_words}
+use Rattle.office.specs.Steps.{own_to}
+use Rattle.writing.specs.Writes.{started, frames_in, all_frames}
+use Rattle.writing.proofs.Sends.{frame_le, frames_le, alone}
 use borrow.Author.Rules.{rules}
 use Rattle.writing.proofs.send.all_words.Statement.{statement}
 use Rattle.writing.proofs.send.all_words.Tie as tie
@@ -36,17 +36,17 @@ add-result c =
     let w = c.before.before.before in
     let z = w.before.before in
     let n = z.args.n in
-    let l : w.words_of.result ≡ length (frameWords (started n z.args.e)) = w.words_of.ensures ∙ ap (λ (f : Frame). length (frameWords f)) w.before.started.ensures in
-    omega (arith, frames-le z.args.held n z.args.s.own z.args.s.count z.requires.2, frame-le false n z.args.e z.requires.2)
+    let l : w.words_of.result ≡ length (frame_words (started n z.args.e)) = w.words_of.ensures ∙ ap (λ (f : Frame). length (frame_words f)) w.before.started.ensures in
+    omega (arith, frames_le z.args.held n z.args.s.own z.args.s.count z.requires.2, frame_le false n z.args.e z.requires.2)
 
 returns-2 : tie.Need-returns-2
-unfolding allFrames
+unfolding all_frames
 returns-2 c =
     let w = c.before.before.before in
     let z = w.before.before in
     let n = z.args.n in
-    let l : w.words_of.result ≡ length (frameWords (started n z.args.e)) = w.words_of.ensures ∙ ap (λ (f : Frame). length (frameWords f)) w.before.started.ensures in
-    omega (arith, length-append (framesIn z.args.held n (ownTo z.args.s.own z.args.s.count)) (frameWords (started n z.args.e)))
+    let l : w.words_of.result ≡ length (frame_words (started n z.args.e)) = w.words_of.ensures ∙ ap (λ (f : Frame). length (frame_words f)) w.before.started.ensures in
+    omega (arith, length-append (frames_in z.args.held n (own_to z.args.s.own z.args.s.count)) (frame_words (started n z.args.e)))
 
 pub all-words-spec : {M : Type 1} → statement M
 all-words-spec =

@@ -2,24 +2,24 @@ use Prim.Native.Nat.{ℕ, ◌-◌, ◌≤◌}
 use mathlib.Core.Path.{◌≡◌, sym, ap, ◌∙◌}
 use native.Mathlib.Omega.{arith}
 use lib.ListN.{length}
-use Rattle.office.specs.Steps.{own_at, ownTo}
-use Rattle.writing.specs.Writes.{framesIn}
-use Rattle.causal.specs.Sets.{isIn}
+use Rattle.office.specs.Steps.{own_at, own_to}
+use Rattle.writing.specs.Writes.{frames_in}
+use Rattle.causal.specs.Sets.{is_in}
 use Rattle.frame.specs.Entries.{id_of}
-use Rattle.writing.proofs.Sends.{length_more, frames-start, frame-le, frames-le}
+use Rattle.writing.proofs.Sends.{length_more, frames_start, frame_le, frames_le}
 use borrow.Author.Rules.{rules}
 use Rattle.writing.proofs.send.own_words.Statement.{statement}
 use Rattle.writing.proofs.send.own_words.Tie as tie
 
 abbrev invariant-loop : tie.invariant-loop
-invariant-loop held n count own words₀ i₀ words i = (i ≤ count) × (words ≡ length (framesIn held n (ownTo own i)))
+invariant-loop held n count own words₀ i₀ words i = (i ≤ count) × (words ≡ length (frames_in held n (own_to own i)))
 
 abbrev decreases-loop : tie.decreases-loop
 decreases-loop held n count own words₀ i₀ words i = count - i
 
 loop-holds : tie.Need-loop-init invariant-loop decreases-loop
 loop-holds c = let s = c in
-    (search rules, ap length (sym (frames-start s.args.held s.args.n s.args.t3)))
+    (search rules, ap length (sym (frames_start s.args.held s.args.n s.args.t3)))
 
 mul-e : tie.Need-overflow-mul-e invariant-loop decreases-loop
 mul-e c = search rules
@@ -33,7 +33,7 @@ turn-words-requires c κs = search rules
 add_words : tie.Need-overflow-add-words invariant-loop decreases-loop
 add_words c = let s = c.before.before.before.before in
     let i = c.before.before.before.loop.i in
-    omega (arith, frames-le s.args.held s.args.n s.args.t3 i s.requires.2, frame-le (isIn s.args.held (id_of (own_at s.args.t3 i))) s.args.n (own_at s.args.t3 i) s.requires.2)
+    omega (arith, frames_le s.args.held s.args.n s.args.t3 i s.requires.2, frame_le (is_in s.args.held (id_of (own_at s.args.t3 i))) s.args.n (own_at s.args.t3 i) s.requires.2)
 
 add-i : tie.Need-overflow-add-i invariant-loop decreases-loop
 add-i c = search rules
@@ -47,7 +47,7 @@ loop-again c = let s = c.before.before.before.before in
 
 returns : tie.Need-returns invariant-loop decreases-loop
 returns c = let s = c.before.before in
-    c.before.loop.invariant.1 ∙ ap (λ (i : ℕ). length (framesIn s.args.held s.args.n (ownTo s.args.t3 i))) (omega arith)
+    c.before.loop.invariant.1 ∙ ap (λ (i : ℕ). length (frames_in s.args.held s.args.n (own_to s.args.t3 i))) (omega arith)
 
 pub own-words-spec : {M : Type 1} → statement M
 own-words-spec =

@@ -3,7 +3,7 @@ use Rattle.frame.specs.declared.entry.Frame.{Frame}
 use native.Mathlib.Omega.{arith}
 use lib.ListN.{length}
 use Rattle.writing.specs.Writes.{started}
-use Rattle.frame.specs.Frames.{frameWords}
+use Rattle.frame.specs.Frames.{frame_words}
 use Rattle.writing.proofs.Sends.{skipped, sent}
 use borrow.Author.Rules.{rules}
 use Rattle.writing.proofs.send.turn_words.Statement.{statement}
@@ -28,7 +28,7 @@ words-of-requires c κs = let q : c.started.result.offices ≡ c.before.before.b
 
 returns-2 : tie.Need-returns-2
 returns-2 c = let s = c.before.before.before.before.before in
-    c.words_of.ensures ∙ ap length (ap frameWords c.before.started.ensures ∙ sent s.args.held s.args.n s.args.e _ _ c.before.before.before.before.id-of.ensures c.before.before.before.contains.ensures c.before.before.if1.false)
+    c.words_of.ensures ∙ ap length (ap frame_words c.before.started.ensures ∙ sent s.args.held s.args.n s.args.e _ _ c.before.before.before.before.id-of.ensures c.before.before.before.contains.ensures c.before.before.if1.false)
 
 pub turn-words-spec : {M : Type 1} → statement M
 turn-words-spec =

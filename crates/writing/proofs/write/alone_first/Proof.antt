@@ -1,10 +1,10 @@
 use native.Mathlib.Omega.{arith}
 use mathlib.Core.Path.{refl, sym, ◌∙◌}
 use lib.ListN.{get_or}
-use Rattle.causal.proofs.Codes.{lt-code-fails, lt-code-passes}
+use Rattle.causal.proofs.Codes.{lt_code_fails, lt_code_passes}
 use Rattle.store.proofs.Rules.{laid}
 use Rattle.office.specs.Decide.{bare}
-use Rattle.office.proofs.Numbers.{start-facts}
+use Rattle.office.proofs.Numbers.{start_facts}
 use Rattle.writing.proofs.EarlyCodes.{first_stops, first_goes}
 use borrow.Author.Rules.{rules}
 use Rattle.writing.proofs.write.alone_first.Statement.{statement}
@@ -30,7 +30,7 @@ shared-slice-read-if2 c =
     let k = t.before in
     let z = k.before.before.before in
     let ws = z.args.store.now in
-    let f = start-facts ws (bare z.args.offices z.args.clock z.args.read) (sym k.alone-code.ensures ∙ t.if1.false) in
+    let f = start_facts ws (bare z.args.offices z.args.clock z.args.read) (sym k.alone-code.ensures ∙ t.if1.false) in
     omega (arith, (laid ws f.0).long)
 
 returns-2 : tie.Need-returns-2
@@ -39,7 +39,7 @@ returns-2 c =
     let k = t.before in
     let z = k.before.before.before in
     let ws = z.args.store.now in
-    let four = lt-code-fails z.args.plot (get_or ws 2 0) 4 _ c.if2.true in
+    let four = lt_code_fails z.args.plot (get_or ws 2 0) 4 _ c.if2.true in
     first_goes ws (bare z.args.offices z.args.clock z.args.read) z.args.plot z.args.value _ k.alone-code.ensures 4 t.if1.false four
 
 returns-3 : tie.Need-returns-3
@@ -48,9 +48,9 @@ returns-3 c =
     let k = t.before in
     let z = k.before.before.before in
     let ws = z.args.store.now in
-    let five = lt-code-fails z.args.value 268435456 5 0 c.if3.true in
+    let five = lt_code_fails z.args.value 268435456 5 0 c.if3.true in
     first_goes ws (bare z.args.offices z.args.clock z.args.read) z.args.plot z.args.value _ k.alone-code.ensures 5 t.if1.false
-    (lt-code-passes 5 z.args.plot (get_or ws 2 0) 4 _ c.before.if2.false five)
+    (lt_code_passes 5 z.args.plot (get_or ws 2 0) 4 _ c.before.if2.false five)
 
 returns-4 : tie.Need-returns-4
 returns-4 c =
@@ -58,9 +58,9 @@ returns-4 c =
     let k = t.before in
     let z = k.before.before.before in
     let ws = z.args.store.now in
-    let none = lt-code-passes 0 z.args.value 268435456 5 0 c.if3.false refl in
+    let none = lt_code_passes 0 z.args.value 268435456 5 0 c.if3.false refl in
     first_goes ws (bare z.args.offices z.args.clock z.args.read) z.args.plot z.args.value _ k.alone-code.ensures 0 t.if1.false
-    (lt-code-passes 0 z.args.plot (get_or ws 2 0) 4 _ c.before.if2.false none)
+    (lt_code_passes 0 z.args.plot (get_or ws 2 0) 4 _ c.before.if2.false none)
 
 pub alone-first-spec : {M : Type 1} → statement M
 alone-first-spec =

@@ -6,10 +6,10 @@ use lib.ListN.{get_or, set}
 use Rattle.causal.specs.Clocks.{join}
 use Rattle.causal.specs.Sets.{unite}
 use Rattle.frame.specs.Sessions.{ids_of}
-use Rattle.store.specs.Offices.{officeOf, made, clockOf}
+use Rattle.store.specs.Offices.{office_of, made, clock_of}
 use Rattle.store.proofs.Rules.{laid}
-use Rattle.office.specs.Calls.{newEntry}
-use Rattle.writing.proofs.Writes.{made-le}
+use Rattle.office.specs.Calls.{new_entry}
+use Rattle.writing.proofs.Writes.{made_le}
 use borrow.Author.Rules.{rules}
 use Rattle.writing.proofs.write.entry_by.Statement.{statement}
 use Rattle.writing.proofs.write.entry_by.Tie as tie
@@ -22,7 +22,7 @@ made-requires : tie.Need-made-requires
 made-requires c κs = laid c.before.before.args.store.now c.before.before.requires
 
 add-serial : tie.Need-overflow-add-serial
-add-serial c = omega (arith, c.made.ensures, made-le (officeOf c.before.before.before.args.store.now))
+add-serial c = omega (arith, c.made.ensures, made_le (office_of c.before.before.before.args.store.now))
 
 office-clock-requires : tie.Need-office-clock-requires
 office-clock-requires c κs = search rules
@@ -43,13 +43,13 @@ union-requires : tie.Need-union-requires
 union-requires c κs = search rules
 
 returns : tie.Need-returns
-unfolding newEntry officeOf
+unfolding new_entry office_of
 returns c =
     let z = c.before.before.before.before.before.before in
     let ws = z.args.store.now in
-    let m : c.before.before.before.made.result ≡ made (officeOf ws) = c.before.before.before.made.ensures in
+    let m : c.before.before.before.made.result ≡ made (office_of ws) = c.before.before.before.made.ensures in
     λ s a b o.
-    let k : set c.before.join.result (get_or ws 1 0) (c.before.before.before.made.result + 1) ≡ set (join (clockOf (officeOf ws)) s.clock) (get_or ws 1 0) (made (officeOf ws) + 1) =
+    let k : set c.before.join.result (get_or ws 1 0) (c.before.before.before.made.result + 1) ≡ set (join (clock_of (office_of ws)) s.clock) (get_or ws 1 0) (made (office_of ws) + 1) =
     ap₂ (λ (x : List ℕ) (y : ℕ). set x (get_or ws 1 0) (y + 1)) (c.before.join.ensures ∙ ap₂ join c.before.before.office-clock.ensures (sym a)) m
     in
     let d : c.union.result ≡ unite s.read (ids_of s.own) = c.union.ensures ∙ ap₂ unite (sym b) (sym o) in

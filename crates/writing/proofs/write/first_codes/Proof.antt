@@ -1,10 +1,10 @@
 use native.Mathlib.Omega.{arith}
 use mathlib.Core.Path.{refl, sym, ◌∙◌}
 use lib.ListN.{get_or}
-use Rattle.causal.proofs.Codes.{lt-code-fails, lt-code-passes}
-use Rattle.frame.specs.Sessions.{contentOf}
+use Rattle.causal.proofs.Codes.{lt_code_fails, lt_code_passes}
+use Rattle.frame.specs.Sessions.{content_of}
 use Rattle.store.proofs.Rules.{laid}
-use Rattle.office.proofs.Numbers.{start-facts}
+use Rattle.office.proofs.Numbers.{start_facts}
 use Rattle.writing.proofs.EarlyCodes.{first_stops, first_goes}
 use borrow.Author.Rules.{rules}
 use Rattle.writing.proofs.write.first_codes.Statement.{statement}
@@ -25,7 +25,7 @@ returns : tie.Need-returns
 returns c =
     let k = c.before in
     let z = k.before.before.before.before.before.before in
-    first_stops z.args.store.now (contentOf z.args.s) z.args.plot z.args.value _ k.start-code.ensures c.if1.true
+    first_stops z.args.store.now (content_of z.args.s) z.args.plot z.args.value _ k.start-code.ensures c.if1.true
 
 shared-slice-read-if2 : tie.Need-shared-slice-read-if2
 shared-slice-read-if2 c =
@@ -33,7 +33,7 @@ shared-slice-read-if2 c =
     let k = t.before in
     let z = k.before.before.before.before.before.before in
     let ws = z.args.store.now in
-    let f = start-facts ws (contentOf z.args.s) (sym k.start-code.ensures ∙ t.if1.false) in
+    let f = start_facts ws (content_of z.args.s) (sym k.start-code.ensures ∙ t.if1.false) in
     omega (arith, (laid ws f.0).long)
 
 returns-2 : tie.Need-returns-2
@@ -42,8 +42,8 @@ returns-2 c =
     let k = t.before in
     let z = k.before.before.before.before.before.before in
     let ws = z.args.store.now in
-    let four = lt-code-fails z.args.plot (get_or ws 2 0) 4 _ c.if2.true in
-    first_goes ws (contentOf z.args.s) z.args.plot z.args.value _ k.start-code.ensures 4 t.if1.false four
+    let four = lt_code_fails z.args.plot (get_or ws 2 0) 4 _ c.if2.true in
+    first_goes ws (content_of z.args.s) z.args.plot z.args.value _ k.start-code.ensures 4 t.if1.false four
 
 returns-3 : tie.Need-returns-3
 returns-3 c =
@@ -51,9 +51,9 @@ returns-3 c =
     let k = t.before in
     let z = k.before.before.before.before.before.before in
     let ws = z.args.store.now in
-    let five = lt-code-fails z.args.value 268435456 5 0 c.if3.true in
-    first_goes ws (contentOf z.args.s) z.args.plot z.args.value _ k.start-code.ensures 5 t.if1.false
-    (lt-code-passes 5 z.args.plot (get_or ws 2 0) 4 _ c.before.if2.false five)
+    let five = lt_code_fails z.args.value 268435456 5 0 c.if3.true in
+    first_goes ws (content_of z.args.s) z.args.plot z.args.value _ k.start-code.ensures 5 t.if1.false
+    (lt_code_passes 5 z.args.plot (get_or ws 2 0) 4 _ c.before.if2.false five)
 
 returns-4 : tie.Need-returns-4
 returns-4 c =
@@ -61,9 +61,9 @@ returns-4 c =
     let k = t.before in
     let z = k.before.before.before.before.before.before in
     let ws = z.args.store.now in
-    let none = lt-code-passes 0 z.args.value 268435456 5 0 c.if3.false refl in
-    first_goes ws (contentOf z.args.s) z.args.plot z.args.value _ k.start-code.ensures 0 t.if1.false
-    (lt-code-passes 0 z.args.plot (get_or ws 2 0) 4 _ c.before.if2.false none)
+    let none = lt_code_passes 0 z.args.value 268435456 5 0 c.if3.false refl in
+    first_goes ws (content_of z.args.s) z.args.plot z.args.value _ k.start-code.ensures 0 t.if1.false
+    (lt_code_passes 0 z.args.plot (get_or ws 2 0) 4 _ c.before.if2.false none)
 
 pub first-codes-spec : {M : Type 1} → statement M
 first-codes-spec =

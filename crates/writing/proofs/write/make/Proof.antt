@@ -3,15 +3,15 @@ use native.Mathlib.Omega.{arith}
 use mathlib.Core.Path.{◌≡◌, refl, sym, ap, ◌∙◌}
 use lib.ListN.{length, get_or}
 use Rattle.frame.specs.Refusals.{number_of}
-use Rattle.frame.specs.Sessions.{contentOf}
+use Rattle.frame.specs.Sessions.{content_of}
 use Rattle.frame.specs.declared.refusal.Refusal.TheVariants.{Room}
-use Rattle.store.specs.Offices.{officeOf, soundStore}
+use Rattle.store.specs.Offices.{office_of, sound_store}
 use Rattle.office.specs.Answers.{extended_by}
 use Rattle.store.proofs.Rules.{laid}
-use Rattle.writing.proofs.EarlyCodes.{early-le}
-use Rattle.office.proofs.Shape.{session-sane}
+use Rattle.writing.proofs.EarlyCodes.{early_le}
+use Rattle.office.proofs.Shape.{session_sane}
 use Rattle.office.proofs.Slots.{settings}
-use Rattle.writing.proofs.Writes.{ready, few, none-new, slots, frames, new-slot, new-frame, store-left, row-left, write-early, write-late, write_done, not_made, made-is}
+use Rattle.writing.proofs.Writes.{ready, few, none_new, slots, frames, new_slot, new_frame, store_left, row_left, write_early, write_late, write_done, not_made, made_is}
 use borrow.Author.Rules.{rules}
 use Rattle.writing.proofs.write.make.Statement.{statement}
 use Rattle.writing.proofs.write.make.Tie as tie
@@ -27,7 +27,7 @@ refusal-of-requires c κs =
     let k = c.before in
     let z = k.before.before.before.before in
     let ws = z.args.store.now in
-    let l = early-le (soundStore ws) (officeOf ws) (contentOf z.args.s) z.args.plot z.args.value in
+    let l = early_le (sound_store ws) (office_of ws) (content_of z.args.s) z.args.plot z.args.value in
     (omega (arith, c.if1.true), omega (arith, k.early-code.ensures, l))
 
 not-made-requires : tie.Need-not-made-requires
@@ -41,7 +41,7 @@ returns c =
     let k = c.before.before.before in
     let z = k.before.before.before.before in
     let x = c.before.refusal-of in
-    let w = write-early z.args.store.now z.args.s z.args.plot z.args.value z.args.out.now _ k.early-code.ensures c.before.before.if1.true in
+    let w = write_early z.args.store.now z.args.s z.args.plot z.args.value z.args.out.now _ k.early-code.ensures c.before.before.if1.true in
     not_made z.args.store.now z.args.s z.args.plot z.args.value z.args.out.now _ _ x.result c.not_made.ensures.0 c.not_made.ensures.1
     (λ (q : number_of x.result ≡ 0). c.before.before.if1.true (sym x.ensures ∙ q))
     (rw x.ensures w)
@@ -111,7 +111,7 @@ all-words-requires c κs =
     let ws = z.args.store.now in
     let none = sym k.early-code.ensures ∙ t.if1.false in
     let R = ready ws s z.args.plot z.args.value none in
-    let all = none-new ws s R.sound R.session o.own-ids.result h.set_at.result b.subset.result o.own-ids.ensures b.subset.ensures in
+    let all = none_new ws s R.sound R.session o.own-ids.result h.set_at.result b.subset.result o.own-ids.ensures b.subset.ensures in
     (omega (arith, few ws s z.args.plot z.args.value R), (settings ws R.sound).low, (settings ws R.sound).high, all)
 
 not-made-requires-2 : tie.Need-not-made-requires-2
@@ -121,7 +121,7 @@ same-length-2 : tie.Need-same-length-2
 same-length-2 c = search rules
 
 returns-2 : tie.Need-returns-2
-unfolding number_of contentOf
+unfolding number_of content_of
 returns-2 c =
     let w = c.before.before in
     let b = w.before in
@@ -134,13 +134,13 @@ returns-2 c =
     let s = z.args.s in
     let ws = z.args.store.now in
     let none = sym k.early-code.ensures ∙ t.if1.false in
-    let made = e.entry-by.ensures (contentOf s) refl refl (sym o.own-ids.ensures) in
-    let r = row-left ws s z.args.plot z.args.value h.set_at.result e.entry-by.result h.set_at.ensures made in
+    let made = e.entry-by.ensures (content_of s) refl refl (sym o.own-ids.ensures) in
+    let r = row_left ws s z.args.plot z.args.value h.set_at.result e.entry-by.result h.set_at.ensures made in
     not_made ws s z.args.plot z.args.value z.args.out.now _ _ Room c.not-made2.ensures.0 c.not-made2.ensures.1 (λ (q : 8 ≡ 0). omega arith)
-    (write-late ws s z.args.plot z.args.value z.args.out.now none (omega (arith, ap length r, w.All-words.ensures, c.before.if2.true)))
+    (write_late ws s z.args.plot z.args.value z.args.out.now none (omega (arith, ap length r, w.All-words.ensures, c.before.if2.true)))
 
 put-all-requires : tie.Need-put-all-requires
-unfolding contentOf
+unfolding content_of
 put-all-requires c κs =
     let u = c.before in
     let w = u.before in
@@ -155,16 +155,16 @@ put-all-requires c κs =
     let ws = z.args.store.now in
     let none = sym k.early-code.ensures ∙ t.if1.false in
     let R = ready ws s z.args.plot z.args.value none in
-    let N = session-sane s _ z.well-formed.1.0 (omega (arith, few ws s z.args.plot z.args.value R)) in
+    let N = session_sane s _ z.well-formed.1.0 (omega (arith, few ws s z.args.plot z.args.value R)) in
     let fit : (i : ℕ) → get_or ws i 0 < 2 ^ 32 = λ i. (k.before.before.before.slice-known.given i).fits in
-    let made = e.entry-by.ensures (contentOf s) refl refl (sym o.own-ids.ensures) in
-    let all = none-new ws s R.sound R.session o.own-ids.result h.set_at.result b.subset.result o.own-ids.ensures b.subset.ensures in
-    let new = new-frame ws s z.args.plot z.args.value R fit N e.entry-by.result made in
+    let made = e.entry-by.ensures (content_of s) refl refl (sym o.own-ids.ensures) in
+    let all = none_new ws s R.sound R.session o.own-ids.result h.set_at.result b.subset.result o.own-ids.ensures b.subset.ensures in
+    let new = new_frame ws s z.args.plot z.args.value R fit N e.entry-by.result made in
     let count = few ws s z.args.plot z.args.value R in
     (omega (arith, count), frames ws s R.sound R.session, all, new, omega (arith, w.All-words.ensures, u.if2.false))
 
 hold-all-requires : tie.Need-hold-all-requires
-unfolding contentOf
+unfolding content_of
 hold-all-requires c κs =
     let p = c.before.before.before in
     let b = p.before.before.before.before in
@@ -178,11 +178,11 @@ hold-all-requires c κs =
     let ws = z.args.store.now in
     let none = sym k.early-code.ensures ∙ t.if1.false in
     let R = ready ws s z.args.plot z.args.value none in
-    let N = session-sane s _ z.well-formed.1.0 (omega (arith, few ws s z.args.plot z.args.value R)) in
+    let N = session_sane s _ z.well-formed.1.0 (omega (arith, few ws s z.args.plot z.args.value R)) in
     let fit : (i : ℕ) → get_or ws i 0 < 2 ^ 32 = λ i. (k.before.before.before.slice-known.given i).fits in
-    let made = e.entry-by.ensures (contentOf s) refl refl (sym o.own-ids.ensures) in
-    let all = none-new ws s R.sound R.session o.own-ids.result h.set_at.result b.subset.result o.own-ids.ensures b.subset.ensures in
-    let new = new-slot ws s z.args.plot z.args.value R fit N e.entry-by.result made in
+    let made = e.entry-by.ensures (content_of s) refl refl (sym o.own-ids.ensures) in
+    let all = none_new ws s R.sound R.session o.own-ids.result h.set_at.result b.subset.result o.own-ids.ensures b.subset.ensures in
+    let new = new_slot ws s z.args.plot z.args.value R fit N e.entry-by.result made in
     (omega (arith, few ws s z.args.plot z.args.value R), slots ws s R.sound R.session, all, new)
 
 same-length-3 : tie.Need-same-length-3
@@ -192,7 +192,7 @@ same-length-4 : tie.Need-same-length-4
 same-length-4 c = search rules
 
 returns-3 : tie.Need-returns-3
-unfolding contentOf
+unfolding content_of
 returns-3 c =
     let d = c.before.before in
     let p = d.before.before.before.before in
@@ -209,13 +209,13 @@ returns-3 c =
     let ws = z.args.store.now in
     let none = sym k.early-code.ensures ∙ t.if1.false in
     let R = ready ws s z.args.plot z.args.value none in
-    let N = session-sane s _ z.well-formed.1.0 (omega (arith, few ws s z.args.plot z.args.value R)) in
+    let N = session_sane s _ z.well-formed.1.0 (omega (arith, few ws s z.args.plot z.args.value R)) in
     let fit : (i : ℕ) → get_or ws i 0 < 2 ^ 32 = λ i. (k.before.before.before.slice-known.given i).fits in
-    let made = e.entry-by.ensures (contentOf s) refl refl (sym o.own-ids.ensures) in
+    let made = e.entry-by.ensures (content_of s) refl refl (sym o.own-ids.ensures) in
     let held = h.set_at in
     let new = e.entry-by in
-    let left = d.hold-all.ensures ∙ store-left ws s z.args.plot z.args.value R fit N held.result new.result held.ensures made in
-    made-is ws s z.args.plot z.args.value z.args.out.now p.put_all.result new.result _ _ made
+    let left = d.hold-all.ensures ∙ store_left ws s z.args.plot z.args.value R fit N held.result new.result held.ensures made in
+    made_is ws s z.args.plot z.args.value z.args.out.now p.put_all.result new.result _ _ made
     (write_done ws s z.args.plot z.args.value z.args.out.now none p.put_all.result (extended_by s new.result) _ _ held.result new.result held.ensures made
     (omega (arith, w.All-words.ensures, u.if2.false)) p.put_all.ensures.0 refl left p.put_all.ensures.1)
 

@@ -4,20 +4,20 @@ use mathlib.Core.Path.{◌≡◌, refl, sym, ap, ◌∙◌}
 use mathlib.Core.List.{[]}
 use lib.ListN.{length, get_or}
 use Rattle.causal.specs.Lists.{part, tab}
-use Rattle.causal.proofs.Array.{id-set}
+use Rattle.causal.proofs.Array.{id_set}
 use Rattle.frame.specs.Refusals.{number_of}
 use Rattle.frame.specs.declared.refusal.Refusal.TheVariants.{Room}
-use Rattle.frame.specs.Sessions.{contentOf, ids_of}
-use Rattle.store.specs.Offices.{officeOf, soundStore}
+use Rattle.frame.specs.Sessions.{content_of, ids_of}
+use Rattle.store.specs.Offices.{office_of, sound_store}
 use Rattle.store.proofs.Rules.{laid}
 use Rattle.office.specs.Answers.{extended_by}
 use Rattle.office.specs.Decide.{alone, bare}
-use Rattle.office.specs.Steps.{holdsIn}
-use Rattle.writing.specs.Writes.{allFrames, framesIn}
-use Rattle.office.proofs.Alone.{bare-sane}
-use Rattle.writing.proofs.EarlyCodes.{early-le}
+use Rattle.office.specs.Steps.{holds_in}
+use Rattle.writing.specs.Writes.{all_frames, frames_in}
+use Rattle.office.proofs.Alone.{bare_sane}
+use Rattle.writing.proofs.EarlyCodes.{early_le}
 use Rattle.office.proofs.Slots.{settings}
-use Rattle.writing.proofs.Writes.{ready, new-slot, new-frame, store-left, row-left, write-early, write-late, write_done, not_made, made-is}
+use Rattle.writing.proofs.Writes.{ready, new_slot, new_frame, store_left, row_left, write_early, write_late, write_done, not_made, made_is}
 use borrow.Author.Rules.{rules}
 use Rattle.writing.proofs.write.make_alone.Statement.{statement}
 use Rattle.writing.proofs.write.make_alone.Tie as tie
@@ -30,7 +30,7 @@ refusal-of-requires c κs =
     let k = c.before in
     let z = k.before.before.before.before in
     let ws = z.args.store.now in
-    let l = early-le (soundStore ws) (officeOf ws) (bare z.args.offices z.args.clock z.args.read) z.args.plot z.args.value in
+    let l = early_le (sound_store ws) (office_of ws) (bare z.args.offices z.args.clock z.args.read) z.args.plot z.args.value in
     (omega (arith, c.if1.true), omega (arith, k.alone-early.ensures, l))
 
 not-made-requires : tie.Need-not-made-requires
@@ -40,20 +40,20 @@ same_length : tie.Need-same-length
 same_length c = search rules
 
 returns : tie.Need-returns
-unfolding contentOf tab
+unfolding content_of tab
 returns c =
     let k = c.before.before.before in
     let z = k.before.before.before.before in
     let x = c.before.refusal-of in
     λ own.
     let s = (alone z.args.offices z.args.clock z.args.read own) in
-    let w = write-early z.args.store.now s z.args.plot z.args.value z.args.out.now _ k.alone-early.ensures c.before.before.if1.true in
+    let w = write_early z.args.store.now s z.args.plot z.args.value z.args.out.now _ k.alone-early.ensures c.before.before.if1.true in
     not_made z.args.store.now s z.args.plot z.args.value z.args.out.now _ _ x.result c.not_made.ensures.0 c.not_made.ensures.1
     (λ (q : number_of x.result ≡ 0). c.before.before.if1.true (sym x.ensures ∙ q))
     (rw x.ensures w)
 
 entry-by-requires : tie.Need-entry-by-requires
-unfolding contentOf tab
+unfolding content_of tab
 entry-by-requires c κs =
     let t = c.before in
     let k = t.before in
@@ -65,7 +65,7 @@ entry-by-requires c κs =
     R.sound
 
 slice-read-n : tie.Need-slice-read-n
-unfolding contentOf tab
+unfolding content_of tab
 slice-read-n c =
     let t = c.before.before.before in
     let k = t.before in
@@ -77,7 +77,7 @@ slice-read-n c =
     let l : 0 < length ws = omega (arith, (laid ws R.sound).long) in l
 
 words-alone-requires : tie.Need-words-alone-requires
-unfolding contentOf tab
+unfolding content_of tab
 words-alone-requires c κs =
     let t = c.before.before.before in
     let k = t.before in
@@ -95,7 +95,7 @@ same-length-2 : tie.Need-same-length-2
 same-length-2 c = search rules
 
 returns-2 : tie.Need-returns-2
-unfolding contentOf tab number_of allFrames framesIn ids_of
+unfolding content_of tab number_of all_frames frames_in ids_of
 returns-2 c =
     let t = c.before.before.before.before.before.before in
     let k = t.before in
@@ -106,12 +106,12 @@ returns-2 c =
     let made = new.ensures (bare z.args.offices z.args.clock z.args.read) refl refl refl in
     λ own.
     let s = (alone z.args.offices z.args.clock z.args.read own) in
-    let r = row-left ws s z.args.plot z.args.value (part ws 3 8) new.result refl made in
+    let r = row_left ws s z.args.plot z.args.value (part ws 3 8) new.result refl made in
     not_made ws s z.args.plot z.args.value z.args.out.now _ _ Room c.not-made2.ensures.0 c.not-made2.ensures.1 (λ (q : 8 ≡ 0). omega arith)
-    (write-late ws s z.args.plot z.args.value z.args.out.now none (omega (arith, ap length r, c.before.before.words-alone.ensures, c.before.if2.true)))
+    (write_late ws s z.args.plot z.args.value z.args.out.now none (omega (arith, ap length r, c.before.before.words-alone.ensures, c.before.if2.true)))
 
 put-alone-requires : tie.Need-put-alone-requires
-unfolding contentOf tab ids_of
+unfolding content_of tab ids_of
 put-alone-requires c κs =
     let t = c.before.before.before.before.before.before in
     let k = t.before in
@@ -121,16 +121,16 @@ put-alone-requires c κs =
     let s = (alone z.args.offices z.args.clock z.args.read []) in
     let R = ready ws s z.args.plot z.args.value none in
     let eight : length z.args.clock ≡ 8 = search rules in
-    let N = bare-sane z.args.offices z.args.clock z.args.read eight (id-set z.args.read z.well-formed.1.1.1.0) in
+    let N = bare_sane z.args.offices z.args.clock z.args.read eight (id_set z.args.read z.well-formed.1.1.1.0) in
     let fit : (i : ℕ) → get_or ws i 0 < 2 ^ 32 = λ i. (k.before.before.before.slice-known.given i).fits in
     let new = c.before.before.before.before.entry-by in
     let made = new.ensures (bare z.args.offices z.args.clock z.args.read) refl refl refl in (
-      new-frame ws s z.args.plot z.args.value R fit N new.result made,
+      new_frame ws s z.args.plot z.args.value R fit N new.result made,
       omega (arith, c.before.before.words-alone.ensures, c.before.if2.false),
     )
 
 hold-requires : tie.Need-hold-requires
-unfolding contentOf tab ids_of
+unfolding content_of tab ids_of
 hold-requires c κs =
     let t = c.before.before.before.before.before.before.before.before.before.before in
     let k = t.before in
@@ -140,11 +140,11 @@ hold-requires c κs =
     let s = (alone z.args.offices z.args.clock z.args.read []) in
     let R = ready ws s z.args.plot z.args.value none in
     let eight : length z.args.clock ≡ 8 = search rules in
-    let N = bare-sane z.args.offices z.args.clock z.args.read eight (id-set z.args.read z.well-formed.1.1.1.0) in
+    let N = bare_sane z.args.offices z.args.clock z.args.read eight (id_set z.args.read z.well-formed.1.1.1.0) in
     let fit : (i : ℕ) → get_or ws i 0 < 2 ^ 32 = λ i. (k.before.before.before.slice-known.given i).fits in
     let new = c.before.before.before.before.before.before.before.before.entry-by in
     let made = new.ensures (bare z.args.offices z.args.clock z.args.read) refl refl refl in
-    new-slot ws s z.args.plot z.args.value R fit N new.result made
+    new_slot ws s z.args.plot z.args.value R fit N new.result made
 
 same-length-3 : tie.Need-same-length-3
 same-length-3 c = search rules
@@ -153,7 +153,7 @@ same-length-4 : tie.Need-same-length-4
 same-length-4 c = search rules
 
 returns-3 : tie.Need-returns-3
-unfolding contentOf tab ids_of allFrames framesIn holdsIn
+unfolding content_of tab ids_of all_frames frames_in holds_in
 returns-3 c =
     let t = c.before.before.before.before.before.before.before.before.before.before.before.before.before in
     let k = t.before in
@@ -161,7 +161,7 @@ returns-3 c =
     let ws = z.args.store.now in
     let none = sym k.alone-early.ensures ∙ t.if1.false in
     let eight : length z.args.clock ≡ 8 = search rules in
-    let N = bare-sane z.args.offices z.args.clock z.args.read eight (id-set z.args.read z.well-formed.1.1.1.0) in
+    let N = bare_sane z.args.offices z.args.clock z.args.read eight (id_set z.args.read z.well-formed.1.1.1.0) in
     let fit : (i : ℕ) → get_or ws i 0 < 2 ^ 32 = λ i. (k.before.before.before.slice-known.given i).fits in
     let new = c.before.before.before.before.before.before.before.before.before.before.before.entry-by in
     let made = new.ensures (bare z.args.offices z.args.clock z.args.read) refl refl refl in
@@ -169,8 +169,8 @@ returns-3 c =
     λ own.
     let s = (alone z.args.offices z.args.clock z.args.read own) in
     let R = ready ws s z.args.plot z.args.value none in
-    let left = c.before.before.hold.ensures ∙ store-left ws s z.args.plot z.args.value R fit N (part ws 3 8) new.result refl made in
-    made-is ws s z.args.plot z.args.value z.args.out.now _ new.result _ _ made
+    let left = c.before.before.hold.ensures ∙ store_left ws s z.args.plot z.args.value R fit N (part ws 3 8) new.result refl made in
+    made_is ws s z.args.plot z.args.value z.args.out.now _ new.result _ _ made
     (write_done ws s z.args.plot z.args.value z.args.out.now none _ (extended_by s new.result) _ _ (part ws 3 8) new.result refl made
     (omega (arith, c.before.before.before.before.before.before.before.before.before.words-alone.ensures, c.before.before.before.before.before.before.before.before.if2.false)) put.0 refl left put.1)
 
