@@ -28,8 +28,6 @@ mod model;
 mod pasts;
 #[path = "../tests/host/random.rs"]
 mod random;
-#[path = "../tests/host/released.rs"]
-mod released;
 #[path = "../tests/host/report.rs"]
 mod report;
 #[path = "../tests/host/ring.rs"]
@@ -52,14 +50,12 @@ mod token_cases;
 mod tracked;
 #[path = "../tests/host/twin.rs"]
 mod twin;
-#[path = "../tests/host/week.rs"]
-mod week;
 
 use fast::queue::{Queue, WAITING};
 use fast_words::Words;
 use random::Random;
 use report::Report;
-use script_cases::{edge_scripts, some_script, week as week_script};
+use script_cases::{edge_scripts, some_script};
 use std::collections::VecDeque;
 use std::io::Read;
 use std::process::ExitCode;
@@ -96,9 +92,7 @@ const ACCEPTED: &[&str] = &[
     "read_joint: goes together",
     "read_joint: keeps the session's past",
     "read_joint: keeps both pasts",
-    "read_joint: keeps what was released",
     "write: later by a joined session",
-    "write: depends on what was released",
     "write: accepted",
     "write: carried",
     "receive: brought out",
@@ -181,9 +175,6 @@ fn scripts(random: &mut Random, mut report: Report) -> Report {
     for script in edge_scripts() {
         compare(&mut report, "script: edges", &script, random);
     }
-    for reads in [true, false] {
-        compare(&mut report, "script: weeks", &week_script(reads), random);
-    }
     for _ in 0..100 {
         compare(&mut report, "script: long lines", LONG_LINES.as_bytes(), random);
     }
@@ -205,10 +196,6 @@ fn offices(random: Random, report: Report) -> (Random, Report) {
     (0..12_000).for_each(|_| single::calls(&mut twin));
     (0..2_000).for_each(|_| single::any_words(&mut twin));
     (0..200).for_each(|_| ring::play(&mut twin));
-    for offices in 2..=8 {
-        week::play(&mut twin, offices);
-        week::without_reading(&mut twin, offices);
-    }
     (twin.random, twin.report)
 }
 
@@ -235,10 +222,6 @@ fn main() -> ExitCode {
     queues(&mut random, &mut report);
     ACCEPTED.iter().for_each(|name| report.met(name));
     joint::ACCEPTED.iter().for_each(|name| report.met(&format!("read_joint: {name}")));
-    week::WEEK.iter().for_each(|name| report.met(&format!("week: {name}")));
-    for call in ["read_plot", "read_plot, lent", "read_joint", "read_joint, lent"] {
-        released::RELEASED.iter().for_each(|name| report.met(&format!("{call}: {name}")));
-    }
     swapped::ALIKE.iter().for_each(|name| report.met(&format!("join: {name}")));
     for (call, refusals) in OUTCOMES {
         refusals.iter().for_each(|refusal| report.met(&format!("{call}: refused {refusal}")));

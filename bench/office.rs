@@ -15,7 +15,7 @@ use office_calls::{
     Timed, JOIN, JOINT, JOINT_BY_VALUE, JOINT_OWN, LAST_HOP, MIDDLE, NEED, NO_STORE, PLOT, PLOTS,
     PLOT_BY_VALUE, READ_TOKEN, SETTINGS, WRITE, WRITE_BY_VALUE, WRITE_TOKEN,
 };
-use office_cases::{empty, full, joins, own_at_empty, own_at_full, releases, Case};
+use office_cases::{empty, full, joins, own_at_empty, own_at_full, Case};
 use std::time::Duration;
 
 const CALLS: [Timed; 14] = [
@@ -35,21 +35,13 @@ const CALLS: [Timed; 14] = [
     WRITE_TOKEN,
 ];
 
-/// A reading that is timed by what it releases: set back before each round also where that is nothing, so
-/// that these times stand beside each other.
-const fn by_release(timed: Timed) -> Timed {
-    Timed { changes: |_| true, ..timed }
-}
-
-const READINGS: [Timed; 3] = [by_release(PLOT), by_release(PLOT_BY_VALUE), by_release(JOINT)];
-
 const BUDGET: Duration = Duration::from_millis(150);
 
 fn print_row(timed: &Timed, store: &str, case: &Case) {
     let ways = [timed.archive(), timed.model(), timed.fast()];
-    let [archive, model, fast] = timing::best(timed.name, ways, (timed.changes)(case), case, BUDGET);
+    let [archive, model, fast] = timing::best(timed.name, ways, timed.changes, case, BUDGET);
     let (to_model, to_fast) = (archive / model, archive / fast);
-    print!("{:<18} {:>7} {store:>8} ", timed.name, case.offices);
+    print!("{:<18} {:>7} {store:>5} ", timed.name, case.offices);
     println!("{archive:>10.1} {model:>10.1} {fast:>10.1} {to_model:>9.2} {to_fast:>9.2}");
 }
 
@@ -59,13 +51,11 @@ takes it, and by value, there and back (1,360 bytes each way). All check store a
 Not timed: setting store, session and row back, which is done for a whole round before its clock starts.
 Empty: an office that holds nothing, a fresh session. Full: 32 entries of each office held and visible, less
 the one that a write or a frame brings; each depends on all before it; the session has read them all and
-carries 15, which a reading releases. The frame that an empty office hears is the smallest of its ring, the
-one that a full office hears the largest; from a middle office it goes on. No store: lent a store of no words
-and refused 2 at once, which leaves the cost of crossing.
+carries 15. The frame that an empty office hears is the smallest of its ring, the one that a full office hears
+the largest; from a middle office it goes on. No store: lent a store of no words and refused 2 at once, which
+leaves the cost of crossing.
 Of own entries: the session carries one on each of the four plots, new here and above what is visible there;
-at the empty office it carries only these, at the full one 11 more, which are released.
-Of readings with an 'of' in that column: the office holds 16 entries, all visible, and the reading releases so
-many of those that the session carries; the others are not held here.
+at the empty office it carries only these, at the full one 15, and those four are not held.
 A join has no store; in that column stands what the two sessions carry: nothing, 8 entries each and none in common, or
 16 that are the same, a session with itself. Both have read all that is in their ring. They cross by value; the model
 gets them lent.
@@ -85,20 +75,13 @@ fn cases(timed: &Timed, offices: u32) -> [Case; 2] {
 
 fn main() {
     println!("{TIMED}");
-    println!("                                        ns for each call                 archive's time by");
-    println!("call               offices    store    archive      model       fast     model      fast");
+    println!("                                     ns for each call                 archive's time by");
+    println!("call               offices store    archive      model       fast     model      fast");
     for timed in &CALLS {
         for offices in [3, 8] {
             let [empty, full] = cases(timed, offices);
             print_row(timed, "empty", &empty);
             print_row(timed, "full", &full);
-        }
-    }
-    for timed in &READINGS {
-        for offices in [3, 8] {
-            for (released, case) in &releases(offices) {
-                print_row(timed, released, case);
-            }
         }
     }
     for offices in [3, 8] {

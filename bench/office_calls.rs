@@ -19,13 +19,13 @@ pub struct Way {
     pub side: &'static Side,
 }
 
-/// A call on all sides; the model's is one of its own.
+/// A call on all sides; the model's is one of its own. One that changes what it is lent gets each copy once
+/// in a round.
 pub struct Timed {
     pub name: &'static str,
     pub call: Call,
     pub model: Call,
-    /// Whether it changes what it is lent, so that it has other work the next time.
-    pub changes: fn(&Case) -> bool,
+    pub changes: bool,
     /// The session has an own entry on each of PLOTS that stands above what is visible there.
     pub own: bool,
     pub spare: fn(u32) -> Option<(u32, u32)>,
@@ -235,29 +235,24 @@ fn model_write_token(_: &Side, _: &Case, lent: &mut Lent) {
 }
 
 /// A call that leaves what it is lent as it was.
-const fn asking(name: &'static str, call: Call, model: Call) -> Timed {
-    Timed { name, call, model, changes: |_| false, own: false, spare: |_| None, hops: |_| 0 }
-}
-
-/// A call that changes a session where it releases something; nothing else, since all is read already.
 const fn reading(name: &'static str, call: Call, model: Call) -> Timed {
-    Timed { changes: Case::releases, ..asking(name, call, model) }
+    Timed { name, call, model, changes: false, own: false, spare: |_| None, hops: |_| 0 }
 }
 
 /// A call that makes the office's entry 32.
 const fn writing(name: &'static str, call: Call) -> Timed {
     let (spare, hops) = (|_| Some((OWN, 32)), |_| 0);
-    Timed { name, call, model: model_write, changes: |_| true, own: false, spare, hops }
+    Timed { name, call, model: model_write, changes: true, own: false, spare, hops }
 }
 
 /// A call that takes a frame with one entry more.
 const fn receiving(name: &'static str, spare: fn(u32) -> Option<(u32, u32)>, hops: fn(u32) -> u32) -> Timed {
-    Timed { name, call: receive, model: model_receive, changes: |_| true, own: false, spare, hops }
+    Timed { name, call: receive, model: model_receive, changes: true, own: false, spare, hops }
 }
 
-pub const NEED: Timed = asking("store_need", need, model_need);
-pub const SETTINGS: Timed = asking("store_settings", settings, model_settings);
-pub const NO_STORE: Timed = asking("read_plot no store", refused, model_refused);
+pub const NEED: Timed = reading("store_need", need, model_need);
+pub const SETTINGS: Timed = reading("store_settings", settings, model_settings);
+pub const NO_STORE: Timed = reading("read_plot no store", refused, model_refused);
 pub const PLOT: Timed = reading("read_plot", plot, model_plot);
 pub const PLOT_BY_VALUE: Timed = reading("  by value", plot_by_value, model_plot);
 pub const JOINT: Timed = reading("read_joint of 4", joint, model_joint);
@@ -267,6 +262,6 @@ pub const WRITE: Timed = writing("write", write);
 pub const WRITE_BY_VALUE: Timed = writing("  by value", write_by_value);
 pub const LAST_HOP: Timed = receiving("receive, last hop", |_| Some((1, 32)), |_| 0);
 pub const MIDDLE: Timed = receiving("receive, middle", |n| Some((n - 1, 32)), |n| n - 2);
-pub const JOIN: Timed = asking("join_sessions", join, model_join);
-pub const READ_TOKEN: Timed = asking("read_token", read_token, model_read_token);
-pub const WRITE_TOKEN: Timed = asking("write_token", write_token, model_write_token);
+pub const JOIN: Timed = reading("join_sessions", join, model_join);
+pub const READ_TOKEN: Timed = reading("read_token", read_token, model_read_token);
+pub const WRITE_TOKEN: Timed = reading("write_token", write_token, model_write_token);

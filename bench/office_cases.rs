@@ -3,7 +3,7 @@
 #![allow(dead_code)]
 
 use crate::model::codec::{write_frame, Frame};
-use crate::model::entry::{has, ids, insert, Clock, Entry, IdSet, SERIALS};
+use crate::model::entry::{ids, insert, Clock, Entry, IdSet, SERIALS};
 use crate::model::office::{open_office, read_joint, store_need};
 use crate::model::session::{fresh_session, Session};
 use crate::model::store::Store;
@@ -30,19 +30,6 @@ pub struct Case {
     pub other: Session,
     pub frame: Vec<u32>,
     pub token: Vec<u32>,
-}
-
-impl Case {
-    /// How many of the entries that the session carries a reading releases.
-    fn released(&self) -> usize {
-        let mut lent = self.lent.clone();
-        read_joint(&mut lent.store, &mut lent.session, &[], &mut []).unwrap();
-        self.lent.session.count - lent.session.count
-    }
-
-    pub fn releases(&self) -> bool {
-        self.released() > 0
-    }
 }
 
 /// All ids of a ring but one.
@@ -155,17 +142,11 @@ fn holding(offices: u32, set: &IdSet, spare: Option<(u32, u32)>, hops: u32) -> C
     Case { offices, lent, other: session, frame, token: token_of(&session) }
 }
 
-/// The first ids that the offices make in turns.
-fn first_turns(offices: u32, turns: u32) -> IdSet {
-    let mut set = IdSet::default();
-    (0..turns).for_each(|turn| insert(&mut set, turn % offices, turn / offices + 1));
-    set
-}
-
-/// The first entries of a ring. Where a call brings one more, it is the next of `from`; where all would be
-/// held, that one is missing.
+/// The first ids that the offices make in turns. Where a call brings one more, it is the next of `from`;
+/// where all would be held, that one is missing.
 pub fn partly(offices: u32, held: u32, from: Option<u32>, hops: u32) -> Case {
-    let mut set = first_turns(offices, held);
+    let mut set = IdSet::default();
+    (0..held).for_each(|turn| insert(&mut set, turn % offices, turn / offices + 1));
     let spare = from.map(|office| {
         let serial = (set[office as usize].count_ones() + 1).min(SERIALS);
         set[office as usize] &= !(1 << (serial - 1));
@@ -216,30 +197,6 @@ pub fn own_at_full(offices: u32, plots: &[u32]) -> Case {
         set[office as usize] &= !(1 << (serial - 1));
     }
     with_own(offices, &set, new, plots)
-}
-
-/// An office that holds and shows the first 16 entries of a ring, and a session that carries so many, of
-/// which so many are among these, spread evenly; the others are not held.
-fn own_shown(offices: u32, carried: usize, shown: usize) -> Case {
-    let set = first_turns(offices, 16);
-    let (mut held, others) = (in_turns(&set).into_iter(), of_others(offices));
-    let mut new = others.into_iter().filter(|&(office, serial)| !has(&set, office, serial));
-    let among = |at: usize| (at + 1) * shown / carried > at * shown / carried;
-    let own: Vec<(u32, u32)> =
-        (0..carried).filter_map(|at| if among(at) { held.next() } else { new.next() }).collect();
-    let session = carrying(offices, &set, &own);
-    let lent = Lent { store: filled(offices, &set), session, row: vec![0; 5_000] };
-    Case { offices, lent, other: session, frame: vec![], token: vec![] }
-}
-
-/// Sessions that read, by how many of the own entries that they carry are released.
-pub fn releases(offices: u32) -> [(&'static str, Case); 4] {
-    let numbers = [("0 of 1", 1, 0), ("0 of 16", 16, 0), ("8 of 16", 16, 8), ("16 of 16", 16, 16)];
-    numbers.map(|(name, carried, released)| {
-        let case = own_shown(offices, carried, released);
-        assert_eq!(case.released(), released);
-        (name, case)
-    })
 }
 
 /// Pairs to join, by what the two carry: nothing, 8 entries each and none in common, or 16 that are the same.

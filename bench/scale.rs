@@ -30,7 +30,7 @@ fn time(timed: &Timed, offices: u32, held: u32) -> Option<(u32, f64)> {
     }
     let from = (timed.spare)(offices).map(|(office, _)| office);
     let case = partly(offices, held, from, hops);
-    let [nanoseconds] = timing::best(timed.name, [timed.archive()], (timed.changes)(&case), &case, BUDGET);
+    let [nanoseconds] = timing::best(timed.name, [timed.archive()], timed.changes, &case, BUDGET);
     let held = case.lent.store[3..11].iter().map(|word| word.count_ones()).sum();
     Some((held, nanoseconds))
 }
@@ -52,11 +52,9 @@ fn print_table() {
         "Nanoseconds for each call of the archive, best of many rounds. All entries held are visible, each"
     );
     println!(
-        "depends on all before it, and the session has read them all and carries up to 15, which a reading"
+        "depends on all before it, and the session has read them all and carries up to 15. Where all that a"
     );
-    println!(
-        "releases. Where all that a ring can hold is held, a call that brings one more finds one less.\n"
-    );
+    println!("ring can hold is held, a call that brings one more finds one less.\n");
     println!("| offices | held |{names}\n|---|---|{}", "---|".repeat(CALLS.len()));
     for offices in 2..=8 {
         let mut sizes = HELD.map(|held| held.min(32 * offices)).to_vec();

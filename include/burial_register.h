@@ -38,10 +38,6 @@
  *     journey there, with the session's next write; it is shown at the end of that one too.
  *   - A session sees its own entries at once, at every office, hidden or not: a reading hands
  *     back the higher-ranked of the shown entry and the session's own.
- *   - At each office where a session reads, those of its own entries that are shown there are
- *     carried no more, and are read from then on (section 9). So it sees as much as before, at
- *     each office where it reads, and though it carries 16 entries at most it may last for a week
- *     and write more.
  *
  * Rank is the same at every office: clocks are compared number by number from office 0 on, and
  * the first greater number decides; where the clocks are equal, the higher office. In a ring whose
@@ -162,7 +158,7 @@ extern "C" {
 #define BURIAL_MAX_PLOTS    64u         /* plots are numbered from 0 */
 #define BURIAL_MAX_VALUE    0xFFFFFFFu  /* 2^28 - 1 */
 #define BURIAL_MAX_SERIAL   32u         /* from 1: an office makes 32 entries, ever */
-#define BURIAL_CARRIED      16u         /* own entries that a session carries at one time */
+#define BURIAL_CARRIED      16u         /* own entries that a session carries at most */
 #define BURIAL_JOINT        16u         /* plots in one joint reading at most */
 
 /* Rows that are long enough for anything. */
@@ -175,9 +171,8 @@ extern "C" {
 /* 65536 * major + 256 * minor + patch. Another major version has other calls, or words of stores,
  * frames or tokens that this one does not read: keep the number beside what is kept. Versions of
  * one major number read each other's words; another minor number answers some calls otherwise, or
- * has more calls (1.1: no refusal 13; 1.2: burial_join_sessions is new; 1.3: a reading releases
- * own entries that the office shows). */
-#define BURIAL_VERSION      0x010300u
+ * has more calls (1.1: no refusal 13; 1.2: burial_join_sessions is new). */
+#define BURIAL_VERSION      0x010200u
 
 /* The version of the archive that is linked: a host that starts compares it with BURIAL_VERSION,
  * and ends where they differ. */
@@ -200,12 +195,10 @@ uint32_t burial_version(void);
 /* The office has made its 32 entries. It goes on to hear, send on and read; new entries are
  * written at other offices. */
 #define BURIAL_OFFICE_FULL   6u
-/* The session carries 16 entries. It goes on to read, and a reading releases those that the office
- * shows (section 9): what has come round is shown at the last office to hear it, so read there,
- * and write again. Who cannot wait for that begins a fresh session, which knows nothing of the old
- * one: it sees those entries only where they are shown, and what it writes on their plots may rank
- * below them unless it has read them. Of a join: together the two carry over 16. Each goes on by
- * itself; once readings have released enough, they can be joined. */
+/* The session carries 16 entries. It goes on to read; to write, begin a fresh one. That knows
+ * nothing of the old one: it sees those entries only where they are shown, and what it writes on
+ * their plots may rank below them unless it has read them. Of a join: together the two carry over
+ * 16. Each goes on by itself. */
 #define BURIAL_SESSION_FULL  7u
 /* A row is too short: call again with a longer one (the constants above). */
 #define BURIAL_NO_ROOM       8u
@@ -321,9 +314,8 @@ struct burial_settings burial_store_settings(const uint32_t *store, size_t store
 /* ---- 6 Sessions */
 
 /* A session: what one person has read and written, carried from office to office. own[0] to
- * own[count - 1] are the entries that it carries, in writing order or as they were joined; the
- * others mean nothing. A write fills own[count]; a reading that releases some moves those that
- * stay to the front (section 9); all other places stay as they are. Take it from
+ * own[count - 1] are its entries, in writing order or as they were joined; the others mean
+ * nothing, and stay as they are but for the one that a write fills. Take it from
  * burial_fresh_session, burial_read_token or burial_join_sessions, so that no word of it is
  * uninitialised. It may be copied: each copy goes on with its own history, and two may be joined
  * again.
@@ -356,8 +348,6 @@ struct burial_token_read burial_fresh_session(uint32_t offices);
  * in a ring that keeps the rules of section 3 none of its readings hands back less than either of
  * the two had read or written, and what it writes ranks above all of that. With the two swapped
  * only the order of its entries may be another.
- * What one of the two has released (section 9) and the other still carries is carried again, and
- * counts among the 16, until a reading releases it: in such a ring the next one, at any office.
  * The two that are given stay as they are, and may go on too. What stands behind the entries that
  * they carry does not count.
  * Refusals: BURIAL_BAD_SETTINGS (offices not 2 to 8, plots not 1 to 64), BURIAL_BAD_CONTENT (one
@@ -420,19 +410,11 @@ struct burial_written burial_receive(uint32_t *store, size_t store_len,
  *
  * Store: first, all that the session has read is shown, with what that depends on, and so on.
  * A reading then hands back, of each plot that is asked for, the higher-ranked of the highest
- * shown entry of the plot (below: the shown entry) and the session's own entries there, those just
- * released included; where an own entry has the same office and clock as the shown one, the shown
- * one.
- * Session: own entries that the office now shows with equal content, on whatever plot, are
- * released: the session carries them no more, and has read them. Its clock stays. Those that the
- * office does not hold, holds hidden or shows with other content stay: they come to the front of
- * own, in their order, and count is their number; own[count] to own[15] are as they came. What
- * was released is read: in a ring that keeps the rules of section 3 every office holds it, and the
- * session sees it everywhere as before. So a session that reads now and then where its entries are
- * shown writes as much as the ring takes; BURIAL_SESSION_FULL counts what is left.
- * After that the shown entry of each of the plots is added to what the session has read, and its
- * clock is joined into the session's: also where an own entry is handed back. An own entry that
- * stays adds nothing. */
+ * shown entry of the plot (below: the shown entry) and the session's own entries there; where an
+ * own entry has the same office and clock as the shown one, the shown one.
+ * Session: after that the shown entry of each of these plots is added to what it has read, and
+ * its clock is joined into the session's: also where an own entry is handed back. The own entry
+ * itself adds nothing. */
 
 /* found is 1 with the entry that is handed back; or 0 with an entry of zeros, where the plot has
  * none. On refusal found and entry are zeros. */
@@ -449,11 +431,10 @@ struct burial_plot_found burial_lent_read_plot(uint32_t *store, size_t store_len
                                                struct burial_session *session, uint32_t plot);
 
 /* Reads up to 16 plots at one moment, the same plot more than once if asked; with no plot at all
- * it only shows what the session has read, and releases. With one plot it answers, shows, releases
- * and adds to the session as the reading of that plot does. What it hands back goes together, in a
- * ring that keeps the rules of section 3: if the writer of an entry that is handed back had read
- * or written an entry on a listed plot, the reply on that plot is that entry or one that does not
- * rank below it.
+ * it only shows what the session has read. With one plot it answers, shows and adds to the session
+ * as the reading of that plot does. What it hands back goes together, in a ring that keeps the
+ * rules of section 3: if the writer of an entry that is handed back had read or written an entry
+ * on a listed plot, the reply on that plot is that entry or one that does not rank below it.
  * Answer: for each plot, in order, three words of the entry that is handed back: 1, value, id
  * (burial_id_office, burial_id_serial); or 0, 0, 0 where there is none.
  * Refusals: BURIAL_BAD_STORE, BURIAL_BAD_CONTENT, BURIAL_BAD_PLOT, BURIAL_NO_ROOM (answer_len

@@ -40,24 +40,6 @@ fn own_above<'a>(own: &'a [Entry], plot: u32, current: Option<Held>) -> Option<&
     current.is_none_or(|held| rank(highest) > held.rank()).then_some(highest)
 }
 
-/// Own entries that are visible with equal content are carried no more, and are read. Those that stay move to
-/// the front from the first gap on; where nothing is released nothing moves.
-fn release(store: &Store, session: &mut Session) {
-    let own = &session.own[..session.count];
-    let Some(first) = own.iter().position(|entry| store.shows(entry)) else { return };
-    let mut kept = first;
-    for at in first..session.count {
-        let entry = &session.own[at];
-        if store.shows(entry) {
-            session.read[(entry.office & 7) as usize] |= bit_of(entry.serial);
-        } else {
-            session.own[kept] = *entry;
-            kept += 1;
-        }
-    }
-    session.count = kept;
-}
-
 pub fn read_plot(words: &mut [u32], session: &mut Session, plot: u32) -> Result<Option<Entry>, u32> {
     let store = sound(words).ok_or(refusal::STORE)?;
     let (own, _) = session::sound(session, store.offices, store.plots).ok_or(refusal::CONTENT)?;
@@ -66,7 +48,6 @@ pub fn read_plot(words: &mut [u32], session: &mut Session, plot: u32) -> Result<
     *store.visible = store.brought_out(&session.read);
     let current = store.current(store.visible, plot);
     let reply = own_above(own, plot, current).copied().or_else(|| current.map(|held| held.entry()));
-    release(&store, session);
     if let Some(held) = &current {
         take(&mut session.read, &mut session.clock, held);
     }
@@ -99,7 +80,6 @@ pub fn read_joint(
         }
     }
     (session.read, session.clock) = (read, clock);
-    release(&store, session);
     Ok(())
 }
 

@@ -143,12 +143,6 @@ impl Store<'_> {
         Held { office: entry.office, serial: entry.serial, slot }.entry() != *entry
     }
 
-    /// Whether an entry is visible here with equal content.
-    #[inline]
-    pub fn shows(&self, entry: &Entry) -> bool {
-        self.visible[(entry.office & 7) as usize] & bit_of(entry.serial) != 0 && !self.differs(entry)
-    }
-
     /// Holds a new entry, hidden.
     pub fn hold(&mut self, entry: &Entry) {
         let slot = &mut self.blocks[entry.office as usize][(entry.serial.wrapping_sub(1) & 31) as usize];

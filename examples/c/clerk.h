@@ -4,7 +4,6 @@
  *   read PLOT          VALUE by OFFICE.SERIAL, or none; as the clerk's session sees it
  *   present PLOT       the same, as someone sees it who comes in new
  *   new                a new session: for a clerk who comes in new, or whose session is full (7)
- *                      and stays so, since a read takes off it only what is shown here
  *   heard              how many frames this office has heard and kept, ever
  *   waiting            how many frames wait for the next office's acknowledgement
  *

@@ -9,7 +9,7 @@ from ctypes import POINTER, PyDLL, Structure, c_size_t, c_uint8, c_uint32
 
 from refused import Refused
 
-VERSION = 0x010300
+VERSION = 0x010200
 STORE_WORDS, WRITE_WORDS, FRAME_WORDS, ANSWER_WORDS, TOKEN_WORDS = 4627, 4272, 267, 48, 4538
 MAX_VALUE = 0xFFFFFFF
 # Made by examples/python/run; BURIAL_SO may name another place.

@@ -1,8 +1,7 @@
 """The foreman's story. In a ring of three offices he writes at one, goes to the next with a token
 in his pocket while the line is slow, and writes again. A visitor who reads the second entry is
 shown the first one too, wherever she goes. The calls are in the order of scripts/foreman.txt;
-his look at both entries, newcomers who look in, refusals, a night, a family and a gardener are
-added.
+his look at both entries, newcomers who look in, refusals, a night and a family are added.
 """
 from burial import MAX_VALUE
 from house import House
@@ -151,21 +150,6 @@ def two_people(house):
     expect_read(house, 0, ("the family", family), 8, "4 by 1.2")
 
 
-def a_week(house):
-    """The gardener's errand lasts for a week. Each day he writes at the next office; when that has
-    come round he reads where it is shown, and carries it no more."""
-    gardener = fresh_session(RING)
-    for day in range(6):
-        own, last = day % RING.offices, (day + 2) % RING.offices
-        for plot in range(40, 45):
-            house.write(own, gardener, plot, 100 * day + plot)
-        carried = gardener.count
-        house.hear_all()
-        house.offices[last].read(gardener, 40)
-        expect((carried, gardener.count), (5, 0))
-    print(f"in 6 days the gardener writes 30 entries, and carries {gardener.count}")
-
-
 def main():
     house = House(RING)
     token = foreman_leaves(house)
@@ -178,7 +162,6 @@ def main():
     overnight(house)
     the_slow_line(house)
     two_people(house)
-    a_week(house)
 
 
 if __name__ == "__main__":

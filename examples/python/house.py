@@ -33,9 +33,3 @@ class House:
         if onward:
             self.lines[self.next(own)].append(onward)
         return heard
-
-    def hear_all(self):
-        """All frames come to the end of their journeys."""
-        while any(self.lines):
-            for own in range(self.ring.offices):
-                self.hear(own)

@@ -41,15 +41,13 @@ class Office:
         return self.store[:]
 
     def read(self, session, plot):
-        """What the session finds on a plot, or None. Of its own entries it carries those no more
-        that are shown here."""
+        """What the session finds on a plot, or None."""
         told = calls.burial_lent_read_plot(self.store, len(self.store), byref(session), plot)
         entry = told.entry
         return found(entry.value, entry.office, entry.serial) if told.found else None
 
     def read_joint(self, session, plots):
-        """What it finds on up to 16 plots at one moment: for each an entry or None, as read. With
-        no plots it only shows what the session has read, and releases."""
+        """What it finds on up to 16 plots at one moment: for each an entry or None, as read."""
         listed, answer = row(plots), room(ANSWER_WORDS)
         calls.burial_lent_read_joint(self.store, len(self.store), byref(session),
                                      listed, len(listed), answer, len(answer))

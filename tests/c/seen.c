@@ -195,25 +195,6 @@ static void test_joined(void)
     end("a correction by a joined session wins over what either of the two had read or written");
 }
 
-/* Her entry has come round to office 2, where she reads another plot: she carries it no more. */
-static void test_released(void)
-{
-    open_ring();
-    struct burial_session she = fresh();
-    struct sent sent = writes(&she, 0, 5, 709);
-    sent = hears(1, &sent);
-    expect(reads(&she, 1, 40) == NONE && she.count == 1 && shown(1, 5) == NONE);
-    hears(2, &sent);
-    struct burial_session copy = she;
-    expect(reads(&she, 2, 40) == NONE && she.count == 0 && she.read[0] == 1);
-    expect(shown(0, 5) == NONE && shown(1, 5) == NONE);
-    for (uint32_t own = 0; own < RING; own++)
-        expect(reads(&she, own, 5) == 709 && shown(own, 5) == 709);
-    end("what is released counts as read: its session sees it everywhere, and shows it where it reads");
-    expect(copy.count == 1 && reads_both(&copy, 1, 709, NONE) && copy.count == 0 && copy.read[0] == 1);
-    end("jointly too, also what another's reading has shown");
-}
-
 /* Who writes at office 2 has not read what is shown there. */
 static void test_unread(void)
 {
@@ -336,7 +317,6 @@ int main(void)
     test_rank();
     test_correction();
     test_joined();
-    test_released();
     test_unread();
     test_own_jointly();
     test_together();

@@ -13,8 +13,7 @@ static ucontext_t here, there;
 static void (*called)(void);
 
 static uint32_t store[STORE], row[ROW], token[BURIAL_TOKEN_WORDS], answer[BURIAL_ANSWER_WORDS], plots[BURIAL_JOINT];
-static uint32_t showing[STORE];
-static struct burial_session session, other, reader;
+static struct burial_session session, other;
 static size_t token_words, frame_words;
 static struct burial_frame frame;
 
@@ -55,27 +54,6 @@ static void joint_value(void)
 {
     expect(burial_read_joint(store, STORE, session, plots, BURIAL_JOINT, answer, BURIAL_ANSWER_WORDS).refusal == BURIAL_OK);
 }
-
-/* Readings that release some of what the reader carries, each of a copy. */
-static void release_lent(void)
-{
-    static struct burial_session copy;
-    copy = reader;
-    expect(burial_lent_read_plot(showing, STORE, &copy, 2).refusal == BURIAL_OK && copy.count == 7);
-}
-static void release_value(void) { expect(burial_read_plot(showing, STORE, reader, 2).session.count == 7); }
-static void release_joint(void)
-{
-    static struct burial_session copy;
-    copy = reader;
-    expect(burial_lent_read_joint(showing, STORE, &copy, plots, BURIAL_JOINT, answer, BURIAL_ANSWER_WORDS) == BURIAL_OK);
-    expect(copy.count == 7);
-}
-static void release_joint_value(void)
-{
-    expect(burial_read_joint(showing, STORE, reader, plots, BURIAL_JOINT, answer, BURIAL_ANSWER_WORDS).session.count == 7);
-}
-
 static void hear(void)
 {
     expect(burial_receive(store, STORE, row, frame_words, answer, BURIAL_ANSWER_WORDS).refusal == BURIAL_OK);
@@ -120,29 +98,15 @@ static void lay(void)
         plots[i] = i;
 }
 
-/* An office that holds what the session carries, and shows the first half of it. */
-static void lay_showing(void)
-{
-    uint32_t words[BURIAL_FRAME_WORDS], out[BURIAL_FRAME_WORDS];
-    burial_open_office(RING, 1, PLOTS, showing, STORE);
-    reader = session;
-    for (uint32_t i = 0; i < 14 + 7; i++) {
-        struct burial_frame sent = { .offices = RING, .hops = i < 14, .entry = session.own[i % 14] };
-        size_t len = burial_write_frame(sent, words, BURIAL_FRAME_WORDS).words;
-        expect(burial_receive(showing, STORE, words, len, out, BURIAL_FRAME_WORDS).refusal == BURIAL_OK);
-    }
-}
-
 int main(void)
 {
     void (*const calls[])(void) = {
         settings, fresh, join, join_other, hear, frame_in, frame_bytes, frame_out, token_out, token_in, joint_lent, joint_value,
-        read_lent, read_value, release_lent, release_value, release_joint, release_joint_value, write_value, write_lent,
+        read_lent, read_value, write_value, write_lent,
     };
     size_t most = 0;
     setvbuf(stdout, NULL, _IOLBF, 0);
     lay();
-    lay_showing();
     for (size_t i = 0; i < sizeof calls / sizeof calls[0]; i++) {
         size_t need = need_of(calls[i]);
         expect(need < NAMED);

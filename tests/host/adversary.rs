@@ -10,7 +10,6 @@ mod guard;
 #[path = "../model/mod.rs"]
 mod model;
 mod random;
-mod released;
 mod report;
 mod session_cases;
 mod store_cases;
@@ -71,9 +70,6 @@ const REPLIES: [&[u32]; 17] = [
     &[0, 1, 3, 7, 11],
 ];
 
-/// The calls that read.
-const READINGS: [usize; 4] = [6, 7, 12, 13];
-
 struct Test {
     adversary: Adversary,
     report: Report,
@@ -91,15 +87,6 @@ struct Done {
     refusal: u32,
     /// All that must stay has stayed.
     kept: bool,
-    /// Something that the session carried is carried no more.
-    released: bool,
-}
-
-impl Done {
-    /// Of a call that releases nothing.
-    fn of(refusal: u32, kept: bool) -> Done {
-        Done { refusal, kept, released: false }
-    }
 }
 
 /// On refusal nothing changes; otherwise what lies beyond the words that were written stays.
@@ -118,21 +105,12 @@ fn store_kept(refusal: u32, before: &[u32], after: &mut [u32]) -> bool {
     before[need..] == after[need..]
 }
 
-/// A write adds one entry behind those that the session carries, and leaves the places behind that.
-fn writer_kept(refusal: u32, before: &Session, after: &Session) -> bool {
+fn session_kept(refusal: u32, before: &Session, after: &Session) -> bool {
     refusal != 0 && before == after
         || refusal == 0
-            && after.count == before.count + 1
+            && after.count <= 16
             && before.own[..before.count] == after.own[..before.count]
             && before.own[after.count..] == after.own[after.count..]
-}
-
-/// A reading that has left the store so releases what is shown there with equal content, and nothing else.
-fn reader_kept(refusal: u32, store: &mut [u32], before: &Session, after: &Session) -> bool {
-    if refusal != 0 {
-        return before == after;
-    }
-    Store::sound(store).is_some_and(|store| released::rightly(&store, before, after))
 }
 
 impl Test {
@@ -145,7 +123,7 @@ impl Test {
             (self.adversary.bytes(), self.adversary.offices(), self.adversary.plots());
         let lent = self.input.bytes(&bytes, self.side);
         let refusal = frames::check_frame(lent, offices, plots);
-        Done::of(refusal, *lent == bytes)
+        Done { refusal, kept: *lent == bytes }
     }
 
     fn read_frame(&mut self) -> Done {
@@ -153,21 +131,21 @@ impl Test {
             (self.adversary.frame(), self.adversary.offices(), self.adversary.plots());
         let lent = self.input.words(&words, self.side);
         let (refusal, frame) = frames::read_frame(lent, offices, plots);
-        Done::of(refusal, *lent == words && (refusal == 0 || frame == Frame::default()))
+        Done { refusal, kept: *lent == words && (refusal == 0 || frame == Frame::default()) }
     }
 
     fn write_frame(&mut self) -> Done {
         let (frame, row) = (self.adversary.frame_content(), self.adversary.row());
         let lent = self.output.words(&row, self.side);
         let (refusal, words) = frames::write_frame(&frame, lent);
-        Done::of(refusal, row_kept(refusal, words, &row, lent))
+        Done { refusal, kept: row_kept(refusal, words, &row, lent) }
     }
 
     fn store_need(&mut self) -> Done {
         let (offices, own, plots) =
             (self.adversary.offices(), self.adversary.number(8), self.adversary.plots());
         let (refusal, words) = office::store_need(offices, own, plots);
-        Done::of(refusal, (refusal == 0) == (words > 0) && words <= 8_192)
+        Done { refusal, kept: (refusal == 0) == (words > 0) && words <= 8_192 }
     }
 
     fn store_settings(&mut self) -> Done {
@@ -175,7 +153,7 @@ impl Test {
         let lent = self.store.words(&words, self.side);
         let (refusal, settings) = office::store_settings(lent);
         let said = if refusal == 0 { settings[..] == words[..3] } else { settings == [0; 3] };
-        Done::of(refusal, said && *lent == words)
+        Done { refusal, kept: said && *lent == words }
     }
 
     fn open_office(&mut self) -> Done {
@@ -184,12 +162,12 @@ impl Test {
         let words = self.adversary.store();
         let lent = self.store.words(&words, self.side);
         let refusal = tokens::open_office(offices, own, plots, lent);
-        Done::of(refusal, row_kept(refusal, if refusal == 0 { 19 } else { 0 }, &words, lent))
+        Done { refusal, kept: row_kept(refusal, if refusal == 0 { 19 } else { 0 }, &words, lent) }
     }
 
     fn fresh_session(&mut self) -> Done {
         let (refusal, session) = tokens::fresh_session(self.adversary.offices());
-        Done::of(refusal, refusal == 0 || session == Session::default())
+        Done { refusal, kept: refusal == 0 || session == Session::default() }
     }
 
     fn read_plot(&mut self, call: PlotRead) -> Done {
@@ -198,9 +176,11 @@ impl Test {
         let lent = self.store.words(&words, self.side);
         let after = self.session.value(&session, self.side);
         let (refusal, found) = call(lent, after, plot);
-        let told = (found.0 == 1 || found == (0, Entry::default())) && (refusal == 0 || found.0 == 0);
-        let kept = store_kept(refusal, &words, lent) && reader_kept(refusal, lent, &session, after);
-        Done { refusal, kept: told && kept, released: after.count < session.count }
+        let kept = store_kept(refusal, &words, lent) && session_kept(refusal, &session, after);
+        Done {
+            refusal,
+            kept: kept && (found.0 == 1 || found == (0, Entry::default())) && (refusal == 0 || found.0 == 0),
+        }
     }
 
     fn read_joint(&mut self, call: JointRead) -> Done {
@@ -211,9 +191,8 @@ impl Test {
         let after = self.session.value(&session, self.side);
         let refusal = call(lent, after, list, answer);
         let written = if refusal == 0 { 3 * plots.len() } else { 0 };
-        let told = *list == plots && row_kept(refusal, written, &row, answer);
-        let kept = store_kept(refusal, &words, lent) && reader_kept(refusal, lent, &session, after);
-        Done { refusal, kept: told && kept, released: after.count < session.count }
+        let kept = store_kept(refusal, &words, lent) && session_kept(refusal, &session, after);
+        Done { refusal, kept: kept && *list == plots && row_kept(refusal, written, &row, answer) }
     }
 
     fn write(&mut self, call: Write) -> Done {
@@ -222,8 +201,8 @@ impl Test {
         let (lent, out) = (self.store.words(&words, self.side), self.output.words(&row, self.side));
         let after = self.session.value(&session, self.side);
         let (refusal, written) = call(lent, after, plot, value, out);
-        let kept = store_kept(refusal, &words, lent) && writer_kept(refusal, &session, after);
-        Done::of(refusal, kept && row_kept(refusal, written, &row, out))
+        let kept = store_kept(refusal, &words, lent) && session_kept(refusal, &session, after);
+        Done { refusal, kept: kept && row_kept(refusal, written, &row, out) }
     }
 
     fn receive(&mut self) -> Done {
@@ -232,7 +211,7 @@ impl Test {
         let out = self.output.words(&row, self.side);
         let (refusal, written) = office::receive(lent, heard, out);
         let kept = store_kept(refusal, &words, lent) && *heard == frame;
-        Done::of(refusal, kept && row_kept(refusal, written, &row, out))
+        Done { refusal, kept: kept && row_kept(refusal, written, &row, out) }
     }
 
     fn read_token(&mut self) -> Done {
@@ -240,14 +219,14 @@ impl Test {
             (self.adversary.token(), self.adversary.offices(), self.adversary.plots());
         let lent = self.input.words(&words, self.side);
         let (refusal, session) = tokens::read_token(lent, offices, plots);
-        Done::of(refusal, *lent == words && (refusal == 0 || session == Session::default()))
+        Done { refusal, kept: *lent == words && (refusal == 0 || session == Session::default()) }
     }
 
     fn write_token(&mut self) -> Done {
         let (session, row) = (self.adversary.session(), self.adversary.row());
         let lent = self.output.words(&row, self.side);
         let (refusal, words) = tokens::write_token(&session, lent);
-        Done::of(refusal, row_kept(refusal, words, &row, lent))
+        Done { refusal, kept: row_kept(refusal, words, &row, lent) }
     }
 
     /// The two are given by value: what they were taken from must stay.
@@ -257,7 +236,7 @@ impl Test {
         let given = (self.session.value(&first, self.side), self.input.value(&second, self.side));
         let (refusal, joined) = tokens::join_sessions(offices, plots, given.0, given.1);
         let said = if refusal == 0 { joined.is_sound(offices, plots) } else { joined == Session::default() };
-        Done::of(refusal, said && *given.0 == first && *given.1 == second)
+        Done { refusal, kept: said && *given.0 == first && *given.1 == second }
     }
 
     fn call(&mut self, call: usize) -> Done {
@@ -292,12 +271,9 @@ impl Test {
         let done = self.call(call);
         let known = REPLIES[call].contains(&done.refusal);
         let (side, number) = (self.side, self.number);
-        let names = [Some(name(call, done.refusal)), done.released.then(|| releases(call))];
-        for name in names.into_iter().flatten() {
-            self.report.check(&name, known && done.kept, || {
-                format!("call number {number}, guard {side:?}: known {known}, kept {}", done.kept)
-            });
-        }
+        self.report.check(&name(call, done.refusal), known && done.kept, || {
+            format!("call number {number}, guard {side:?}: known {known}, kept {}", done.kept)
+        });
         self.adversary.turn();
         self.number += 1;
     }
@@ -313,10 +289,6 @@ fn name(call: usize, refusal: u32) -> String {
         0 => format!("adversary: {}: accepted", CALLS[call]),
         _ => format!("adversary: {}: refused {refusal}", CALLS[call]),
     }
-}
-
-fn releases(call: usize) -> String {
-    format!("adversary: {}: accepted, and releases", CALLS[call])
 }
 
 fn main() -> ExitCode {
@@ -337,6 +309,5 @@ fn main() -> ExitCode {
     for (call, replies) in REPLIES.iter().enumerate() {
         replies.iter().for_each(|&refusal| test.report.met(&name(call, refusal)));
     }
-    READINGS.iter().for_each(|&call| test.report.met(&releases(call)));
     test.report.finish("adversary")
 }

@@ -3,7 +3,7 @@
 use crate::archive::tokens::join_sessions;
 use crate::model::entry::{Entry, IdSet};
 use crate::model::join as model;
-use crate::model::session::{Session, CARRIED};
+use crate::model::session::Session;
 use crate::report::Report;
 use std::hint::black_box;
 
@@ -81,11 +81,9 @@ impl Given {
     }
 }
 
-/// The session with all that it carries in the order of ids, and nothing behind that.
+/// The session with all that it carries in the order of ids.
 pub fn in_order(mut session: Session) -> Session {
-    let (carried, behind) = session.own.split_at_mut(session.count.min(CARRIED));
-    carried.sort_by_key(Entry::id);
-    behind.fill(Entry::default());
+    session.own.sort_by_key(Entry::id);
     session
 }
 

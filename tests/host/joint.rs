@@ -3,7 +3,6 @@
 use crate::model::entry::Entry;
 use crate::model::session::Session;
 use crate::model::store::Store;
-use crate::released::goes;
 
 /// How a joint reading that is accepted can end; a run that misses one has not tested it.
 pub const ACCEPTED: &[&str] = &[
@@ -18,7 +17,6 @@ pub const ACCEPTED: &[&str] = &[
     "repeated plot",
     "16 plots",
     "empty list",
-    "empty list that releases",
 ];
 
 fn on_plot(presented: Option<Entry>, own: Option<Entry>) -> &'static str {
@@ -38,8 +36,10 @@ fn highest_own(session: &Session, plot: u32) -> Option<Entry> {
     own.copied().reduce(|best, entry| if entry.outranks(&best) { entry } else { best })
 }
 
-/// Each outcome once, of a reading by this session that has left the store so: what it presents is shown.
-pub fn outcomes(store: &Store, session: &Session, plots: &[u32]) -> Vec<&'static str> {
+/// Each outcome once, of a reading that has left store and session so: own entries stay, and what it
+/// presents is shown.
+pub fn outcomes(store: &mut [u32], session: &Session, plots: &[u32]) -> Vec<&'static str> {
+    let store = Store::sound(store).expect("an accepted reading leaves a sound store");
     let visible = store.visible();
     let mut met: Vec<&str> = plots
         .iter()
@@ -53,10 +53,6 @@ pub fn outcomes(store: &Store, session: &Session, plots: &[u32]) -> Vec<&'static
         ("repeated plot", (1..plots.len()).any(|at| plots[..at].contains(&plots[at]))),
         ("16 plots", plots.len() == 16),
         ("empty list", plots.is_empty()),
-        (
-            "empty list that releases",
-            plots.is_empty() && session.own_entries().iter().any(|own| goes(store, own)),
-        ),
     ];
     met.extend(of_list.iter().filter(|(_, holds)| *holds).map(|(name, _)| name));
     met

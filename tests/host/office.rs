@@ -10,7 +10,6 @@ mod later;
 mod model;
 mod pasts;
 mod random;
-mod released;
 mod report;
 mod ring;
 mod session_cases;
@@ -19,7 +18,6 @@ mod store_cases;
 mod swapped;
 mod tracked;
 mod twin;
-mod week;
 
 use random::Random;
 use report::Report;
@@ -67,31 +65,19 @@ const OUTCOMES: &[(&str, &[&str])] = &[
     ("read_joint, lent", joint::ACCEPTED),
     ("read_joint", JOINT),
     ("read_joint, lent", JOINT),
-    ("read_plot", released::RELEASED),
-    ("read_plot, lent", released::RELEASED),
-    ("read_joint", released::RELEASED),
-    ("read_joint, lent", released::RELEASED),
-    ("read_plot", &released::REPLIES),
-    ("read_plot, lent", &released::REPLIES),
-    ("read_joint", &released::REPLIES),
-    ("read_joint, lent", &released::REPLIES),
-    (
-        "read_joint",
-        &["goes together", "keeps the session's past", "keeps both pasts", "keeps what was released"],
-    ),
+    ("read_joint", &["goes together", "keeps the session's past", "keeps both pasts"]),
     ("write", WRITE),
     ("write, lent", WRITE),
     ("receive", RECEIVE),
     ("write", &later::PAST),
     ("write", &later::VISIBLE),
     ("write", &later::RINGS),
-    ("write", &["a new id", "same in session, frame and store", "depends on what was released"]),
+    ("write", &["a new id", "same in session, frame and store"]),
     ("write", &[later::CORRECTED, later::BY_COPY, later::BY_TOKEN, later::BY_JOIN]),
     ("stores", &later::PAST),
-    ("read_plot", &["keeps the session's past", "keeps both pasts", "keeps what was released"]),
+    ("read_plot", &["keeps the session's past", "keeps both pasts"]),
     ("read_plot", &["visible or above", "never what was corrected"]),
-    ("pasts", &["lack only what they outrank", "no chain comes back"]),
-    ("week", week::WEEK),
+    ("pasts", &["lack only what an own entry outranks", "no chain comes back"]),
     ("token", &["the session itself"]),
     ("join", &joined::ACCEPTED),
     (
@@ -112,10 +98,6 @@ fn main() -> ExitCode {
     }
     for _ in 0..500 {
         ring::play(&mut twin);
-    }
-    for offices in 2..=8 {
-        week::play(&mut twin, offices);
-        week::without_reading(&mut twin, offices);
     }
     for (call, outcomes) in OUTCOMES {
         for outcome in *outcomes {

@@ -30,11 +30,14 @@ pub fn goes_together(log: &Log, plots: &[u32], answer: &[u32]) -> Option<bool> {
     keeps_past(log, pasts.fold(EMPTY, |past, more| union(&past, &more)), plots, answer)
 }
 
-/// Whether each entry that was read and that the past lacks is below one of the past on its plot, as it was
-/// not handed back; none where the past lacks nothing that was read.
+/// Whether each entry that was read and that the past lacks is below an own one, as it was not handed back;
+/// none where the past lacks nothing that was read.
 pub fn lacks_only_outranked(log: &Log, past: IdSet, session: &Session) -> Option<bool> {
     let mut lacking =
         log.entries(session.read).filter(|read| !has(&past, read.office, read.serial)).peekable();
     lacking.peek()?;
-    Some(lacking.all(|read| log.entries(past).any(|known| known.plot == read.plot && known.outranks(read))))
+    Some(lacking.all(|read| {
+        let mut own = session.own_entries().iter();
+        own.any(|own| own.plot == read.plot && own.outranks(read))
+    }))
 }

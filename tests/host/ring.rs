@@ -6,8 +6,8 @@ use crate::archive::tokens::open_office;
 use crate::frame_cases::frames;
 use crate::joined::{self, Given};
 use crate::later;
-use crate::model::entry::{is_subset, MOST_PLOTS};
-use crate::model::past::{Log, EMPTY};
+use crate::model::entry::MOST_PLOTS;
+use crate::model::past::Log;
 use crate::pasts;
 use crate::report::Report;
 use crate::single::{some_listed, some_plots};
@@ -19,12 +19,12 @@ use std::collections::VecDeque;
 const STEPS: usize = 300;
 const SESSIONS: usize = 3;
 
-pub struct Ring {
-    pub offices: u32,
-    pub plots: u32,
+struct Ring {
+    offices: u32,
+    plots: u32,
     stores: Vec<Vec<u32>>,
     waiting: Vec<VecDeque<Vec<u32>>>,
-    pub sessions: [Tracked; SESSIONS],
+    sessions: [Tracked; SESSIONS],
     log: Log,
 }
 
@@ -46,7 +46,8 @@ fn accepted<T>(report: &mut Report, call: &str, reply: Result<T, u32>, refusals:
 }
 
 impl Ring {
-    pub fn new(twin: &mut Twin, offices: u32) -> Ring {
+    fn new(twin: &mut Twin) -> Ring {
+        let offices = twin.random.between(2, 8);
         let plots = twin.random.pick(&[1, 3, 8, 64]);
         let stores = (0..offices).map(|own| opened(twin, offices, own, plots)).collect();
         let waiting = vec![VecDeque::new(); offices as usize];
@@ -59,7 +60,7 @@ impl Ring {
         self.waiting[to].extend(frames);
     }
 
-    pub fn hear(&mut self, twin: &mut Twin, office: usize) {
+    fn hear(&mut self, twin: &mut Twin, office: usize) {
         let Some(frame) = self.waiting[office].front().cloned() else { return };
         let reply = twin.receive(&mut self.stores[office], &frame);
         if let Some(words) = accepted(&mut twin.report, "receive", reply, &[8]) {
@@ -112,19 +113,16 @@ impl Ring {
         self.sessions[twin.random.index(SESSIONS)] = Tracked::joined(session, &first, &second);
     }
 
-    /// What a reading handed back, as the answer of a joint one: it keeps the session's past, and what the
-    /// session has released until now, and joins that past.
+    /// What a reading handed back, as the answer of a joint one: it keeps the session's past, and joins it.
     fn handed_back(&mut self, twin: &mut Twin, call: &str, at: usize, plots: &[u32], answer: &[u32]) {
-        let Tracked { session, past, released, origin } = &mut self.sessions[at];
+        let Tracked { session, past, origin } = &mut self.sessions[at];
         let whose = if *origin == Some(later::BY_JOIN) { "both pasts" } else { "the session's past" };
         let kept = pasts::keeps_past(&self.log, *past, plots, answer);
-        let kept_released = pasts::keeps_past(&self.log, *released, plots, answer);
         self.log.read(past, pasts::handed_back(answer));
         let lacks = pasts::lacks_only_outranked(&self.log, *past, session);
         let claims = [
             (format!("{call}: keeps {whose}"), kept),
-            (format!("{call}: keeps what was released"), kept_released),
-            ("pasts: lack only what they outrank".to_string(), lacks),
+            ("pasts: lack only what an own entry outranks".to_string(), lacks),
         ];
         for (claim, holds) in claims {
             if let Some(holds) = holds {
@@ -134,22 +132,19 @@ impl Ring {
         }
     }
 
-    pub fn read_plot(&mut self, twin: &mut Twin, office: usize, at: usize, plot: u32) {
-        let before = self.sessions[at].session;
+    fn read_plot(&mut self, twin: &mut Twin, office: usize, at: usize, plot: u32) {
         let read = twin.read_plot(&mut self.stores[office], &mut self.sessions[at].session, plot);
         if let Some(found) = accepted(&mut twin.report, "read_plot", read, &[]) {
-            self.sessions[at].has_read(&before);
             let answer = found.map_or([0; 3], |entry| [1, entry.value, entry.payload()]);
             self.handed_back(twin, "read_plot", at, &[plot], &answer);
         }
     }
 
-    pub fn read_joint(&mut self, twin: &mut Twin, office: usize, at: usize) {
+    fn read_joint(&mut self, twin: &mut Twin, office: usize, at: usize) {
         let session = &mut self.sessions[at].session;
-        let (before, plots) = (*session, some_plots(&mut twin.random, self.plots, session));
+        let plots = some_plots(&mut twin.random, self.plots, session);
         let read = twin.read_joint(&mut self.stores[office], session, &plots);
         let Some(answer) = accepted(&mut twin.report, "read_joint", read, &[4, 8]) else { return };
-        self.sessions[at].has_read(&before);
         if let Some(holds) = pasts::goes_together(&self.log, &plots, &answer) {
             let say = || format!("plots {plots:?}, answer {answer:?}");
             twin.report.check("read_joint: goes together", holds, say);
@@ -158,28 +153,23 @@ impl Ring {
     }
 
     /// The write of a session that sent this frame last.
-    fn has_made(&mut self, twin: &mut Twin, office: usize, at: usize, frame: &[u32]) {
+    fn made(&mut self, twin: &mut Twin, office: usize, at: usize, frame: &[u32]) {
         let (store, writer) = (&self.stores[office], &mut self.sessions[at]);
         let Some(new) = later::new_entry(&mut twin.report, &writer.session, frame, store) else { return };
         twin.report.same("write: a new id", &self.log.entry(new.id()), &None);
-        if writer.released != EMPTY {
-            let holds = is_subset(&writer.released, &new.deps);
-            let say = || format!("{new:?}\n  released {:?}", writer.released);
-            twin.report.check("write: depends on what was released", holds, say);
-        }
         later::over_visible(&mut twin.report, &new, store);
         self.log.wrote(&mut writer.past, &new);
         later::made(&mut twin.report, &self.log, &new, self.offices, writer.origin);
     }
 
-    pub fn write(&mut self, twin: &mut Twin, office: usize, at: usize, plot: u32) {
+    fn write(&mut self, twin: &mut Twin, office: usize, at: usize, plot: u32) {
         let value = twin.random.below(1 << 28);
         let session = &mut self.sessions[at].session;
         let wrote = twin.write(&mut self.stores[office], session, plot, value);
         let Some(words) = accepted(&mut twin.report, "write", wrote, &[6, 7, 8]) else { return };
         let frames = frames(self.offices, &words);
         if let Some(last) = frames.last() {
-            self.has_made(twin, office, at, last);
+            self.made(twin, office, at, last);
         }
         self.send(office, frames);
     }
@@ -198,28 +188,12 @@ impl Ring {
             _ => self.hear(twin, office),
         }
     }
-
-    /// Whether no frame waits anywhere.
-    pub fn is_quiet(&self) -> bool {
-        self.waiting.iter().all(VecDeque::is_empty)
-    }
-
-    /// How many entries were made.
-    pub fn made(&self) -> usize {
-        self.log.ids().count()
-    }
-
-    /// What holds of all that a run leaves.
-    pub fn end(&self, twin: &mut Twin) {
-        later::at_end(twin, &self.log, &self.stores);
-    }
 }
 
 pub fn play(twin: &mut Twin) {
-    let offices = twin.random.between(2, 8);
-    let mut ring = Ring::new(twin, offices);
+    let mut ring = Ring::new(twin);
     for _ in 0..STEPS {
         ring.step(twin);
     }
-    ring.end(twin);
+    later::at_end(twin, &ring.log, &ring.stores);
 }

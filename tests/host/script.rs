@@ -11,7 +11,7 @@ mod script_faults;
 use model::script::play;
 use random::Random;
 use report::Report;
-use script_cases::{edge_scripts, some_script, standstill, still, week};
+use script_cases::{edge_scripts, some_script};
 use script_faults::check_faults;
 use std::io::Write;
 use std::process::{Command, ExitCode, Stdio};
@@ -100,36 +100,6 @@ fn compare(report: &mut Report, name: &str, program: &str, script: &[u8]) {
     }
 }
 
-/// What one session makes in a week: with readings between, all that the ring can make, and 7 never comes; with
-/// none, 16.
-fn compare_weeks(report: &mut Report, program: &str) {
-    let weeks =
-        [("a week with readings", true, (96, false)), ("a week without a reading", false, (16, true))];
-    for (name, reads, expected) in weeks {
-        let script = week(reads);
-        compare(report, name, program, &script);
-        let replies = play(&script);
-        let made = replies.lines().filter(|reply| reply.starts_with("W ")).count();
-        let told = (made, replies.contains("refused 7"));
-        report.check(&format!("{name}: entries made, and 7"), told == expected, || format!("{told:?}"));
-    }
-}
-
-/// Once the ring stands still, whatever is read: each write is refused 7, and each hearing is `full`.
-fn compare_standstill(report: &mut Report, program: &str) {
-    let (before, after) = (standstill(), still());
-    let script = before.clone() + &after;
-    compare(report, "a standstill", program, script.as_bytes());
-    let replies = play(script.as_bytes());
-    let mut tried = after.lines().zip(replies.lines().skip(before.lines().count()));
-    let stands = tried.all(|(line, reply)| match line.as_bytes()[0] {
-        b'W' => reply == "refused 7",
-        b'H' => reply == "full",
-        _ => !reply.starts_with("refused"),
-    });
-    report.check("a standstill: no reading helps", stands, || replies.clone());
-}
-
 fn main() -> ExitCode {
     let arguments: Vec<String> = std::env::args().collect();
     let [_, program, play] = &arguments[..] else {
@@ -141,8 +111,6 @@ fn main() -> ExitCode {
     for script in edge_scripts() {
         compare(&mut report, "edge scripts", program, &script);
     }
-    compare_standstill(&mut report, program);
-    compare_weeks(&mut report, program);
     for _ in 0..SCRIPTS {
         let script = some_script(&mut random, LINES);
         compare(&mut report, "random scripts of 1,000 lines", program, &script);

@@ -163,47 +163,12 @@ pub fn some_script(random: &mut Random, lines: usize) -> Vec<u8> {
 }
 
 /// Every session carries 16 and 32 frames wait at each office, each to go on: no write is left, and every
-/// hearing is `full` for ever. Nothing is shown anywhere, so that no reading releases anything.
-pub fn standstill() -> String {
+/// hearing is `full` for ever.
+fn standstill() -> String {
     let parts =
         [("W 0 0 1\n", 15), ("W 1 0 1\n", 15), ("W 2 0 1\n", 2), ("M 0 2\nW 0 1 1\nM 1 2\nW 1 1 1\n", 1)];
-    let rest = [("M 2 1\n", 1), ("W 2 2 2\n", 14), ("M 3 1\n", 1), ("W 3 3 3\n", 16)];
+    let rest = [("M 2 1\n", 1), ("W 2 2 2\n", 14), ("M 3 1\n", 1), ("W 3 3 3\n", 16), ("H 0\nH 1\nH 2\n", 2)];
     parts.iter().chain(&rest).map(|(lines, times)| lines.repeat(*times)).collect()
-}
-
-/// Each session tries all that is left where it stands still: it reads at every office, and writes there.
-pub fn still() -> String {
-    let hearings = "H 0\nH 1\nH 2\n";
-    let tries = |session, office| {
-        format!("R {session} 0\nW {session} 0 1\nM {session} {office}\nR {session} 1\nW {session} 1 1\n")
-    };
-    let all = (0..4).flat_map(|session| (0..3).map(move |office| tries(session, office)));
-    hearings.to_string() + &all.collect::<String>() + hearings
-}
-
-/// The lines by which so many frames are heard at an office.
-fn heard(office: usize, frames: usize) -> String {
-    format!("H {office}\n").repeat(frames)
-}
-
-/// One session writes at the next office each day, and goes to where that is shown when half of it has come
-/// round, and then the rest. If it reads there it makes all 96 entries of the ring; else only 16.
-pub fn week(reads: bool) -> Vec<u8> {
-    let (mut script, mut office) = (String::new(), 0);
-    for (day, writes) in [16, 5, 11, 9, 16, 13, 7, 11, 8].into_iter().enumerate() {
-        script += &format!("M 0 {office}\n");
-        (0..writes).for_each(|write| script += &format!("W 0 {} {day}\n", (11 * day + 5 * write) % 64));
-        let last = (office + 2) % 3;
-        script += &(heard((office + 1) % 3, writes) + &format!("M 0 {last}\n"));
-        for frames in [writes / 2, writes - writes / 2] {
-            script += &heard(last, frames);
-            if reads {
-                script += &format!("R 0 {}\nR 1 {}\n", 11 * day % 64, 7 * day);
-            }
-        }
-        office = (office + 1) % 3;
-    }
-    (script + "W 0 1 1\n").into_bytes()
 }
 
 /// Short and strange ones.
@@ -215,6 +180,7 @@ pub fn edge_scripts() -> Vec<Vec<u8>> {
         .map(|script| script.as_bytes().to_vec())
         .collect();
     scripts.extend([long, almost]);
+    scripts.push(standstill().into_bytes());
     // Lines that end on and about the sizes that a buffer may have.
     for size in [4_095, 4_096, 4_097, 32_768, 65_535, 65_536, 65_537] {
         let lines = b"M 0 1\n".repeat(size / 6);

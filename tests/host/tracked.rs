@@ -2,31 +2,27 @@
 
 use crate::archive::tokens::{fresh_session, read_token, write_token};
 use crate::later;
-use crate::model::entry::{is_subset, union, IdSet};
+use crate::model::entry::{is_subset, IdSet};
 use crate::model::past::{both, EMPTY};
 use crate::model::session::Session;
 use crate::model::token::token_words;
-use crate::session_cases::zeros_beyond;
 use crate::twin::Twin;
 
 #[derive(Clone, Copy)]
 pub struct Tracked {
     pub session: Session,
     pub past: IdSet,
-    /// What its readings have released.
-    pub released: IdSet,
     /// How it was copied, if it had a past then; or that it was joined of two of which each knew something
     /// that the other did not.
     pub origin: Option<&'static str>,
 }
 
-/// The session as it comes back from a token: itself, with nothing behind what it carries.
+/// The session as it comes back from a token: itself.
 fn through_token(twin: &mut Twin, session: &Session, plots: u32) -> Session {
     let mut token = twin.random.row(token_words(session));
     let written = write_token(session, &mut token);
     let read = read_token(&token, session.offices, plots);
-    let itself = ((0, token.len()), (0, zeros_beyond(session)));
-    twin.report.same("token: the session itself", &(written, read), &itself);
+    twin.report.same("token: the session itself", &(written, read), &((0, token.len()), (0, *session)));
     read.1
 }
 
@@ -34,11 +30,11 @@ impl Tracked {
     pub fn fresh(twin: &mut Twin, offices: u32) -> Tracked {
         let (refusal, session) = fresh_session(offices);
         twin.report.same("fresh_session: of a ring", &refusal, &0);
-        Tracked { session, past: EMPTY, released: EMPTY, origin: None }
+        Tracked { session, past: EMPTY, origin: None }
     }
 
     fn of_origin(&self, session: Session, how: &'static str) -> Tracked {
-        Tracked { session, origin: (self.past != EMPTY).then_some(how), ..*self }
+        Tracked { session, past: self.past, origin: (self.past != EMPTY).then_some(how) }
     }
 
     pub fn copy(&self) -> Tracked {
@@ -52,18 +48,6 @@ impl Tracked {
     /// This session, joined of these two.
     pub fn joined(session: Session, first: &Tracked, second: &Tracked) -> Tracked {
         let of_two = !is_subset(&first.past, &second.past) && !is_subset(&second.past, &first.past);
-        Tracked {
-            session,
-            past: both(&first.past, &second.past),
-            released: union(&first.released, &second.released),
-            origin: of_two.then_some(later::BY_JOIN),
-        }
-    }
-
-    /// After a reading: what the session carried before and carries no more is released.
-    pub fn has_read(&mut self, before: &Session) {
-        let (old, new) = (before.own_ids(), self.session.own_ids());
-        let gone = std::array::from_fn(|office| old[office] & !new[office]);
-        self.released = union(&self.released, &gone);
+        Tracked { session, past: both(&first.past, &second.past), origin: of_two.then_some(later::BY_JOIN) }
     }
 }

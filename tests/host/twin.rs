@@ -8,9 +8,7 @@ use crate::joint;
 use crate::model::entry::Entry;
 use crate::model::office as model;
 use crate::model::session::Session;
-use crate::model::store::Store;
 use crate::random::Random;
-use crate::released;
 use crate::report::Report;
 
 pub struct Twin {
@@ -100,15 +98,6 @@ fn found(entry: &Option<Entry>) -> (u32, Entry) {
     entry.map_or((0, Entry::default()), |entry| (1, entry))
 }
 
-/// The words of a joint reading that hands these back.
-fn answer(replies: &[Option<Entry>]) -> Vec<u32> {
-    let words = |reply| {
-        let (found, entry) = found(reply);
-        [found, entry.value, entry.payload()]
-    };
-    replies.iter().flat_map(words).collect()
-}
-
 impl Twin {
     /// A row of any words; its length is often just enough or one word short.
     pub fn row_for(&mut self, needed: usize) -> Vec<u32> {
@@ -139,51 +128,6 @@ impl Twin {
     ) {
         for (call, left) in archive {
             self.compare(call, outcome, left, model);
-        }
-    }
-
-    /// A reading that is not refused: what it comes to on either side, and what it releases.
-    fn compare_readings<R: PartialEq + std::fmt::Debug>(
-        &mut self,
-        (store, session, _): Lent,
-        outcomes: impl FnOnce(&Store) -> Vec<&'static str>,
-        archive: &[Form<Left<R>>; 2],
-        model: &Left<R>,
-    ) {
-        let (mut before, mut after) = (store.to_vec(), model.store.clone());
-        let before = Store::sound(&mut before).expect("an accepted reading gets a sound store");
-        let after = Store::sound(&mut after).expect("an accepted reading leaves a sound store");
-        let released = released::outcomes(&before.visible(), &after, session);
-        for outcome in outcomes(&after).iter().chain(&released) {
-            self.compare_forms(outcome, archive, model);
-        }
-        // Not by the model's own words, so that a fault in them shows too.
-        for (call, left) in archive {
-            let holds = released::rightly(&after, session, &left.session);
-            let say = || format!("{session:?}\n  left {:?}", left.session);
-            self.report.check(&format!("{call}: releases what is shown with equal content"), holds, say);
-        }
-    }
-
-    /// A reading that is not refused: what each form told of the plots is what it would tell without the
-    /// entries that it released, by the store that it left. Where that is not sound, the comparison has told.
-    fn compare_replies<R>(
-        &mut self,
-        session: &Session,
-        plots: &[u32],
-        archive: &[Form<Left<R>>; 2],
-        told: impl Fn(&Left<R>, &[Option<Entry>]) -> bool,
-    ) {
-        for (call, left) in archive {
-            let mut words = left.store.clone();
-            let Some(store) = Store::sound(&mut words) else { continue };
-            let reply = |&plot: &u32| released::reply_without(&store, session, plot);
-            let replies: Vec<Option<Entry>> = plots.iter().map(reply).collect();
-            let holds = told(left, &replies);
-            for name in released::replies(&store, session, plots) {
-                let say = || format!("plots {plots:?} of {session:?}\n  without: {replies:?}");
-                self.report.check(&format!("{call}: {name}"), holds, say);
-            }
         }
     }
 
@@ -230,19 +174,12 @@ impl Twin {
             Ok(entry) => (0, found(&entry)),
             Err(refusal) => (refusal, found(&None)),
         });
-        match model.reply {
-            (0, reply) => {
-                let outcome = match reply {
-                    (0, _) => "none",
-                    (_, entry) if session.own_entries().contains(&entry) => "own",
-                    _ => "presented",
-                };
-                self.compare_readings(lent, |_| vec![outcome], &archive, &model);
-                let told = |left: &Left<_>, replies: &[_]| left.reply == (0, found(&replies[0]));
-                self.compare_replies(session, &[plot], &archive, told);
-            }
-            (refusal, _) => self.compare_forms(&format!("refused {refusal}"), &archive, &model),
-        }
+        let outcome = outcome(model.reply.0, || match model.reply.1 {
+            (0, _) => "none",
+            (_, entry) if model.session.own_entries().contains(&entry) => "own",
+            _ => "presented",
+        });
+        self.compare_forms(&outcome, &archive, &model);
         let ((refusal, (found, entry)), _) = self.go_on(archive, store, session);
         unless(refusal, (found == 1).then_some(entry))
     }
@@ -279,19 +216,18 @@ impl Twin {
         let lent: Lent = (store, session, &row);
         let archive =
             each_form(JOINT_READS, lent, |call, store, session, row| call(store, session, plots, row));
-        let model = on_copies(lent, |store, session, row| {
+        let mut model = on_copies(lent, |store, session, row| {
             model::read_joint(store, session, plots, row).err().unwrap_or(0)
         });
-        match model.reply {
-            0 => {
-                let outcomes = |store: &Store| joint::outcomes(store, session, plots);
-                self.compare_readings(lent, outcomes, &archive, &model);
-                let told = |left: &Left<u32>, replies: &[_]| {
-                    left.reply == 0 && left.row[..3 * plots.len()] == answer(replies)
-                };
-                self.compare_replies(session, plots, &archive, told);
-            }
-            refusal => self.compare_forms(&format!("refused {refusal}"), &archive, &model),
+        let outcomes = match model.reply {
+            0 => joint::outcomes(&mut model.store, &model.session, plots)
+                .into_iter()
+                .map(String::from)
+                .collect(),
+            refusal => vec![format!("refused {refusal}")],
+        };
+        for outcome in &outcomes {
+            self.compare_forms(outcome, &archive, &model);
         }
         let (refusal, mut row) = self.go_on(archive, store, session);
         row.truncate(3 * plots.len());

@@ -122,7 +122,7 @@ fn sixteen_plots() -> bool {
     answers(&mut showing_a(), &mut carrying(&own), &plots) == expected.collect::<Vec<Answer>>()
 }
 
-/// It shows what was read, and neither answers nor reads: what is carried is not held here.
+/// It shows what was read, and neither answers nor reads.
 fn empty_list() -> bool {
     let (mut store, mut session) = (hiding_a(), carrying(&[above_a()]));
     session.read = ONLY_A;
@@ -131,8 +131,7 @@ fn empty_list() -> bool {
     told && Store::sound(&mut store).unwrap().visible() == ONLY_A
 }
 
-/// Whatever is handed back, where nothing is released: the presented entries are read, one for each plot, and
-/// their clocks joined.
+/// Whatever is handed back: the presented entries are read, one for each plot, and their clocks joined.
 fn only_the_presented_are_read() -> bool {
     let owns = [above_a(), below_a(), tied_with_a(), entry(1, [9, 9, 9], 5)];
     owns.iter().all(|&own| {

@@ -12,7 +12,6 @@ fn main() -> ExitCode {
     report.model_checks(model::checks::frame_checks());
     report.model_checks(model::office_checks::office_checks());
     report.model_checks(model::joint_checks::joint_checks());
-    report.model_checks(model::release_checks::release_checks());
     report.model_checks(model::join_checks::join_checks());
     report.model_checks(model::past_checks::past_checks());
     report.model_checks(model::token_checks::token_checks());

@@ -1,5 +1,5 @@
-//! An independent model of the burial register, written from documents 01 and 02 (i), (iii), (iv) and (v)
-//! alone. Its records have the layout of the C header, so that a test can lend them to the archive as they are.
+//! An independent model of the burial register, written from documents 01 and 02 (i), (iii) and (iv) alone.
+//! Its records have the layout of the C header, so that a test can lend them to the archive as they are.
 #![allow(dead_code)]
 
 pub mod checks;
@@ -13,7 +13,6 @@ pub mod office_checks;
 pub mod past;
 pub mod past_checks;
 pub mod refusal;
-pub mod release_checks;
 pub mod script;
 pub mod script_checks;
 pub mod session;

@@ -2,7 +2,7 @@
 
 use super::codec::{read_frame, write_frame, Frame};
 use super::entry::{
-    has, id_payload, insert, is_subset, join, settings_in_range, union, Entry, IdSet, SERIALS, VALUES,
+    id_payload, insert, is_subset, join, settings_in_range, union, Entry, IdSet, SERIALS, VALUES,
 };
 use super::refusal::{self, refuse_if};
 use super::session::{Session, CARRIED};
@@ -46,34 +46,17 @@ fn check_held(store: &Store, set: &IdSet) -> Result<(), u32> {
     refuse_if(!is_subset(set, &store.held()), refusal::MISSING)
 }
 
-/// The presented entry, or an own one above it.
-fn handed_back(session: &Session, plot: u32, presented: Option<Entry>) -> Option<Entry> {
+/// Adds the presented entry to the session; the entry handed back is it or an own one above it.
+fn read_one(session: &mut Session, plot: u32, presented: Option<Entry>) -> Option<Entry> {
+    if let Some(entry) = presented {
+        insert(&mut session.read, entry.office, entry.serial);
+        session.clock = join(&session.clock, &entry.clock);
+    }
     let own = session.own_entries().iter().filter(|entry| entry.plot == plot);
     own.fold(presented, |best, entry| match best {
         Some(best) if !entry.outranks(&best) => Some(best),
         _ => Some(*entry),
     })
-}
-
-/// Document 02 (v): "own entries that the office shows, with equal content, once the read names are brought
-/// out leave the carried list and become read names." Those that stay come in front, in their order; every
-/// place behind them is as it came.
-fn release(store: &Store, session: &mut Session, visible: &IdSet) {
-    let shown = |entry: &Entry| {
-        has(visible, entry.office, entry.serial) && store.entry(entry.office, entry.serial) == *entry
-    };
-    let (gone, stay): (Vec<Entry>, Vec<Entry>) = session.own_entries().iter().partition(|entry| shown(entry));
-    gone.iter().for_each(|entry| insert(&mut session.read, entry.office, entry.serial));
-    session.own[..stay.len()].copy_from_slice(&stay);
-    session.count = stay.len();
-}
-
-/// Adds the presented entry to the session.
-fn note(session: &mut Session, presented: Option<Entry>) {
-    if let Some(entry) = presented {
-        insert(&mut session.read, entry.office, entry.serial);
-        session.clock = join(&session.clock, &entry.clock);
-    }
 }
 
 pub fn read_plot(words: &mut [u32], session: &mut Session, plot: u32) -> Result<Option<Entry>, u32> {
@@ -83,11 +66,7 @@ pub fn read_plot(words: &mut [u32], session: &mut Session, plot: u32) -> Result<
     check_held(&store, &session.read)?;
     let visible = store.brought_out(&session.read);
     store.show(&visible);
-    let presented = store.presented(plot, &visible);
-    let reply = handed_back(session, plot, presented);
-    release(&store, session, &visible);
-    note(session, presented);
-    Ok(reply)
+    Ok(read_one(session, plot, store.presented(plot, &visible)))
 }
 
 fn answer_words(entry: Option<Entry>) -> [u32; 3] {
@@ -110,12 +89,10 @@ pub fn read_joint(
     check_held(&store, &session.read)?;
     let visible = store.brought_out(&session.read);
     store.show(&visible);
-    let presented = |&plot: &u32| store.presented(plot, &visible);
-    for (plot, row) in plots.iter().zip(answer.chunks_exact_mut(3)) {
-        row.copy_from_slice(&answer_words(handed_back(session, *plot, presented(plot))));
+    for (&plot, row) in plots.iter().zip(answer.chunks_exact_mut(3)) {
+        let handed_back = read_one(session, plot, store.presented(plot, &visible));
+        row.copy_from_slice(&answer_words(handed_back));
     }
-    release(&store, session, &visible);
-    plots.iter().for_each(|plot| note(session, presented(plot)));
     Ok(())
 }
 

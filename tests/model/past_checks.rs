@@ -170,20 +170,6 @@ fn join_has_both_pasts() -> bool {
     before && read && later && ring.writers_past(new) == set([first, of_one, of_other])
 }
 
-/// What was released is carried no more, and the session knows it as before.
-fn released_stays_in_the_past() -> bool {
-    let (mut ring, mut writer) = (ring(), newcomer());
-    let first = ring.write(&mut writer, 0, 5);
-    ring.show(2, first);
-    let released = ring.read(&mut writer, 2, 6).is_none() && writer.session.count == 0;
-    let next = ring.write(&mut writer, 2, 6);
-    released
-        && writer.past == set([first, next])
-        && ring.writers_past(next) == set([first])
-        && next.deps == set([first])
-        && ring.read(&mut writer, 0, 5) == Some(first)
-}
-
 /// A clock that outranks may still have a lower number.
 fn rank_does_not_cover() -> bool {
     let entry = |numbers| Entry { clock: clock_of(numbers), ..Entry::default() };
@@ -202,7 +188,6 @@ pub fn past_checks() -> Vec<Check> {
         ("model: an own entry corrected elsewhere is in the past", own_entry_corrected_elsewhere()),
         ("model: a read entry corrected elsewhere is in the past", read_entry_corrected_elsewhere()),
         ("model: a joined session has both pasts, and goes on from both", join_has_both_pasts()),
-        ("model: what is released stays in the past", released_stays_in_the_past()),
         ("model: a rank above is not a clock that covers", rank_does_not_cover()),
     ]
 }

@@ -84,14 +84,6 @@ fn full_by_hearing() -> bool {
     play((fill + rest).as_bytes()).ends_with(replies)
 }
 
-/// 16 entries come round to office 2, which shows them: whoever reads there writes on.
-fn week_of_one_session() -> bool {
-    let round = "W 0 0 1\n".repeat(17) + &"H 1\n".repeat(16) + &"H 2\n".repeat(16) + "M 0 2\n";
-    let ends = |rest: &str, replies: &str| play((round.clone() + rest).as_bytes()).ends_with(replies);
-    ends("W 0 0 1\n", "H 0\nM ok\nrefused 7\n")
-        && ends("R 0 9\nW 0 0 1\nR 0 0\n", "H 0\nM ok\nR none\nW 2.1\nR 1 2.1\n")
-}
-
 pub fn script_checks() -> Vec<Check> {
     vec![
         ("model: the eleven lines", eleven_lines()),
@@ -100,6 +92,5 @@ pub fn script_checks() -> Vec<Check> {
         ("model: refusals of the ring program", refusals()),
         ("model: full by writing", full_by_writing()),
         ("model: full by hearing", full_by_hearing()),
-        ("model: a session that carries 16 reads and writes on", week_of_one_session()),
     ]
 }

@@ -15,8 +15,7 @@ pub struct Session {
     pub clock: Clock,
     pub read: IdSet,
     pub count: usize,
-    /// The first `count` are the own entries that it carries, in writing order or as they were joined; the rest
-    /// means nothing.
+    /// The first `count` are its own entries, in writing order or as they were joined; the rest means nothing.
     pub own: [Entry; CARRIED],
 }
 

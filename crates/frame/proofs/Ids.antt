@@ -4,7 +4,7 @@ use borrow.Author.Tests.{not-true}
 use Rattle.causal.specs.Clocks.{join}
 use Rattle.causal.specs.Sets.{IdSet, bit, has, inserted, is_in}
 use Rattle.causal.proofs.Bits.{bit_zero_word, bits_ext, same_eq}
-use Rattle.causal.proofs.Clocks.{join_at_lem}
+use Rattle.causal.proofs.Clocks.{join_at}
 use Rattle.causal.proofs.Sets.{has_in, has_inserted, has_lt, in_or_out, inserted_past, out_is}
 use Rattle.causal.proofs.Tests.{lt_or_le}
 use Rattle.causal.proofs.Walk.{has_word}
@@ -70,4 +70,4 @@ join_ok n a b p q =
     (λ j l.
     let A = clock_facts n a p j l in
     let B = clock_facts n b q j l in
-    record { small = omega (arith, join_at_lem a b j l, A.small, B.small); none = λ g. omega (arith, join_at_lem a b j l, A.none g, B.none g) })
+    record { small = omega (arith, join_at a b j l, A.small, B.small); none = λ g. omega (arith, join_at a b j l, A.none g, B.none g) })

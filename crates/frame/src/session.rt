@@ -83,44 +83,23 @@ fn own_ok(n: u32, p: u32, most: [u32; 8], read: [u32; 8], seen: [u32; 8], e: Ent
     own_past_ok(most, e.office as usize, e.serial, clock, deps, read, seen)
 }
 
-// Do own writes keep the rules, and their ids; of these nothing is said where they do not.
-#[derive(Drop)]
-pub struct Owns {
-    pub ok: bool,
-    pub ids: [u32; 8],
-}
-
 // The own writes, with the set of the ids seen so far.
-pub fn owns_of(n: u32, p: u32, read: [u32; 8], own: [Entry; 16], count: usize) -> Owns
+pub fn owns_ok(n: u32, p: u32, read: [u32; 8], own: [Entry; 16], count: usize) -> bool
     requires { (count ≤ 16) × (ids_ok n read ≡ true) }
-    ensures { (result.ok ≡ own_ok n p read zeros (tab count (λ i. slice_index_or own i nobody))) × (result.ok ≡ true → result.ids ≡ ids_of (tab count (λ i. slice_index_or own i nobody))) }
+    ensures { result ≡ own_ok n p read zeros (tab count (λ i. slice_index_or own i nobody)) }
 {
     let most = crate::entry::mosts(n as usize);
     let mut seen = [0u32; 8];
     for i in 0..count {
         let e = own[i];
         if !own_ok(n, p, most, read, seen, e) {
-            return Owns {
-                ok: false,
-                ids: seen,
-            };
+            return false;
         }
         let id = crate::entry::id_of(e);
         let more = causal::set::insert(seen, id);
         seen = more;
     }
-    Owns {
-        ok: true,
-        ids: seen,
-    }
-}
-
-pub fn owns_ok(n: u32, p: u32, read: [u32; 8], own: [Entry; 16], count: usize) -> bool
-    requires { (count ≤ 16) × (ids_ok n read ≡ true) }
-    ensures { result ≡ own_ok n p read zeros (tab count (λ i. slice_index_or own i nobody)) }
-{
-    let owns = owns_of(n, p, read, own, count);
-    owns.ok
+    true
 }
 
 // All of a session but its own writes: the ring size, how many it carries, clock and read ids.

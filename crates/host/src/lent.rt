@@ -1,8 +1,7 @@
 // The readings and the writing of an office for a host that lends the session: it comes as `s` and is left as the call leaves it.
-// A reading changes its clock, its read set and its count; its own writes only where it releases some and some stay, and then the whole session is
-// written. A write changes its clock, its count and one of its own writes. Nothing else is written.
+// A reading changes its clock and its read set alone, a write its clock, its count and one of its own writes, and only those are written.
 // Where the session carries nothing (its count is 0) its own writes are not looked at, and stay where they are: it is not copied.
-ghost use Rattle.std.specs.Prelude.{true, List, ◌≡◌, ℕ, ◌<◌, ◌≤◌, get_or};
+ghost use Rattle.std.specs.Prelude.{List, ◌≡◌, ℕ, ◌<◌, ◌≤◌, get_or};
 ghost use Rattle.frame.specs.declared.entry.Entry.{Entry};
 ghost use Rattle.frame.specs.declared.refusal.Written.TheVariants.{Words};
 ghost use Rattle.frame.specs.declared.session.Session.{Session};
@@ -13,7 +12,6 @@ ghost use Rattle.office.specs.Decide.{alone, with_seen};
 ghost use Rattle.office.specs.Promises.{JointPromise, ReadPromise, WritePromise};
 ghost use Rattle.host.specs.Flags.{is_set};
 ghost use Rattle.host.specs.Left.{left_in};
-ghost use Rattle.reading.specs.Releases.{with_rest};
 
 use crate::answer::WordsAnswer;
 use frame::entry::Entry;
@@ -29,7 +27,6 @@ pub struct PlotFound {
     pub entry: Entry,
 }
 
-// With what it changes of a session that carries nothing.
 #[derive(Drop)]
 struct PlotDone {
     pub answer: PlotFound,
@@ -44,27 +41,6 @@ struct JointDone {
     pub read: [u32; 8],
 }
 
-// The same of a session that carries own writes: which of them are released, how many stay, and whether their row is written anew.
-#[derive(Drop)]
-struct PlotLeft {
-    pub answer: PlotFound,
-    pub clock: [u32; 8],
-    pub read: [u32; 8],
-    pub count: usize,
-    pub moved: bool,
-    pub gone: [bool; 16],
-}
-
-#[derive(Drop)]
-struct JointLeft {
-    pub refusal: u32,
-    pub clock: [u32; 8],
-    pub read: [u32; 8],
-    pub count: usize,
-    pub moved: bool,
-    pub gone: [bool; 16],
-}
-
 // What a write answers, the session's clock and count then, and what stands at one place of its row: on a refusal all as it was.
 #[derive(Drop)]
 struct WriteDone {
@@ -73,21 +49,6 @@ struct WriteDone {
     pub count: usize,
     pub place: usize,
     pub entry: Entry,
-}
-
-// The session that a reading leaves which writes its row anew.
-fn moved_session(
-    s: Session,
-    clock: [u32; 8],
-    read: [u32; 8],
-    count: usize,
-    gone: [bool; 16],
-) -> Session
-    requires { s.count ≤ 16 }
-    ensures { result ≡ with_rest s (record { clock = clock; read = read }) (record { gone = gone; left = count; moved = true }) }
-{
-    let seen = office::note::Seen { clock, read };
-    reading::release::with_moved(s, seen, gone, count)
 }
 
 // ---- a reading of one plot
@@ -115,25 +76,11 @@ fn plot_done(done: reading::read::PlotSeen) -> PlotDone
 }
 
 // burial_read_plot, with what it changes of the session in place of the session.
-fn plot_by_value(store: &mut [u32], s: Session, plot: u32) -> PlotLeft
-    ensures { (result.answer.found ≤ 1) × (result.moved ≡ true → s.count ≤ 16) × ReadPromise store.old s plot result.answer.refusal (is_set result.answer.found) result.answer.entry (with_rest s (record { clock = result.clock; read = result.read }) (record { gone = result.gone; left = result.count; moved = result.moved })) store.new }
+fn plot_by_value(store: &mut [u32], s: Session, plot: u32) -> PlotDone
+    ensures { (result.answer.found ≤ 1) × ReadPromise store.old s plot result.answer.refusal (is_set result.answer.found) result.answer.entry (with_seen s (record { clock = result.clock; read = result.read })) store.new }
 {
-    let left = reading::read::see_plot(store, s, plot);
-    let seen = left.done;
-    let done = plot_done(seen);
-    let answer = done.answer;
-    let clock = done.clock;
-    let read = done.read;
-    let rest = left.rest;
-    let gone = rest.gone;
-    PlotLeft {
-        answer,
-        clock,
-        read,
-        count: rest.left,
-        moved: rest.moved,
-        gone,
-    }
+    let done = reading::read::see_plot(store, s, plot);
+    plot_done(done)
 }
 
 // The same for a session that carries nothing: only the fields that are looked at come here.
@@ -155,21 +102,14 @@ fn plot_alone(
 pub extern "C" fn burial_lent_read_plot(store: &mut [u32], s: &mut Session, plot: u32) -> PlotFound
     ensures { (result.found ≤ 1) × ReadPromise store.old s.old plot result.refusal (is_set result.found) result.entry s.new store.new }
 {
-    if s.count == 0 {
-        let done = plot_alone(store, s.offices, s.clock, s.read, plot);
-        s.clock = done.clock;
-        s.read = done.read;
-        return done.answer;
-    }
-    let left = plot_by_value(store, *s, plot);
-    if left.moved {
-        *s = moved_session(*s, left.clock, left.read, left.count, left.gone);
-        return left.answer;
-    }
-    s.clock = left.clock;
-    s.read = left.read;
-    s.count = left.count;
-    left.answer
+    let done = if s.count == 0 {
+        plot_alone(store, s.offices, s.clock, s.read, plot)
+    } else {
+        plot_by_value(store, *s, plot)
+    };
+    s.clock = done.clock;
+    s.read = done.read;
+    done.answer
 }
 
 // ---- a joint reading
@@ -190,24 +130,11 @@ fn joint_done(done: reading::joint::JointSeen) -> JointDone
 }
 
 // burial_read_joint, with what it changes of the session in place of the session.
-fn joint_by_value(store: &mut [u32], s: Session, plots: &[u32], answer: &mut [u32]) -> JointLeft
-    ensures { (result.moved ≡ true → s.count ≤ 16) × JointPromise store.old s plots.now answer.old result.refusal (with_rest s (record { clock = result.clock; read = result.read }) (record { gone = result.gone; left = result.count; moved = result.moved })) store.new answer.new }
+fn joint_by_value(store: &mut [u32], s: Session, plots: &[u32], answer: &mut [u32]) -> JointDone
+    ensures { JointPromise store.old s plots.now answer.old result.refusal (with_seen s (record { clock = result.clock; read = result.read })) store.new answer.new }
 {
-    let left = reading::joint::see_joint(store, s, plots, answer);
-    let seen = left.done;
-    let done = joint_done(seen);
-    let clock = done.clock;
-    let read = done.read;
-    let rest = left.rest;
-    let gone = rest.gone;
-    JointLeft {
-        refusal: done.refusal,
-        clock,
-        read,
-        count: rest.left,
-        moved: rest.moved,
-        gone,
-    }
+    let done = reading::joint::see_joint(store, s, plots, answer);
+    joint_done(done)
 }
 
 // The same for a session that carries nothing.
@@ -235,21 +162,14 @@ pub extern "C" fn burial_lent_read_joint(
 ) -> u32
     ensures { JointPromise store.old s.old plots.now answer.old result s.new store.new answer.new }
 {
-    if s.count == 0 {
-        let done = joint_alone(store, s.offices, s.clock, s.read, plots, answer);
-        s.clock = done.clock;
-        s.read = done.read;
-        return done.refusal;
-    }
-    let left = joint_by_value(store, *s, plots, answer);
-    if left.moved {
-        *s = moved_session(*s, left.clock, left.read, left.count, left.gone);
-        return left.refusal;
-    }
-    s.clock = left.clock;
-    s.read = left.read;
-    s.count = left.count;
-    left.refusal
+    let done = if s.count == 0 {
+        joint_alone(store, s.offices, s.clock, s.read, plots, answer)
+    } else {
+        joint_by_value(store, *s, plots, answer)
+    };
+    s.clock = done.clock;
+    s.read = done.read;
+    done.refusal
 }
 
 // ---- a write

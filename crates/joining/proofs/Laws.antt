@@ -17,7 +17,7 @@ use Rattle.causal.specs.Codes.{check}
 use Rattle.causal.specs.Lists.{zeros}
 use Rattle.causal.specs.Sets.{IdSet, Within, has, is_in, unite}
 use Rattle.causal.specs.Tests.{both}
-use Rattle.causal.proofs.Clocks.{join_at_lem, join_covers}
+use Rattle.causal.proofs.Clocks.{join_at, join_covers}
 use Rattle.causal.proofs.Codes.{check_none}
 use Rattle.causal.proofs.Sets.{has_lt, has_unite, ids_unite, ids_zeros, in_is, in_or_out, in_unite, is_in_lem, same_words, unite_left, unite_right}
 use Rattle.causal.proofs.Tests.{both_true, not_so}
@@ -206,14 +206,14 @@ apart_behind [] m a k i j = Memᴰ.not-nil i
 apart_behind (x ∷ l) m (apart_cons out a) k i j =
     ⊎_elim (λ (q : k ≡ x). out (Memᴰ.append_right l (rw q at j))) (λ h. apart_behind l m a k h j) (Memᴰ.cases_cons i)
 
-pub covered_join : (x y : List ℕ) → length y ≡ 8 → Covers y x → (join x y ≡ y) × (join y x ≡ y)
+covered_join : (x y : List ℕ) → length y ≡ 8 → Covers y x → (join x y ≡ y) × (join y x ≡ y)
 unfolding join
 covered_join x y len c = (
-  ext_get_or 0 (join x y) y (sym len) (λ j l. omega (arith, join_at_lem x y j (omega arith), c j (omega arith))),
-  ext_get_or 0 (join y x) y (sym len) (λ j l. omega (arith, join_at_lem y x j (omega arith), c j (omega arith))),
+  ext_get_or 0 (join x y) y (sym len) (λ j l. omega (arith, join_at x y j (omega arith), c j (omega arith))),
+  ext_get_or 0 (join y x) y (sym len) (λ j l. omega (arith, join_at y x j (omega arith), c j (omega arith))),
 )
 
-pub within_unite : (x y : List ℕ) → IdSet x → IdSet y → Within x y → (unite x y ≡ y) × (unite y x ≡ y)
+within_unite : (x y : List ℕ) → IdSet x → IdSet y → Within x y → (unite x y ≡ y) × (unite y x ≡ y)
 within_unite x y X Y w = (
   same_words (unite x y) y (ids_unite x y X Y) Y (λ k l. omega (arith, has_unite x y k l, below k, has_lt x k, has_lt y k)),
   same_words (unite y x) y (ids_unite y x Y X) Y (λ k l. omega (arith, has_unite y x k l, below k, has_lt x k, has_lt y k)),

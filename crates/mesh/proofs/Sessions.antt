@@ -93,11 +93,8 @@ module _ (S : Shape) (wpast : ℕ → ℕ → Type 0) where
     take_sound =
         record {
           reads_visible = λ r m. visible (T.reads_from r m);
-          own_made = λ y m. J.own_made y (without_in T.own_left y m);
-          own_deps =
-              λ bef y aft e d m.
-              let r = without_split T.own_left bef y aft e in
-              ⊎_elim (λ i. inl (T.reads_to d i)) (λ i. read_or bef d (r.3 d i)) (J.own_deps r.0 y r.1 r.2 d m);
+          own_made = λ y m. J.own_made y (rw T.own_are at m);
+          own_deps = λ bef y aft e d m. deps bef d (J.own_deps bef y aft (sym T.own_are ∙ e) d m);
           past_from = λ q b. past q (T.past_are q b);
         }
       where
@@ -105,22 +102,17 @@ module _ (S : Shape) (wpast : ℕ → ℕ → Type 0) where
         visible {r} (inl t) = (O, T.visible r t)
         visible {r} (inr m) = J.reads_visible r m
 
-        -- what joined is read
-        read_or : (l : List ℕ) (x : ℕ) → R x ⊎ Memᴰ x l → s'.reads x ⊎ Memᴰ x l
-        read_or l x (inl i) = inl (T.reads_new x i)
-        read_or l x (inr m) = inr m
-
-        -- an own write of before is still one, or is now read
-        own : (x : ℕ) → Memᴰ x s.own → s'.reads x ⊎ Memᴰ x s'.own
-        own x m = read_or s'.own x (without_all T.own_left x m)
+        deps : (bef : List ℕ) (d : ℕ) → s.reads d ⊎ Memᴰ d bef → s'.reads d ⊎ Memᴰ d bef
+        deps bef d (inl m) = inl (T.reads_to d m)
+        deps bef d (inr m) = inr m
 
         base : (d : ℕ) → s.reads d ⊎ Memᴰ d s.own → s'.reads d ⊎ Memᴰ d s'.own
         base d (inl m) = inl (T.reads_to d m)
-        base d (inr m) = own d m
+        base d (inr m) = inr (rw T.own_are m)
 
         source : (x : ℕ) → R x ⊎ Memᴰ x s.own → s'.reads x ⊎ Memᴰ x s'.own
         source x (inl i) = inl (T.reads_new x i)
-        source x (inr m) = own x m
+        source x (inr m) = inr (rw T.own_are m)
 
         gain : (x q : ℕ) → W.made x → (q ≡ x) ⊎ wpast x q → Reach S x q
         gain x q m (inl e) = rw e self

@@ -42,15 +42,14 @@ module _ (S : Shape) (wpast : ℕ → ℕ → Type 0) where
         (d : ℕ) → S.deps y d → s.reads d ⊎ Memᴰ d bef
     pub past_from : (q : ℕ) → s.past q → (a : ℕ) × (s.reads a ⊎ Memᴰ a s.own) × Reach S a q
 
-  -- a reading at O: the ids R, all visible at O, join what s has read, and own writes that it no longer carries are of R; each id of H, one of R or
-  -- its own, joins the past with its writer's past
+  -- a reading at O: the ids R, all visible at O, join what s has read; each id of H, one of R or its own, joins the past with its writer's past
   pub record TakesIn (W : World) (s s' : IdSession) (O : ℕ) (R H : ℕ → Type 0) : Type 0 where
     pub visible : (x : ℕ) → R x → W.visible O x
     pub handed : (x : ℕ) → H x → R x ⊎ Memᴰ x s.own
     pub reads_from : (r : ℕ) → s'.reads r → R r ⊎ s.reads r
     pub reads_to : (r : ℕ) → s.reads r → s'.reads r
     pub reads_new : (r : ℕ) → R r → s'.reads r
-    pub own_left : Without R s.own s'.own
+    pub own_are : s'.own ≡ s.own
     pub past_are : (q : ℕ) → s'.past q → s.past q ⊎ ((x : ℕ) × H x × ((q ≡ x) ⊎ wpast x q))
 
   -- a write of e at C by a session: e depends on all that the session read and wrote; it carries those own writes that C need not hold

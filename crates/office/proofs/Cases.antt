@@ -17,12 +17,11 @@ use Rattle.frame.specs.Frames.{accepts, body_words, frame_of, frame_ok, frame_wo
 use Rattle.frame.specs.Sessions.{Content, fresh_content, ids_of, leave_out, own_ok, session_ok}
 use Rattle.frame.specs.Tokens.{rows_of}
 use Rattle.frame.specs.Words.{clock_from, clock_words, id_word_if, id_words, id_words_to, ids_from, summed, total}
-use Rattle.frame.specs.declared.entry.Entry.{Entry}
 use Rattle.frame.specs.declared.entry.Frame.{Frame}
 use Rattle.frame.proofs.Cases.{entry_a, entry_b}
 use Rattle.store.specs.Offices.{None, Office, Some, best_own, best_to, better, clock_of, consider, current, empty_office, hold, made, max_to, reveal, settings_ok}
 use Rattle.store.specs.Reveal.{revealed, steps}
-use Rattle.office.specs.Calls.{answer_words, entry_code, fresh_code, handed, hold_all, hold_new, joint_code, joint_on, new_entry, noted, noted_all, open_office, own_code, plots_ok, read_code, read_on, read_out, receive_code, receive_on, receive_sends, received_by, released, sent_of, shows_own, store_need, three_words, write_code, write_on, wrote_session}
+use Rattle.office.specs.Calls.{answer_words, entry_code, fresh_code, handed, hold_all, hold_new, joint_code, joint_on, new_entry, noted, noted_all, open_office, own_code, plots_ok, read_code, read_on, receive_code, receive_on, receive_sends, received_by, sent_of, store_need, three_words, write_code, write_on, wrote_session}
 
 abbrev row : List ℕ
 row = replicate 20 0
@@ -44,25 +43,6 @@ read_b = record { offices = 3; clock = 1 ∷ 1 ∷ 0 ∷ 0 ∷ 0 ∷ 0 ∷ 0 ∷
 abbrev pub carries_a : Content
 carries_a = record { offices = 3; clock = 1 ∷ 0 ∷ 0 ∷ 0 ∷ 0 ∷ 0 ∷ 0 ∷ 0 ∷ []; read = zeros; own = entry_a ∷ [] }
 
--- the same once it is released
-abbrev pub read_a : Content
-read_a = record { offices = 3; clock = 1 ∷ 0 ∷ 0 ∷ 0 ∷ 0 ∷ 0 ∷ 0 ∷ 0 ∷ []; read = 1 ∷ 0 ∷ 0 ∷ 0 ∷ 0 ∷ 0 ∷ 0 ∷ 0 ∷ []; own = [] }
-
--- one with its name and another value
-abbrev other_a : Entry
-other_a =
-    record {
-      office = entry_a.office;
-      serial = entry_a.serial;
-      plot = entry_a.plot;
-      value = entry_a.value + 1;
-      clock = entry_a.clock;
-      deps = entry_a.deps;
-    }
-
-abbrev pub carries_other : Content
-carries_other = record { offices = 3; clock = carries_a.clock; read = zeros; own = other_a ∷ [] }
-
 pub record Cases : Type 0 where
   -- the last office to receive it shows it; an office in the middle does not, and sends it on, also if it holds it already
   pub last_shows : (got_a 0).visible ≡ 1 ∷ 0 ∷ 0 ∷ 0 ∷ 0 ∷ 0 ∷ 0 ∷ 0 ∷ []
@@ -77,16 +57,6 @@ pub record Cases : Type 0 where
   pub joint_row : (joint_on got_b read_b (6 ∷ 7 ∷ []) (9 ∷ 9 ∷ 9 ∷ 9 ∷ 9 ∷ 9 ∷ 9 ∷ [])).row ≡ 1 ∷ 1 ∷ 257 ∷ 0 ∷ 0 ∷ 0 ∷ 9 ∷ []
   pub joint_own : (joint_on before carries_a (5 ∷ 6 ∷ []) row).found ≡ Some entry_a ∷ None ∷ []
   pub joint_own_unread : (joint_on before carries_a (5 ∷ 6 ∷ []) row).session ≡ carries_a
-  -- 02, (v): an own write that the office shows is released and read, also by a joint reading of no plots, and the reply has it; one that it holds
-  -- hidden, or with other content, is carried on
-  pub shown_goes : (read_on (got_a 0) carries_a 6).session ≡ read_a
-  pub shown_replied : (read_on (got_a 0) carries_a 5).found ≡ Some entry_a ∷ []
-  pub empty_releases : (joint_on (got_a 0) carries_a [] []).session ≡ read_a
-  pub hidden_stays : (read_on (got_a 1) carries_a 6).session ≡ carries_a
-  pub other_stays : (read_on (got_a 0) carries_other 6).session ≡ carries_other
-  pub other_refused : (write_on (got_a 0) carries_other 6 1 row).code ≡ 11
-  -- what is released is no more carried, and is known: a write sends the new entry alone, and that depends on it
-  pub released_sent : map (λ (f : Frame). f.entry.deps) (write_on (got_a 0) read_a 6 1 row).sent ≡ (1 ∷ 0 ∷ 0 ∷ 0 ∷ 0 ∷ 0 ∷ 0 ∷ 0 ∷ []) ∷ []
   -- a write on an office that made nothing is accepted, is framed in seven words, and is held
   pub write_code_lem : (write_on before (fresh_content 3) 5 709 row).code ≡ 0
   pub write_count : (write_on before (fresh_content 3) 5 709 row).count ≡ 7
@@ -108,7 +78,7 @@ pub record Cases : Type 0 where
   pub need_of_3 : store_need 3 2 64 ≡ (0, 1747)
 
 pub cases : Cases
-unfolding count_trailing_zeros both either implies all_below check or_else part tab sum_below eq_words bit has is_in unite minus inserted word_in subset_of lowest_in lowest_of join higher ranks_above outranks clock_words clock_from id_word_if id_words_to id_words ids_from total summed clock_place_ok clock_ok ids_place_ok ids_ok bounds_ok entry_ok same_content ring_ok body_words frame_words frame_ok frame_of accepts laid ids_of own_ok session_ok rows_of steps revealed settings_ok made max_to clock_of reveal hold better consider best_to current best_own entry_code own_code noted read_out shows_own released read_code handed plots_ok joint_code noted_all three_words answer_words new_entry leave_out sent_of write_code hold_all wrote_session receive_code hold_new received_by receive_sends read_on joint_on write_on receive_on fresh_code open_office store_need
+unfolding count_trailing_zeros both either implies all_below check or_else part tab sum_below eq_words bit has is_in unite minus inserted word_in subset_of lowest_in lowest_of join higher ranks_above outranks clock_words clock_from id_word_if id_words_to id_words ids_from total summed clock_place_ok clock_ok ids_place_ok ids_ok bounds_ok entry_ok same_content ring_ok body_words frame_words frame_ok frame_of accepts laid ids_of own_ok session_ok rows_of steps revealed settings_ok made max_to clock_of reveal hold better consider best_to current best_own entry_code own_code noted read_code handed plots_ok joint_code noted_all three_words answer_words new_entry leave_out sent_of write_code hold_all wrote_session receive_code hold_new received_by receive_sends read_on joint_on write_on receive_on fresh_code open_office store_need
 cases =
     record {
       last_shows = refl;
@@ -122,13 +92,6 @@ cases =
       joint_row = refl;
       joint_own = refl;
       joint_own_unread = refl;
-      shown_goes = refl;
-      shown_replied = refl;
-      empty_releases = refl;
-      hidden_stays = refl;
-      other_stays = refl;
-      other_refused = refl;
-      released_sent = refl;
       write_code_lem = refl;
       write_count = refl;
       write_held = refl;

@@ -25,9 +25,8 @@ use Rattle.frame.proofs.Sessions.{SessionFacts, facts_session, ids_from, ids_new
 use Rattle.store.specs.Offices.{Found, None, Office, Some, current, made, reveal}
 use Rattle.store.proofs.Best.{current_from}
 use Rattle.store.proofs.Keep.{Sound, reveal_sound}
-use Rattle.office.specs.Calls.{answer_words, given, handed_all, joint_code, joint_on, new_entry, noted, noted_all, own_code, plots_ok, read_all, read_code, read_on, released, write_code, write_on, write_sends, wrote_session}
+use Rattle.office.specs.Calls.{answer_words, given, handed_all, joint_code, joint_on, new_entry, noted, noted_all, own_code, plots_ok, read_all, read_code, read_on, write_code, write_on, write_sends, wrote_session}
 use Rattle.office.proofs.KeepSession.{noted_ok}
-use Rattle.office.proofs.Released.{released_ok, released_sane}
 use Rattle.office.proofs.KeepWrite.{R, e_from, e_id, e_ok, e_set, not_own}
 
 -- ---- readings
@@ -67,18 +66,8 @@ module _ (O : Office) (S : Sound O) (s : Content) (N : SaneContent s) (h : sessi
   unfolding reveal
   back s' q = q
 
-  -- once what is shown is released
-  abbrev L : Content
-  L = released (reveal O s.read) s
-
-  left_sane : SaneContent L
-  left_sane = released_sane O.offices O.plots S.few (reveal O s.read) s N h
-
-  left_ok : Q (reveal O s.read) L
-  left_ok = back L (released_ok O.offices O.plots S.few (reveal O s.read) s N h)
-
-  noted_session : (plots : List ℕ) → subset_of s.read O.held ≡ true → session_ok O.offices O.plots (noted_all (reveal O s.read) plots L) ≡ true
-  noted_session plots q = shift (noted_all (reveal O s.read) plots L) (all_q (reveal O s.read) (after q) plots L left_sane left_ok)
+  noted_session : (plots : List ℕ) → subset_of s.read O.held ≡ true → session_ok O.offices O.plots (noted_all (reveal O s.read) plots s) ≡ true
+  noted_session plots q = shift (noted_all (reveal O s.read) plots s) (all_q (reveal O s.read) (after q) plots s N (back s h))
 
   pub read_session : (plot : ℕ) → session_ok O.offices O.plots (read_on O s plot).session ≡ true
   unfolding read_on read_code check

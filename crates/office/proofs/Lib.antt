@@ -7,7 +7,6 @@ pub mod KeepCalls
 pub mod Along
 pub mod KeepWrite
 pub mod KeepSession
-pub mod Released
 pub mod KeptSession
 pub mod Kept
 pub mod Numbers
@@ -23,4 +22,3 @@ pub mod Three
 pub mod Bounds
 pub mod Orders
 pub mod HeldSame
-pub mod HandedReleased

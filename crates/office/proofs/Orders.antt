@@ -22,7 +22,7 @@ use Rattle.frame.proofs.Bounds.{carrying, loaded}
 use Rattle.frame.proofs.Cases.{entry_a, entry_b}
 use Rattle.store.specs.Offices.{best_own, best_to, better, clock_of, consider, current, entry_at, gapless, held_ok, hold, made, max_to, office_of, reveal, settings_ok, slot_words, slots_to, sound_office, sound_store, store_words}
 use Rattle.store.specs.Reveal.{revealed, steps}
-use Rattle.office.specs.Calls.{Result, answer_words, entry_code, handed, hold_all, hold_new, joint_code, joint_on, new_entry, noted, noted_all, open_office, own_code, plots_ok, read_code, read_joint, read_on, read_out, read_plot, receive, receive_code, receive_on, receive_sends, received_by, released, sent_of, shows_own, three_words, write, write_code, write_on, wrote_session}
+use Rattle.office.specs.Calls.{Result, answer_words, entry_code, handed, hold_all, hold_new, joint_code, joint_on, new_entry, noted, noted_all, open_office, own_code, plots_ok, read_code, read_joint, read_on, read_plot, receive, receive_code, receive_on, receive_sends, received_by, sent_of, three_words, write, write_code, write_on, wrote_session}
 use Rattle.office.proofs.Bounds.{made32, other_deps, other_plot, other_value}
 use Rattle.office.proofs.Cases.{before, got_a, got_b, read_b}
 
@@ -124,7 +124,7 @@ pub record Orders : Type 0 where
   pub receiving : Receiving
 
 pub orders : Orders
-unfolding both ring_ok settings_ok open_office count_trailing_zeros either implies all_below check or_else part tab sum_below eq_words bit has is_in unite minus inserted word_in subset_of lowest_in lowest_of join higher ranks_above outranks clock_words clock_from id_word_if id_words_to id_words ids_from total summed clock_place_ok clock_ok ids_place_ok ids_ok bounds_ok entry_ok same_content body_words frame_words frame_ok frame_of accepts laid ids_of own_ok session_ok rows_of steps revealed made max_to clock_of reveal hold better consider best_to current best_own entry_code own_code noted read_out shows_own released read_code handed plots_ok joint_code noted_all three_words answer_words new_entry leave_out sent_of write_code hold_all wrote_session receive_code hold_new received_by receive_sends read_on joint_on write_on receive_on entry_at office_of slot_words slots_to store_words held_ok gapless sound_office sound_store read_plot read_joint write receive
+unfolding both ring_ok settings_ok open_office count_trailing_zeros either implies all_below check or_else part tab sum_below eq_words bit has is_in unite minus inserted word_in subset_of lowest_in lowest_of join higher ranks_above outranks clock_words clock_from id_word_if id_words_to id_words ids_from total summed clock_place_ok clock_ok ids_place_ok ids_ok bounds_ok entry_ok same_content body_words frame_words frame_ok frame_of accepts laid ids_of own_ok session_ok rows_of steps revealed made max_to clock_of reveal hold better consider best_to current best_own entry_code own_code noted read_code handed plots_ok joint_code noted_all three_words answer_words new_entry leave_out sent_of write_code hold_all wrote_session receive_code hold_new received_by receive_sends read_on joint_on write_on receive_on entry_at office_of slot_words slots_to store_words held_ok gapless sound_office sound_store read_plot read_joint write receive
 orders =
     record {
       opening =

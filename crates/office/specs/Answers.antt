@@ -1,7 +1,6 @@
 -- What the calls of an office answer, and the sessions they leave, as the code has them: a session is a struct whose content is `content_of`
 -- (proofs/Answers.antt: the content of each session left is the one that Calls says). Assumes nothing.
-use Rattle.std.specs.Prelude.{ℕ, zero, suc, ◌+◌, Bool, true, false, List, [], ◌∷◌, length, set}
-use Rattle.std.proofs.lemmas.List.Edits.{sets}
+use Rattle.std.specs.Prelude.{ℕ, zero, suc, ◌+◌, Bool, true, false, List, [], ◌∷◌, set}
 use Rattle.causal.specs.Sets.{inserted}
 use Rattle.causal.specs.Clocks.{join}
 use Rattle.frame.specs.declared.entry.Entry.{Entry}
@@ -9,9 +8,9 @@ use Rattle.frame.specs.declared.refusal.Written.{Written}
 use Rattle.frame.specs.declared.refusal.Written.TheVariants.{NotWritten, Words}
 use Rattle.frame.specs.declared.session.Session.{Session}
 use Rattle.frame.specs.Entries.{id_of, blank_entry}
-use Rattle.frame.specs.Sessions.{Content, content_of, fresh_content, leave_out}
+use Rattle.frame.specs.Sessions.{Content, content_of, fresh_content}
 use Rattle.store.specs.Offices.{Office, office_of, reveal, current, Found, None, Some}
-use Rattle.office.specs.Calls.{new_entry, read_joint, read_out, read_plot, shows_own, write}
+use Rattle.office.specs.Calls.{new_entry, read_plot, read_joint, write}
 
 -- is an entry handed back, and which: a fixed blank where none is
 unfoldable pub any_found : List Found → Bool
@@ -39,22 +38,6 @@ unfoldable pub noted_all_in : Office → List ℕ → Session → Session
 noted_all_in O [] s = s
 noted_all_in O (q ∷ qs) s = noted_all_in O qs (noted_in (current O q) s)
 
--- the own writes that stay, in order
-abbrev pub staying : Office → Session → List Entry
-staying O s = leave_out (shows_own O) (content_of s).own
-
--- own entries "leave the carried list and become read names". In the row of sixteen those that stay stand in front, in order, and every slot behind
--- them is as it came
-unfoldable pub released_in : Office → Session → Session
-released_in O s =
-    record {
-      offices = s.offices;
-      clock = s.clock;
-      read = read_out (shows_own O) s.read (content_of s).own;
-      count = length (staying O s);
-      own = sets s.own 0 (staying O s);
-    }
-
 -- "It joins the errand's own entries and clock"
 unfoldable pub extended_by : Session → Entry → Session
 extended_by s e =
@@ -74,13 +57,11 @@ with_made s (NotWritten r) e = s
 
 unfoldable pub read_plot_session : List ℕ → Session → ℕ → Session
 read_plot_session ws s plot =
-    session_if (read_plot ws (content_of s) plot).code s
-    (noted_in (current (reveal (office_of ws) s.read) plot) (released_in (reveal (office_of ws) s.read) s))
+    session_if (read_plot ws (content_of s) plot).code s (noted_in (current (reveal (office_of ws) s.read) plot) s)
 
 unfoldable pub read_joint_session : List ℕ → Session → List ℕ → List ℕ → Session
 read_joint_session ws s plots row =
-    session_if (read_joint ws (content_of s) plots row).code s
-    (noted_all_in (reveal (office_of ws) s.read) plots (released_in (reveal (office_of ws) s.read) s))
+    session_if (read_joint ws (content_of s) plots row).code s (noted_all_in (reveal (office_of ws) s.read) plots s)
 
 unfoldable pub write_session : List ℕ → Session → ℕ → ℕ → List ℕ → Session
 write_session ws s plot value row =

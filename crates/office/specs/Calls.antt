@@ -34,7 +34,7 @@ own_code O (e ∷ es) = or_else (entry_code O e) (own_code O es)
 unfoldable pub handed : Office → Content → ℕ → Found
 handed O s plot = best_own plot (current O plot) s.own
 
--- what the presented entry adds to the session: "add the presented entry's name to the read names and join its clock into the errand's"; 02, (i): "The
+-- what a reading adds to the session: "add the presented entry's name to the read names and join its clock into the errand's"; 02, (i): "The
 -- errand's read names still take the presented entries"
 unfoldable pub noted : Found → Content → Content
 noted None s = s
@@ -43,22 +43,6 @@ noted (Some e) s = record { offices = s.offices; clock = join s.clock e.clock; r
 unfoldable pub noted_all : Office → List ℕ → Content → Content
 noted_all O [] s = s
 noted_all O (q ∷ qs) s = noted_all O qs (noted (current O q) s)
-
--- ---- Own entries that a reading releases (02, (v)): O is the office "once the read names are brought out"
-
--- "own entries that the office shows, with equal content"
-unfoldable pub shows_own : Office → Entry → Bool
-shows_own O e = both (is_in O.visible (id_of e)) (same_content e (O.entry (id_of e)))
-
--- those that a test takes out "become read names"
-unfoldable pub read_out : (Entry → Bool) → List ℕ → List Entry → List ℕ
-read_out t read [] = read
-read_out t read (e ∷ es) = read_out t (cond (t e) (inserted read (id_of e)) read) es
-
--- they "leave the carried list and become read names": names alone, the clock stays
-unfoldable pub released : Office → Content → Content
-released O s =
-    record { offices = s.offices; clock = s.clock; read = read_out (shows_own O) s.read s.own; own = leave_out (shows_own O) s.own }
 
 -- ---- Read one plot
 
@@ -188,8 +172,7 @@ given (suc c) a s row r = refusal (suc c) a s row
 abbrev pub handed_all : Office → Content → List ℕ → List Found
 handed_all O s plots = map (handed (reveal O s.read) s) plots
 
--- an accepted reading of plots, one or several; row: the lent row as it leaves it. What is released leaves "before the presented entry is added,
--- and the reply still counts the entries just released" (02, (v))
+-- an accepted reading of plots, one or several; row: the lent row as it leaves it
 abbrev pub read_all : Office → Content → List ℕ → List ℕ → Result Office Frame
 read_all O s plots row =
     record {
@@ -197,7 +180,7 @@ read_all O s plots row =
       count = 0;
       found = handed_all O s plots;
       store = reveal O s.read;
-      session = noted_all (reveal O s.read) plots (released (reveal O s.read) s);
+      session = noted_all (reveal O s.read) plots s;
       row = row;
       sent = [];
     }

@@ -3,7 +3,7 @@ ghost use Rattle.std.specs.Prelude.{◌≡◌, true, ◌≤◌};
 ghost use Rattle.causal.specs.Lists.{part};
 ghost use Rattle.causal.specs.Sets.{subset_of};
 ghost use Rattle.frame.specs.Refusals.{code_of};
-ghost use Rattle.frame.specs.Sessions.{content_of, ids_of};
+ghost use Rattle.frame.specs.Sessions.{content_of};
 ghost use Rattle.store.specs.Offices.{sound_store};
 ghost use Rattle.office.specs.Decide.{bare, start_code};
 
@@ -36,48 +36,27 @@ pub fn alone_code(store: &[u32], sound: bool, offices: u32, clock: [u32; 8], rea
     0
 }
 
-// A refusal number, and the ids of a session's own writes; of these nothing is said where it is refused.
-#[derive(Drop)]
-pub struct Start {
-    pub code: u32,
-    pub own: [u32; 8],
-}
-
 // The same for any session, whose parts but for its own writes the caller has asked. They are taken out only where there are any.
-pub fn start_of(store: &[u32], head: u32, s: Session) -> Start
-    requires { head ≡ start_code store.now (bare s.offices s.clock s.read) }
-    ensures { (result.code ≡ start_code store.now (content_of s)) × (result.code ≡ 0 → result.own ≡ ids_of (content_of s).own) }
-{
-    let none = [0u32; 8];
-    if head != 0 {
-        return Start {
-            code: head,
-            own: none,
-        };
-    }
-    let count = s.count;
-    if count == 0 {
-        return Start { code: 0, own: none };
-    }
-    if count > 16 {
-        return Start { code: 3, own: none };
-    }
-    let read = s.read;
-    let own = s.own;
-    let asked = frame::session::owns_of(store[0], store[2], read, own, count);
-    let ids = asked.ids;
-    if !asked.ok {
-        return Start { code: 3, own: ids };
-    }
-    Start { code: 0, own: ids }
-}
-
 pub fn start_code(store: &[u32], head: u32, s: Session) -> u32
     requires { head ≡ start_code store.now (bare s.offices s.clock s.read) }
     ensures { result ≡ start_code store.now (content_of s) }
 {
-    let asked = start_of(store, head, s);
-    asked.code
+    if head != 0 {
+        return head;
+    }
+    let count = s.count;
+    if count == 0 {
+        return 0;
+    }
+    if count > 16 {
+        return 3;
+    }
+    let read = s.read;
+    let own = s.own;
+    if !frame::session::owns_ok(store[0], store[2], read, own, count) {
+        return 3;
+    }
+    0
 }
 
 // Is every id of a set held?

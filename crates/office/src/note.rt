@@ -1,10 +1,11 @@
 // What is current on a plot as a number: its id, or 256 for none; and what a session notes of it.
 ghost use Rattle.std.specs.Prelude.{◌≡◌, length};
-ghost use Rattle.office.specs.Decide.{place_number, found_in, Reaches, noted_seen};
+ghost use Rattle.office.specs.Decide.{place_number, found_in, Reaches, noted_seen, with_seen};
 
+use frame::session::Session;
 use store::current::Place;
 
-// What every reading may change of a session. What becomes of its own writes: reading::release.
+// The part of a session that a reading changes.
 #[derive(Drop)]
 pub struct Seen {
     pub clock: [u32; 8],
@@ -33,4 +34,19 @@ pub fn note(store: &[u32], k: usize, seen: Seen) -> Seen
     let clock = causal::clock::join(old, store::layout::clock_at(store, k));
     let read = causal::set::insert(read, k);
     Seen { clock, read }
+}
+
+pub fn with_seen(s: Session, seen: Seen) -> Session
+    ensures { result ≡ with_seen s seen }
+{
+    let clock = seen.clock;
+    let read = seen.read;
+    let own = s.own;
+    Session {
+        offices: s.offices,
+        clock,
+        read,
+        count: s.count,
+        own,
+    }
 }

@@ -4,7 +4,7 @@ use mathlib.Core.List.{List, [], ◌++◌, ◌∷◌}
 use mathlib.Core.Path.{◌∙◌, ◌≡◌, ap, refl, sym}
 use native.Mathlib.Omega.{arith}
 use lib.ListN.{get_or, length, length-set, set}
-use lib.Seq.{get_or-set_other, get_or-set_same, length-sets}
+use lib.Seq.{get_or-set_other, get_or-set_same}
 use Rattle.causal.specs.Clocks.{join}
 use Rattle.causal.specs.Lists.{tab}
 use Rattle.causal.proofs.Lists.{tab_more}
@@ -13,7 +13,7 @@ use Rattle.frame.specs.declared.entry.Entry.{Entry}
 use Rattle.frame.specs.declared.session.Session.{Session}
 use Rattle.frame.proofs.OwnTurns.{count_is}
 use Rattle.store.specs.Offices.{Found, None, Office, Some, current, office_of, reveal, sound_store}
-use Rattle.office.specs.Answers.{any_found, entry_found, extended_by, noted_in, read_plot_session, released_in, session_if, staying}
+use Rattle.office.specs.Answers.{any_found, entry_found, extended_by, noted_in, read_plot_session, session_if}
 use Rattle.office.specs.Calls.{new_entry, read_plot, write, write_code, write_on, wrote_session}
 use Rattle.ring.proofs.WriteKeeps.{last_snoc}
 use Rattle.script.specs.declared.reply.Reply.{Reply}
@@ -78,10 +78,8 @@ module _ (ws : List ℕ) (s : Session) (size : length s.own ≡ 16) where
   write_size e = length-set s.own s.count e ∙ size
 
   pub read_size : (plot : ℕ) → (read_plot ws (content_of s) plot).code ≡ 0 → length (read_plot_session ws s plot).own ≡ 16
-  unfolding read_plot_session session_if released_in
-  read_size plot z =
-      let O = reveal (office_of ws) s.read in
-      rw z (noted_size (released_in O s) (current O plot) ∙ length-sets s.own 0 (staying O s) ∙ size)
+  unfolding read_plot_session session_if
+  read_size plot z = rw z (noted_size s (current (reveal (office_of ws) s.read) plot) ∙ size)
 
 pub found_is : (fs : List Found) → entry_reply (any_found fs) (entry_found fs) ≡ read_reply fs
 unfolding any_found entry_found read_reply

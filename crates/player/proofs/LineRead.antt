@@ -76,7 +76,7 @@ module _ (g : Scene) (d : Desk) (stores lines : List ℕ) (S : Shows g d stores 
       subst (λ (x : Desk × (Reply × List ℕ)). Plays row g (Read i plot) (record { desk = x.0; reply = x.1.0 }) x.1.1 lines)
       (λ j. (with_session d i (sym A.3 j), (sym (q ∙ (λ k. entry_reply (A.1 k) (A.2 k)) ∙ found_is R.found) j, sym left_is j)))
       (read_done g d stores lines S i il plot row code F.offices F.plots (ap length (sym A.4) ∙ size) _
-      (sym (read_content ws (session_at d i) (S.session i il).size plot)) (read_size ws (session_at d i) (S.session i il).size plot code))
+      (sym (read_content ws (session_at d i) plot)) (read_size ws (session_at d i) (S.session i il).size plot code))
     where
       code : R.code ≡ 0
       code = status_accepted status R.code A.0 e

@@ -19,7 +19,7 @@ use Rattle.frame.specs.Tokens.{rows_of}
 use Rattle.frame.specs.Words.{clock_from, clock_words, id_word_if, id_words, id_words_to, ids_from, summed, total}
 use Rattle.store.specs.Offices.{best_own, best_to, better, clock_of, consider, current, hold, made, max_to, reveal, settings_ok}
 use Rattle.store.specs.Reveal.{revealed, steps}
-use Rattle.office.specs.Calls.{entry_code, fresh_code, handed, hold_all, hold_new, new_entry, noted, noted_all, own_code, read_code, read_on, read_out, receive_code, receive_on, receive_sends, received_by, released, sent_of, shows_own, write_code, write_on, wrote_session}
+use Rattle.office.specs.Calls.{entry_code, fresh_code, handed, hold_all, hold_new, new_entry, noted, noted_all, own_code, read_code, read_on, receive_code, receive_on, receive_sends, received_by, sent_of, write_code, write_on, wrote_session}
 use Rattle.ring.specs.Run.{at, gained, last_of, next_of, run, step, together, upd, writer_past}
 use Rattle.store.specs.Offices.{entry_at, gapless, held_ok, office_of, slot_words, slots_to, sound_office, sound_store, store_words}
 use Rattle.office.specs.Calls.{open_office, read_plot, receive, write}
@@ -45,5 +45,5 @@ pub record Plays : Type 0 where
   pub third_sends : (scene_after (take 3 table_lines)).ring.lines 2 ≡ row_a ∷ row_b ∷ []
 
 pub table_plays : Plays
-unfolding count_trailing_zeros both either implies all_below check or_else part tab sum_below eq_words bit has is_in unite minus inserted word_in subset_of lowest_in lowest_of join higher ranks_above outranks clock_words clock_from id_word_if id_words_to id_words ids_from total summed clock_place_ok clock_ok ids_place_ok ids_ok bounds_ok entry_ok same_content ring_ok body_words frame_words frame_ok frame_of accepts laid ids_of own_ok session_ok rows_of steps revealed settings_ok made max_to clock_of reveal hold better consider best_to current best_own entry_code own_code read_out shows_own released noted noted_all read_code handed new_entry leave_out sent_of write_code hold_all wrote_session receive_code hold_new received_by receive_sends read_on write_on receive_on read_plot write receive open_office entry_at office_of slot_words slots_to store_words held_ok gapless sound_office sound_store fresh_code at upd next_of writer_past gained together last_of step run over_words words_run crowded settled wrote_reply read_reply play_write play_read play_receive play play_all
+unfolding count_trailing_zeros both either implies all_below check or_else part tab sum_below eq_words bit has is_in unite minus inserted word_in subset_of lowest_in lowest_of join higher ranks_above outranks clock_words clock_from id_word_if id_words_to id_words ids_from total summed clock_place_ok clock_ok ids_place_ok ids_ok bounds_ok entry_ok same_content ring_ok body_words frame_words frame_ok frame_of accepts laid ids_of own_ok session_ok rows_of steps revealed settings_ok made max_to clock_of reveal hold better consider best_to current best_own entry_code own_code noted noted_all read_code handed new_entry leave_out sent_of write_code hold_all wrote_session receive_code hold_new received_by receive_sends read_on write_on receive_on read_plot write receive open_office entry_at office_of slot_words slots_to store_words held_ok gapless sound_office sound_store fresh_code at upd next_of writer_past gained together last_of step run over_words words_run crowded settled wrote_reply read_reply play_write play_read play_receive play play_all
 table_plays = record { replies = refl; first_sends = refl; third_sends = refl }

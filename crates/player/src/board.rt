@@ -6,7 +6,6 @@ ghost use Rattle.player.specs.Desks.{desk, with_frames, with_place, without_olde
 
 use frame::entry::Entry;
 use office::note::Seen;
-use reading::release::Rest;
 use script::reply::Reply;
 
 #[derive(Drop)]
@@ -23,11 +22,10 @@ pub struct BoardTurn {
     pub reply: Reply,
 }
 
-// What a reading did: what its session has seen then, and what is left of its own writes.
+// What a reading did: what its session has seen then.
 #[derive(Drop)]
 pub struct ReadTurn {
     pub seen: Seen,
-    pub rest: Rest,
     pub reply: Reply,
 }
 

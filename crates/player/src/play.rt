@@ -3,7 +3,7 @@ ghost use Rattle.std.specs.Prelude.{◌≡◌, cond, false, true, List, ℕ, ◌
 ghost use Rattle.std.proofs.lemmas.List.Edits.{sets};
 ghost use Rattle.causal.specs.Lists.{part};
 ghost use Rattle.office.specs.Answers.{extended_by};
-ghost use Rattle.reading.specs.Releases.{with_rest};
+ghost use Rattle.office.specs.Decide.{with_seen};
 ghost use Rattle.office.specs.Promises.{MakePromise, ReadPromise, ReceivePromise};
 ghost use Rattle.player.specs.Desks.{Cut, desk, no_session, pushed, with_frames};
 ghost use Rattle.player.specs.Play.{Scene};
@@ -19,7 +19,7 @@ use crate::queue::{count_frames, next_of, push_frames};
 use frame::entry::Entry;
 use frame::refusal::{Status, Written, number_of};
 use frame::session::Session;
-use reading::read::PlotLeft;
+use reading::read::PlotSeen;
 use script::line::Line;
 use script::reply::Reply;
 use writing::write::Made;
@@ -116,9 +116,9 @@ pub fn write_line(
 }
 
 // A reading at an office, on its part of the stores; the other parts stay.
-pub fn read_at(stores: &mut [u32], office: usize, s: Session, plot: u32) -> PlotLeft
+pub fn read_at(stores: &mut [u32], office: usize, s: Session, plot: u32) -> PlotSeen
     requires { (office < 3) × (length stores.old ≡ 5241) }
-    ensures { ((result.rest.moved ≡ true → s.count ≤ 16) × ReadPromise (part stores.old (1747 * office) 1747) s plot (code_of result.done.status) result.done.found result.done.entry (with_rest s result.done.seen result.rest) (part stores.new (1747 * office) 1747)) × (stores.new ≡ sets stores.old (1747 * office) (part stores.new (1747 * office) 1747)) }
+    ensures { ReadPromise (part stores.old (1747 * office) 1747) s plot (code_of result.status) result.found result.entry (with_seen s result.seen) (part stores.new (1747 * office) 1747) × (stores.new ≡ sets stores.old (1747 * office) (part stores.new (1747 * office) 1747)) }
 {
     let from = 1747 * office;
     let end = from + 1747;
@@ -137,14 +137,12 @@ pub fn reply_of(found: bool, e: Entry) -> Reply
 // `R`: session i, below 4, which is s, reads a plot at the office where it is. No line of frames is touched.
 pub fn read_line(board: Board, i: usize, s: Session, plot: u32, stores: &mut [u32]) -> ReadTurn
     requires { (i < 4) × ((ss : List Session) × (lines : List ℕ) × (get_or ss i no_session ≡ s) × Shown (desk ss board) stores.old lines) }
-    ensures { (result.rest.moved ≡ true → s.count ≤ 16) × ((ss : List Session) (row lines : List ℕ) (g : Scene) → get_or ss i no_session ≡ s → Shows g (desk ss board) stores.old lines
-        → Plays row g (Line.Read i plot) (record { desk = desk (set ss i (with_rest s result.seen result.rest)) board; reply = result.reply }) stores.new lines) }
+    ensures { (ss : List Session) (row lines : List ℕ) (g : Scene) → get_or ss i no_session ≡ s → Shows g (desk ss board) stores.old lines
+        → Plays row g (Line.Read i plot) (record { desk = desk (set ss i (with_seen s result.seen)) board; reply = result.reply }) stores.new lines }
 {
     let places = board.place;
     let office = places[i] as usize;
-    let left = read_at(&mut *stores, office, s, plot);
-    let read = left.done;
-    let rest = left.rest;
+    let read = read_at(&mut *stores, office, s, plot);
     let seen = read.seen;
     let status = read.status;
     match status {
@@ -152,14 +150,13 @@ pub fn read_line(board: Board, i: usize, s: Session, plot: u32, stores: &mut [u3
             let code = number_of(refusal);
             ReadTurn {
                 seen,
-                rest,
                 reply: Reply::Refused(code),
             }
         }
         Status::Accepted => {
             let entry = read.entry;
             let reply = reply_of(read.found, entry);
-            ReadTurn { seen, rest, reply }
+            ReadTurn { seen, reply }
         }
     }
 }

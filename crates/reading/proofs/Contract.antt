@@ -1,7 +1,6 @@
 -- The code of each call meets its contract (`-met`), which is its promise in office/specs/Promises.antt (`-is`) and asks for nothing (`-asks`): a
 -- changed `ensures` or an added `requires` breaks this file. Assumes nothing.
-use Prim.Native.Nat.{ℕ, ◌≤◌}
-use mathlib.Core.Bool.{true}
+use Prim.Native.Nat.{ℕ}
 use mathlib.Core.Path.{◌≡◌, refl}
 use mathlib.Core.List.{List}
 use base.Logic.{SProp, emp}
@@ -17,10 +16,7 @@ use Rattle.frame.proofs.Contract.{One, Row, Three}
 use Rattle.office.specs.Decide.{alone, with_seen}
 use Rattle.office.specs.Promises.{JointPromise, ReadPromise}
 use Rattle.reading.specs.declared.joint.JointRead.{JointRead}
-use Rattle.reading.specs.Releases.{with_rest}
-use Rattle.reading.specs.declared.joint.JointLeft.{JointLeft}
 use Rattle.reading.specs.declared.joint.JointSeen.{JointSeen}
-use Rattle.reading.specs.declared.read.PlotLeft.{PlotLeft}
 use Rattle.reading.specs.declared.read.PlotRead.{PlotRead}
 use Rattle.reading.specs.declared.read.PlotSeen.{PlotSeen}
 use Rattle.reading.proofs.joint.read_joint as read-joint
@@ -38,9 +34,9 @@ module _ {M : Type 1} {𝓤 : Ura M} (𝓛 : Logic 𝓤) (mem : Memory → SProp
         ≡ fact 𝓤 (ReadPromise ws.now s plot (code_of r.status) r.found r.entry r.session ws'.now)
     pub read_asks : (κs : One) (ws : Row) (s : Session) (plot : ℕ) → (read-plot.clauses 𝓛 mem run κs (ws, (s, (plot, tt)))).requires tt ≡ emp 𝓤
     pub see_met : see-plot.Statement.statement M
-    pub see_is : (κs : One) (ws : Row) (s : Session) (plot : ℕ) (r : PlotLeft) (ws' : Row)
+    pub see_is : (κs : One) (ws : Row) (s : Session) (plot : ℕ) (r : PlotSeen) (ws' : Row)
         → (see-plot.clauses 𝓛 mem run κs (ws, (s, (plot, tt)))).ensures tt r (ws', (s, (plot, tt)))
-        ≡ fact 𝓤 ((r.rest.moved ≡ true → s.count ≤ 16) × ReadPromise ws.now s plot (code_of r.done.status) r.done.found r.done.entry (with_rest s r.done.seen r.rest) ws'.now)
+        ≡ fact 𝓤 (ReadPromise ws.now s plot (code_of r.status) r.found r.entry (with_seen s r.seen) ws'.now)
     pub see_asks : (κs : One) (ws : Row) (s : Session) (plot : ℕ) → (see-plot.clauses 𝓛 mem run κs (ws, (s, (plot, tt)))).requires tt ≡ emp 𝓤
     pub see_alone_met : see-alone.Statement.statement M
     pub see_alone_is : (κs : One) (ws : Row) (n : ℕ) (clock read : List ℕ) (plot : ℕ) (r : PlotSeen) (ws' : Row)
@@ -53,9 +49,9 @@ module _ {M : Type 1} {𝓤 : Ura M} (𝓛 : Logic 𝓤) (mem : Memory → SProp
         ≡ fact 𝓤 (JointPromise ws.now s plots.now row.now (code_of r.status) r.session ws'.now row'.now)
     pub joint_asks : (κs : Three) (ws : Row) (s : Session) (plots row : Row) → (read-joint.clauses 𝓛 mem run κs (ws, (s, (plots, (row, tt))))).requires tt ≡ emp 𝓤
     pub see_joint_met : see-joint.Statement.statement M
-    pub see_joint_is : (κs : Three) (ws : Row) (s : Session) (plots row : Row) (r : JointLeft) (ws' plots' row' : Row)
+    pub see_joint_is : (κs : Three) (ws : Row) (s : Session) (plots row : Row) (r : JointSeen) (ws' plots' row' : Row)
         → (see-joint.clauses 𝓛 mem run κs (ws, (s, (plots, (row, tt))))).ensures tt r (ws', (s, (plots', (row', tt))))
-        ≡ fact 𝓤 ((r.rest.moved ≡ true → s.count ≤ 16) × JointPromise ws.now s plots.now row.now (code_of r.done.status) (with_rest s r.done.seen r.rest) ws'.now row'.now)
+        ≡ fact 𝓤 (JointPromise ws.now s plots.now row.now (code_of r.status) (with_seen s r.seen) ws'.now row'.now)
     pub see_joint_asks : (κs : Three) (ws : Row) (s : Session) (plots row : Row) → (see-joint.clauses 𝓛 mem run κs (ws, (s, (plots, (row, tt))))).requires tt ≡ emp 𝓤
     pub see_joint_alone_met : see-joint-alone.Statement.statement M
     pub see_joint_alone_is : (κs : Three) (ws : Row) (n : ℕ) (clock read : List ℕ) (plots row : Row) (r : JointSeen) (ws' plots' row' : Row)

@@ -35,18 +35,15 @@ use Rattle.store.proofs.Changes.{revealed_visible}
 use Rattle.store.proofs.Rules.{rules}
 use Rattle.store.proofs.SoundChanges.{reveal_store, reveal_held, reveal_ids, reveal_current}
 use Rattle.office.specs.Calls.{given, worded, handed, handed_all, plots_ok, joint_code, joint_on, read_all, three_words, answer_words, read_joint}
-use Rattle.office.specs.Answers.{session_if, noted_in, noted_all_in, read_joint_session, released_in}
+use Rattle.office.specs.Answers.{session_if, noted_in, noted_all_in, read_joint_session}
 use Rattle.office.specs.Decide.{start_code, place_number, found_in, Reaches, noted_seen, seen_of, with_seen}
 use Rattle.office.specs.Steps.{own_at, own_to}
 use Rattle.office.specs.declared.note.Seen.{Seen}
 use Rattle.office.proofs.Numbers.{start_facts, few_own, number_current, found_at_lem, found_none, noted_with, with_own}
 use Rattle.office.proofs.Shape.{own_each}
 use Rattle.reading.specs.Readings.{joint_refusal, best_above, best_from, best_of, best_to, best_words, found_among, handed_among, Named, AllReach, OwnNamed, PlacesTo, words_to, seen_to}
-use Rattle.reading.specs.Releases.{OwnFits, ReleasedTo, shows_at, with_rest}
 use Rattle.reading.specs.declared.best.Best.{Best}
-use Rattle.reading.specs.declared.release.Rest.{Rest}
-use Rattle.reading.proofs.Readings.{Res, best_all, own_fits, read_result, result_code}
-use Rattle.reading.proofs.Releases.{alone_released, noted_rest, rest_released}
+use Rattle.reading.proofs.Readings.{Res, best_all, read_result, result_code}
 
 -- ---- plots in range
 
@@ -99,14 +96,12 @@ unfolding seen_to
 seen_cons g zero x = refl
 seen_cons g (suc n) x = ap (noted_seen (g (suc n))) (seen_cons g n x)
 
--- w: the session that has seen so much
-seen_all : (O : Office) (w : Seen → Session) → ((f : Found) (x : Seen) → w (noted_seen f x) ≡ noted_in f (w x)) → (qs : List ℕ) (g : ℕ → Found) (x : Seen)
-    → Stands (current O) g qs → w (seen_to g (length qs) x) ≡ noted_all_in O qs (w x)
+seen_all : (O : Office) (s : Session) (qs : List ℕ) (g : ℕ → Found) (x : Seen) → Stands (current O) g qs → with_seen s (seen_to g (length qs) x) ≡ noted_all_in O qs (with_seen s x)
 unfolding seen_to noted_all_in
-seen_all O w n [] g x h = refl
-seen_all O w n (q ∷ qs) g x h =
-    ap w (seen_cons g (length qs) x) ∙ seen_all O w n qs (λ j. g (suc j)) (noted_seen (g 0) x) (tail (current O) g q qs h)
-    ∙ ap (noted_all_in O qs) (n (g 0) x ∙ ap (λ (f : Found). noted_in f (w x)) (h 0 (omega arith)))
+seen_all O s [] g x h = refl
+seen_all O s (q ∷ qs) g x h =
+    ap (with_seen s) (seen_cons g (length qs) x) ∙ seen_all O s qs (λ j. g (suc j)) (noted_seen (g 0) x) (tail (current O) g q qs h)
+    ∙ ap (noted_all_in O qs) (noted_with (g 0) s x ∙ ap (λ (f : Found). noted_in f (with_seen s x)) (h 0 (omega arith)))
 
 -- ---- the best as three words
 
@@ -264,7 +259,6 @@ pub record Starts (ws : List ℕ) (s : Session) (plots : List ℕ) (room : ℕ) 
   pub sound : sound_store ws ≡ true
   pub few : s.count ≤ 16
   pub named : OwnNamed s.own s.count
-  pub fits : OwnFits s.own s.count (length ws)
   pub short : length plots ≤ 16
   pub room_for : 3 * length plots ≤ room
   pub held : subset_of s.read (part ws 3 8) ≡ true
@@ -280,7 +274,6 @@ starts ws s plots room h =
       sound = b.0;
       few = few_own (get_or ws 0 0) (get_or ws 2 0) s b.1;
       named = own_named ws s b.0 b.1;
-      fits = own_fits ws s b.0 b.1;
       short = leb-true (length plots) 16 (both_true (leb (length plots) 16) (plots_ok (get_or ws 2 0) plots) c.0).0;
       room_for = leb-true (3 * length plots) room d.0;
       held = (check_none (subset_of s.read (part ws 3 8)) 12 0 (omega arith) d.1).0;
@@ -320,57 +313,43 @@ module _ (ws : List ℕ) (s : Session) (plots : List ℕ) where
     abbrev R : Res
     R = read_joint ws (content_of s) plots row
 
-    -- what the call promises of its answer, of the session, of the store and the row it leaves
-    abbrev pub JointSays : Status → Session → List ℕ → List ℕ → Type 0
-    JointSays status after left out = (code_of status ≡ R.code) × (after ≡ read_joint_session ws s plots row) × (left ≡ R.store) × (out ≡ R.row)
+    -- what the call promises of its answer, of what the session has seen, of the store and the row it leaves
+    abbrev pub JointSays : Status → Seen → List ℕ → List ℕ → Type 0
+    JointSays status x left out = (code_of status ≡ R.code) × (with_seen s x ≡ read_joint_session ws s plots row) × (left ≡ R.store) × (out ≡ R.row)
 
     by_result : (c : ℕ) → c ≡ joint_refusal ws (content_of s) plots (length row) → read_result ws (content_of s) plots row (answered ws (content_of s) plots row) c ≡ R
     by_result c e = ap (read_result ws (content_of s) plots row (answered ws (content_of s) plots row)) e ∙ sym (joint_is ws (content_of s) plots row)
 
-    pub joint_refused : (c : ℕ) (status : Status) (after : Session) → c ≡ joint_refusal ws (content_of s) plots (length row) → (c ≡ 0 → ⊥) → code_of status ≡ c
-        → after ≡ s → JointSays status after ws row
+    pub joint_refused : (c : ℕ) (status : Status) (x : Seen) → c ≡ joint_refusal ws (content_of s) plots (length row) → (c ≡ 0 → ⊥) → code_of status ≡ c → x ≡ seen_of s
+        → JointSays status x ws row
     unfolding read_joint_session session_if
-    joint_refused zero status after q h k u = absurd (h refl)
-    joint_refused (suc c) status after q h k u =
+    joint_refused zero status x q h k u = absurd (h refl)
+    joint_refused (suc c) status x q h k u =
         let r = by_result (suc c) q in (
           k ∙ ap (λ (x : Res). x.code) r,
-          u ∙ ap (λ (x : Res). session_if x.code s (noted_all_in O plots (released_in O s))) r,
+          ap (with_seen s) u ∙ with_own s ∙ ap (λ (x : Res). session_if x.code s (noted_all_in O plots s)) r,
           ap (λ (x : Res). x.store) r,
           ap (λ (x : Res). x.row) r,
         )
 
     -- g: what is handed back on each plot
-    pub joint_accepted : (v ks : List ℕ) (g : ℕ → Found) (status : Status) (after : Session) (left out : List ℕ) → joint_refusal ws (content_of s) plots (length row) ≡ 0
-        → Sighted ws s.read plots v ks → Stands (handed O (content_of s)) g plots → code_of status ≡ 0 → after ≡ noted_all_in O plots (released_in O s)
-        → left ≡ store_words ws O → out ≡ sets row 0 (words_to g (length plots)) → JointSays status after left out
+    pub joint_accepted : (v ks : List ℕ) (g : ℕ → Found) (status : Status) (seen : Seen) (left out : List ℕ) → joint_refusal ws (content_of s) plots (length row) ≡ 0
+        → Sighted ws s.read plots v ks → Stands (handed O (content_of s)) g plots → code_of status ≡ 0 → seen ≡ seen_to (found_among ws ks) (length plots) (seen_of s)
+        → left ≡ store_words ws O → out ≡ sets row 0 (words_to g (length plots)) → JointSays status seen left out
     unfolding read_joint_session session_if content_of laid
-    joint_accepted v ks g status after left out z L h k a b d =
+    joint_accepted v ks g status seen left out z L h k a b d =
         let r = by_result 0 (sym z) in
         let words = words_to g (length plots) in
         let n : length words ≤ length row = omega (arith, words_length g (length plots), (starts ws s plots (length row) z).room_for) in
-        let m : out ≡ laid words row = d ∙ sets_front row words n in (
+        let m : out ≡ laid words row = d ∙ sets_front row words n in
+        let t : with_seen s seen ≡ noted_all_in O plots s = ap (with_seen s) a ∙ seen_all O s plots (found_among ws ks) (seen_of s) L.found ∙ ap (noted_all_in O plots) (with_own s) in (
           k ∙ ap (λ (x : Res). x.code) r,
-          a ∙ ap (λ (x : Res). session_if x.code s (noted_all_in O plots (released_in O s))) r,
+          t ∙ ap (λ (x : Res). session_if x.code s (noted_all_in O plots s)) r,
           b ∙ ap (λ (x : Res). x.store) r,
           m ∙ ap (λ (l : List ℕ). laid l row) (words_all (handed O (content_of s)) plots g h) ∙ ap (λ (x : Res). x.row) r,
         )
 
   module _ (v ks : List ℕ) (L : Sighted ws s.read plots v ks) where
-    -- the session that is left: names and rest are what is released
-    pub left_rest : IdSet v → subset_of v (part ws 3 8) ≡ true → (seen : Seen) (names : List ℕ) (rest : Rest)
-        → ReleasedTo (shows_at ws v) s.own s.count s.read names rest
-        → seen ≡ seen_to (found_among ws ks) (length plots) (record { clock = s.clock; read = names }) → with_rest s seen rest ≡ noted_all_in O plots (released_in O s)
-    left_rest w h seen names rest R n =
-        ap (λ (x : Seen). with_rest s x rest) n
-        ∙ seen_all O (λ x. with_rest s x rest) (λ f x. noted_rest f s x rest) plots (found_among ws ks) (record { clock = s.clock; read = names }) L.found
-        ∙ ap (noted_all_in O plots) (rest_released ws v s.read w h L.shown s names rest R)
-
-    -- of one that carries nothing
-    pub left_alone : s.count ≡ 0 → (seen : Seen) → seen ≡ seen_to (found_among ws ks) (length plots) (seen_of s) → with_seen s seen ≡ noted_all_in O plots (released_in O s)
-    left_alone z seen n =
-        ap (with_seen s) n ∙ seen_all O (with_seen s) (λ f x. noted_with f s x) plots (found_among ws ks) (seen_of s) L.found
-        ∙ ap (noted_all_in O plots) (with_own s ∙ sym (alone_released O s z))
-
     pub stands_own : Stands (handed O (content_of s)) (handed_among ws s.own s.count plots ks) plots
     unfolding handed handed_among content_of
     stands_own j l = ap (λ (f : Found). best_own (get_or plots j 0) f (own_to s.own s.count)) (L.found j l)

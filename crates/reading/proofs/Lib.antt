@@ -1,4 +1,3 @@
-pub mod Releases
 pub mod Readings
 pub mod JointReads
 pub mod Answers

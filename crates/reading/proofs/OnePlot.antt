@@ -16,7 +16,7 @@ use Rattle.frame.specs.Sessions.{Content, content_of, session_ok}
 use Rattle.frame.specs.declared.entry.Frame.{Frame}
 use Rattle.frame.specs.declared.session.Session.{Session}
 use Rattle.store.specs.Offices.{Office, current, office_of, reveal, sound_store}
-use Rattle.office.specs.Answers.{noted_all_in, noted_in, read_joint_session, read_plot_session, session_if, released_in}
+use Rattle.office.specs.Answers.{noted_all_in, noted_in, read_joint_session, read_plot_session, session_if}
 use Rattle.office.specs.Calls.{Result, answer_words, given, handed_all, joint_code, joint_on, plots_ok, read_all, read_code, read_joint, read_on, read_plot, stored, worded}
 
 -- a: the result of the joint reading, which was lent the row; b: that of the single reading
@@ -69,4 +69,4 @@ module _ (ws : List ℕ) (plot : ℕ) (row : List ℕ) (room : 3 ≤ length row)
   -- the session as the struct that is handed back
   pub one_plot_session : (s : Session) → read_joint_session ws s (plot ∷ []) row ≡ read_plot_session ws s plot
   unfolding read_joint_session read_plot_session noted_all_in
-  one_plot_session s = ap (λ (c : ℕ). session_if c s (noted_in (current (reveal (office_of ws) s.read) plot) (released_in (reveal (office_of ws) s.read) s))) (one_plot (content_of s)).code
+  one_plot_session s = ap (λ (c : ℕ). session_if c s (noted_in (current (reveal (office_of ws) s.read) plot) s)) (one_plot (content_of s)).code

@@ -24,25 +24,14 @@ use Rattle.store.specs.Offices.{Office, office_of, store_words, sound_store, rev
 use Rattle.store.specs.Current.{current_at}
 use Rattle.store.specs.Reveal.{revealed}
 use Rattle.store.specs.declared.reveal.Revealed.{Revealed}
-use Rattle.frame.proofs.Entries.{entry_facts}
-use Rattle.frame.proofs.Ids.{id_range}
-use Rattle.frame.proofs.Sessions.{own_ok_lem, session_facts}
-use Rattle.store.proofs.Changes.{revealed_visible}
-use Rattle.store.proofs.Rules.{laid}
 use Rattle.store.proofs.SoundChanges.{reveal_store, reveal_held, reveal_ids, reveal_current}
 use Rattle.office.specs.Calls.{Result, given, worded, handed, read_all, read_code, read_on, read_plot}
-use Rattle.office.specs.Answers.{any_found, entry_found, session_if, noted_in, read_plot_session, released_in}
+use Rattle.office.specs.Answers.{any_found, entry_found, session_if, noted_in, read_plot_session}
 use Rattle.office.specs.Decide.{start_code, place_number, found_in, Reaches, noted_seen, seen_of, with_seen}
-use Rattle.office.specs.Steps.{own_at}
 use Rattle.reading.specs.Readings.{read_refusal, best_from, best_of, best_above, best_to}
 use Rattle.office.specs.declared.note.Seen.{Seen}
 use Rattle.reading.specs.declared.best.Best.{Best}
-use Rattle.reading.specs.Releases.{OwnFits, ReleasedTo, shows_at, with_rest}
-use Rattle.reading.specs.declared.release.Rest.{Rest}
 use Rattle.office.proofs.Numbers.{start_facts, few_own, number_current, noted_with, with_own}
-use Rattle.office.proofs.Shape.{own_each}
-use Rattle.office.proofs.Slots.{slot_of}
-use Rattle.reading.proofs.Releases.{alone_released, noted_rest, rest_released}
 
 -- ---- the best of what was found and the own writes
 
@@ -114,12 +103,12 @@ best_entry None = refl
 best_entry (Some e) = refl
 
 -- what a reading answers where number k is current
-pub answer_is : (ws : List ℕ) (s : Session) (plot k : ℕ) (best : Best) (first seen : Seen)
-    → best ≡ best_to s.own plot (best_from (found_in ws k)) s.count → seen ≡ noted_seen (found_in ws k) first
+pub answer_is : (ws : List ℕ) (s : Session) (plot k : ℕ) (best : Best) (seen : Seen)
+    → best ≡ best_to s.own plot (best_from (found_in ws k)) s.count → seen ≡ noted_seen (found_in ws k) (seen_of s)
     → (code_of Accepted ≡ 0) × (best.found ≡ any_found (best_own plot (found_in ws k) (content_of s).own ∷ [])) × (best.entry ≡ entry_found (best_own plot (found_in ws k) (content_of s).own ∷ []))
-    × (seen ≡ noted_seen (found_in ws k) first)
+    × (seen ≡ noted_seen (found_in ws k) (seen_of s))
 unfolding code_of content_of
-answer_is ws s plot k best first seen b d =
+answer_is ws s plot k best seen b d =
     let f = best_own plot (found_in ws k) (content_of s).own in
     let w : best ≡ best_from f = b ∙ best_all s.own plot (found_in ws k) s.count in
     (refl, ap (λ (x : Best). x.found) w ∙ best_found f, ap (λ (x : Best). x.entry) w ∙ best_entry f, d)
@@ -161,23 +150,10 @@ module _ (ws : List ℕ) (s : Content) (plot : ℕ) where
       go true true true false = omega arith
       go true true true true = omega arith
 
--- the own writes of a sound session over a sound store: their ids, and the slots of these
-pub own_fits : (ws : List ℕ) (s : Session) → sound_store ws ≡ true → session_ok (get_or ws 0 0) (get_or ws 2 0) (content_of s) ≡ true
-    → OwnFits s.own s.count (length ws)
-unfolding content_of
-own_fits ws s sound ok i l =
-    let n = get_or ws 0 0 in
-    let p = get_or ws 2 0 in
-    let F = session_facts n p (content_of s) ok in
-    let e = own_ok_lem n p (content_of s) F (own_at s.own i) (own_each s.own s.count i l) in
-    let y = laid ws sound in
-    (omega (arith, id_range n p (own_at s.own i) (entry_facts n p (own_at s.own i) e), y.few), slot_of n p (length ws) (own_at s.own i) y.long e)
-
 -- what a reading that is not refused knows
 pub record Reads (ws : List ℕ) (s : Session) : Type 0 where
   pub sound : sound_store ws ≡ true
   pub few : s.count ≤ 16
-  pub fits : OwnFits s.own s.count (length ws)
   pub held : subset_of s.read (part ws 3 8) ≡ true
 
 pub reads : (ws : List ℕ) (s : Session) (plot : ℕ) → read_refusal ws (content_of s) plot ≡ 0 → Reads ws s
@@ -186,12 +162,7 @@ reads ws s plot h =
     let a = or_both (start_code ws (content_of s)) (check (ltb plot (get_or ws 2 0)) 4 (check (subset_of s.read (part ws 3 8)) 12 0)) h in
     let b = start_facts ws (content_of s) a.0 in
     let c = check_none (ltb plot (get_or ws 2 0)) 4 (check (subset_of s.read (part ws 3 8)) 12 0) (omega arith) a.1 in
-    record {
-      sound = b.0;
-      few = few_own (get_or ws 0 0) (get_or ws 2 0) s b.1;
-      fits = own_fits ws s b.0 b.1;
-      held = (check_none (subset_of s.read (part ws 3 8)) 12 0 (omega arith) c.1).0;
-    }
+    record { sound = b.0; few = few_own (get_or ws 0 0) (get_or ws 2 0) s b.1; held = (check_none (subset_of s.read (part ws 3 8)) 12 0 (omega arith) c.1).0 }
 
 -- what it finds: r is what becomes visible, k the number of what is current then
 module _ (ws : List ℕ) (words : (i : ℕ) → get_or ws i 0 < 2 ^ 32) (s : Session) (ids : IdSet s.read) (q : Reads ws s) (r : Revealed)
@@ -201,14 +172,6 @@ module _ (ws : List ℕ) (words : (i : ℕ) → get_or ws i 0 < 2 ^ 32) (s : Ses
 
   pub sees_store : sets ws 11 r.visible ≡ store_words ws (reveal (office_of ws) s.read)
   sees_store = reveal_store ws words q.sound s.read ids q.held r e
-
-  -- the session that it leaves: names and rest are what is released
-  pub sees_rest : (f : Found) (seen : Seen) (names : List ℕ) (rest : Rest) → ReleasedTo (shows_at ws r.visible) s.own s.count s.read names rest
-      → seen ≡ noted_seen f (record { clock = s.clock; read = names }) → with_rest s seen rest ≡ noted_in f (released_in (reveal (office_of ws) s.read) s)
-  sees_rest f seen names rest R n =
-      let v = r.visible in
-      ap (λ (x : Seen). with_rest s x rest) n ∙ noted_rest f s _ rest
-      ∙ ap (noted_in f) (rest_released ws v s.read (reveal_ids ws words q.sound s.read ids q.held r e) sees_held (revealed_visible ws s.read r e) s names rest R)
 
   pub sees_number : (plot k : ℕ) → k ≡ place_number (current_at ws r.visible plot)
       → Reaches (length ws) k × (current (reveal (office_of ws) s.read) plot ≡ found_in ws k)
@@ -224,42 +187,40 @@ module _ (ws : List ℕ) (s : Session) (plot : ℕ) where
   abbrev O : Office
   O = reveal (office_of ws) s.read
 
-  -- what the call promises of its answer, of the session and of the store it leaves
-  abbrev pub ReadSays : Status → Bool → Entry → Session → List ℕ → Type 0
-  ReadSays status found e after left =
-      (code_of status ≡ R.code) × (found ≡ any_found R.found) × (e ≡ entry_found R.found) × (after ≡ read_plot_session ws s plot) × (left ≡ R.store)
+  -- what the call promises of its answer, of what the session has seen and of the store it leaves
+  abbrev pub ReadSays : Status → Bool → Entry → Seen → List ℕ → Type 0
+  ReadSays status found e x left =
+      (code_of status ≡ R.code) × (found ≡ any_found R.found) × (e ≡ entry_found R.found) × (with_seen s x ≡ read_plot_session ws s plot) × (left ≡ R.store)
 
   by_result : (c : ℕ) → c ≡ read_refusal ws (content_of s) plot → read_result ws (content_of s) (plot ∷ []) [] [] c ≡ R
   by_result c e = ap (read_result ws (content_of s) (plot ∷ []) [] []) e ∙ sym (read_is ws (content_of s) plot)
 
-  pub read_refused : (c : ℕ) (status : Status) (found : Bool) (e : Entry) (after : Session) → c ≡ read_refusal ws (content_of s) plot → (c ≡ 0 → ⊥) → code_of status ≡ c
-      → found ≡ false → e ≡ blank_entry → after ≡ s → ReadSays status found e after ws
+  pub read_refused : (c : ℕ) (status : Status) (e : Entry) → c ≡ read_refusal ws (content_of s) plot → (c ≡ 0 → ⊥) → code_of status ≡ c → e ≡ blank_entry → ReadSays status false e (seen_of s) ws
   unfolding read_plot_session any_found entry_found session_if
-  read_refused zero status found e after q h k n b u = absurd (h refl)
-  read_refused (suc c) status found e after q h k n b u =
+  read_refused zero status e q h k b = absurd (h refl)
+  read_refused (suc c) status e q h k b =
       let r = by_result (suc c) q in (
         k ∙ ap (λ (x : Res). x.code) r,
-        n ∙ ap (λ (x : Res). any_found x.found) r,
+        ap (λ (x : Res). any_found x.found) r,
         b ∙ ap (λ (x : Res). entry_found x.found) r,
-        u ∙ ap (λ (x : Res). session_if x.code s (noted_in (current O plot) (released_in O s))) r,
+        with_own s ∙ ap (λ (x : Res). session_if x.code s (noted_in (current O plot) s)) r,
         ap (λ (x : Res). x.store) r,
       )
 
   -- f: what is current
-  pub read_accepted : (f : Found) (status : Status) (found : Bool) (e : Entry) (after : Session) (left : List ℕ) → read_refusal ws (content_of s) plot ≡ 0 → current O plot ≡ f
-      → code_of status ≡ 0 → found ≡ any_found (best_own plot f (content_of s).own ∷ []) → e ≡ entry_found (best_own plot f (content_of s).own ∷ [])
-      → after ≡ noted_in f (released_in O s) → left ≡ store_words ws O → ReadSays status found e after left
+  pub read_accepted : (f : Found) (status : Status) (found : Bool) (e : Entry) (seen : Seen) (left : List ℕ) → read_refusal ws (content_of s) plot ≡ 0 → current O plot ≡ f
+      → code_of status ≡ 0 → found ≡ any_found (best_own plot f (content_of s).own ∷ []) → e ≡ entry_found (best_own plot f (content_of s).own ∷ []) → seen ≡ noted_seen f (seen_of s)
+      → left ≡ store_words ws O → ReadSays status found e seen left
   unfolding read_plot_session handed content_of session_if
-  read_accepted f status found e after left z g k a b d l =
+  read_accepted f status found e seen left z g k a b d l =
       let r = by_result 0 (sym z) in
-      let h : best_own plot f (content_of s).own ∷ [] ≡ handed O (content_of s) plot ∷ [] = ap (λ (x : Found). best_own plot x (content_of s).own ∷ []) (sym g) in (
+      let h : best_own plot f (content_of s).own ∷ [] ≡ handed O (content_of s) plot ∷ [] = ap (λ (x : Found). best_own plot x (content_of s).own ∷ []) (sym g) in
+      let t : with_seen s seen ≡ noted_in (current O plot) s =
+      ap (with_seen s) d ∙ noted_with f s (seen_of s) ∙ ap (noted_in f) (with_own s) ∙ ap (λ (x : Found). noted_in x s) (sym g)
+      in (
         k ∙ ap (λ (x : Res). x.code) r,
         a ∙ ap any_found h ∙ ap (λ (x : Res). any_found x.found) r,
         b ∙ ap entry_found h ∙ ap (λ (x : Res). entry_found x.found) r,
-        d ∙ ap (λ (x : Found). noted_in x (released_in O s)) (sym g) ∙ ap (λ (x : Res). session_if x.code s (noted_in (current O plot) (released_in O s))) r,
+        t ∙ ap (λ (x : Res). session_if x.code s (noted_in (current O plot) s)) r,
         l ∙ ap (λ (x : Res). x.store) r,
       )
-
-  -- the session that one leaves which carries nothing
-  pub left_alone : s.count ≡ 0 → (f : Found) (seen : Seen) → seen ≡ noted_seen f (seen_of s) → with_seen s seen ≡ noted_in f (released_in O s)
-  left_alone z f seen n = ap (with_seen s) n ∙ noted_with f s (seen_of s) ∙ ap (noted_in f) (with_own s ∙ sym (alone_released O s z))

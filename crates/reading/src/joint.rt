@@ -3,20 +3,17 @@ ghost use Rattle.std.specs.Prelude.{◌≡◌, true, List, ◌≤◌, leb, lengt
 ghost use Rattle.causal.specs.Tests.{both};
 ghost use Rattle.causal.specs.Lists.{part};
 ghost use Rattle.causal.specs.Sets.{subset_of};
-ghost use Rattle.frame.specs.Sessions.{content_of, ids_of};
+ghost use Rattle.frame.specs.Sessions.{content_of};
 ghost use Rattle.store.specs.Offices.{sound_store};
 ghost use Rattle.office.specs.Calls.{plots_ok};
 ghost use Rattle.office.specs.Decide.{alone, bare, with_seen};
 ghost use Rattle.reading.specs.Readings.{joint_refusal, AllReach, PlacesTo, found_among, seen_to};
-ghost use Rattle.reading.specs.Releases.{with_rest};
 ghost use Rattle.office.specs.Promises.{JointPromise};
 ghost use Rattle.frame.specs.Refusals.{code_of};
 
-use crate::release::Rest;
 use frame::entry::Entry;
 use frame::refusal::Status;
 use frame::session::Session;
-use office::code::Start;
 use office::note::Seen;
 
 #[derive(Drop)]
@@ -30,13 +27,6 @@ pub struct JointRead {
 pub struct JointSeen {
     pub status: Status,
     pub seen: Seen,
-}
-
-// The same, and what becomes of the own writes of a session that carries some.
-#[derive(Drop)]
-pub struct JointLeft {
-    pub done: JointSeen,
-    pub rest: Rest,
 }
 
 // Up to 16 plots, each in range.
@@ -54,29 +44,28 @@ fn plots_ok(plots: &[u32], p: u32) -> bool
     true
 }
 
-// 4: too many plots, or one out of range. 8: answer too short. 12: a read id not held. With the ids of the own writes.
-fn joint_code(store: &[u32], s: Session, plots: &[u32], room: usize) -> Start
-    ensures { (result.code ≡ joint_refusal store.now (content_of s) plots.now room) × (result.code ≡ 0 → result.own ≡ ids_of (content_of s).own) }
+// 4: too many plots, or one out of range. 8: answer too short. 12: a read id not held.
+fn joint_code(store: &[u32], s: Session, plots: &[u32], room: usize) -> u32
+    ensures { result ≡ joint_refusal store.now (content_of s) plots.now room }
 {
     let clock = s.clock;
     let read = s.read;
     let sound = store::sound::is_sound(store);
     let head = office::code::alone_code(store, sound, s.offices, clock, read);
-    let start = office::code::start_of(store, head, s);
-    let own = start.own;
-    if start.code != 0 {
+    let start = office::code::start_code(store, head, s);
+    if start != 0 {
         return start;
     }
     if !plots_ok(plots, store[2]) {
-        return Start { code: 4, own };
+        return 4;
     }
     if room < 3 * plots.len() {
-        return Start { code: 8, own };
+        return 8;
     }
     if !office::code::held_all(store, read) {
-        return Start { code: 12, own };
+        return 12;
     }
-    Start { code: 0, own }
+    0
 }
 
 // What is current on each plot, as a number.
@@ -117,39 +106,27 @@ fn unseen(code: u32, first: Seen) -> JointSeen
     }
 }
 
-// read_joint, with what it changes of the session in place of the session. What is released is found out before the answer is written, which might
-// stand where the session does, for all that the compiler knows: it would copy the own writes first.
-pub fn see_joint(store: &mut [u32], s: Session, plots: &[u32], answer: &mut [u32]) -> JointLeft
-    ensures { (result.rest.moved ≡ true → s.count ≤ 16) × JointPromise store.old s plots.now answer.old (code_of result.done.status) (with_rest s result.done.seen result.rest) store.new answer.new }
+// read_joint, but for the parts of the session that a reading leaves as they were.
+pub fn see_joint(store: &mut [u32], s: Session, plots: &[u32], answer: &mut [u32]) -> JointSeen
+    ensures { JointPromise store.old s plots.now answer.old (code_of result.status) (with_seen s result.seen) store.new answer.new }
 {
-    let start = joint_code(store, s, plots, answer.len());
+    let code = joint_code(store, s, plots, answer.len());
     let clock = s.clock;
     let read = s.read;
-    if start.code != 0 {
-        let done = unseen(start.code, Seen { clock, read });
-        let rest = crate::release::all_stay(s.count);
-        return JointLeft { done, rest };
+    let first = Seen { clock, read };
+    if code != 0 {
+        return unseen(code, first);
     }
     let revealed = store::reveal::revealed_by(store, read);
     let visible = revealed.visible;
     let places = places_of(store, visible, plots);
-    let own = start.own;
-    let released = if crate::release::all_hidden(own, visible) {
-        crate::release::none_released(read, s.count)
-    } else {
-        let row = s.own;
-        crate::release::release_own(store, visible, row, s.count, read)
-    };
     crate::answer::put_answers(store, s, plots, places, &mut *answer);
-    let read = released.read;
-    let seen = note_all(store, places, plots.len(), Seen { clock, read });
+    let seen = note_all(store, places, plots.len(), first);
     store::reveal::show(&mut *store, visible);
-    let rest = released.rest;
-    let done = JointSeen {
+    JointSeen {
         status: Status::Accepted,
         seen,
-    };
-    JointLeft { done, rest }
+    }
 }
 
 // ---- the same for a session that carries nothing: its fields cross one by one, and its row of entries stays where it is
@@ -211,11 +188,9 @@ pub fn see_joint_alone(
 pub fn read_joint(store: &mut [u32], s: Session, plots: &[u32], answer: &mut [u32]) -> JointRead
     ensures { JointPromise store.old s plots.now answer.old (code_of result.status) result.session store.new answer.new }
 {
-    let left = see_joint(store, s, plots, answer);
-    let done = left.done;
-    let rest = left.rest;
+    let done = see_joint(store, s, plots, answer);
     let seen = done.seen;
-    let session = crate::release::with_rest(s, seen, rest);
+    let session = office::note::with_seen(s, seen);
     let status = done.status;
     JointRead { status, session }
 }

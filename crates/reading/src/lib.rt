@@ -3,4 +3,3 @@ mod answer;
 mod best;
 pub mod joint;
 pub mod read;
-pub mod release;

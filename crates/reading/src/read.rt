@@ -1,20 +1,16 @@
 // To read one plot.
-ghost use Rattle.std.specs.Prelude.{◌≡◌, false, true, List, ◌∷◌, [], ◌≤◌, length};
+ghost use Rattle.std.specs.Prelude.{◌≡◌, List, ◌∷◌, [], ◌≤◌, length};
 ghost use Rattle.frame.specs.Refusals.{code_of};
-ghost use Rattle.frame.specs.Entries.{blank_entry};
-ghost use Rattle.frame.specs.Sessions.{content_of, ids_of};
+ghost use Rattle.frame.specs.Sessions.{content_of};
 ghost use Rattle.store.specs.Offices.{best_own};
 ghost use Rattle.office.specs.Answers.{any_found, entry_found};
-ghost use Rattle.office.specs.Decide.{alone, bare, found_in, Reaches, noted_seen, with_seen};
+ghost use Rattle.office.specs.Decide.{alone, bare, found_in, Reaches, noted_seen, seen_of, with_seen};
 ghost use Rattle.reading.specs.Readings.{read_refusal};
-ghost use Rattle.reading.specs.Releases.{with_rest};
 ghost use Rattle.office.specs.Promises.{ReadPromise};
 
-use crate::release::Rest;
 use frame::entry::Entry;
 use frame::refusal::Status;
 use frame::session::Session;
-use office::code::Start;
 use office::note::Seen;
 
 #[derive(Drop)]
@@ -34,45 +30,38 @@ pub struct PlotSeen {
     pub seen: Seen,
 }
 
-// The same, and what becomes of the own writes of a session that carries some.
-#[derive(Drop)]
-pub struct PlotLeft {
-    pub done: PlotSeen,
-    pub rest: Rest,
-}
-
-// 4: plot out of range. 12: a read id not held. With the ids of the own writes.
-fn read_code(store: &[u32], s: Session, plot: u32) -> Start
-    ensures { (result.code ≡ read_refusal store.now (content_of s) plot) × (result.code ≡ 0 → result.own ≡ ids_of (content_of s).own) }
+// 4: plot out of range. 12: a read id not held.
+fn read_code(store: &[u32], s: Session, plot: u32) -> u32
+    ensures { result ≡ read_refusal store.now (content_of s) plot }
 {
     let clock = s.clock;
     let read = s.read;
     let sound = store::sound::is_sound(store);
     let head = office::code::alone_code(store, sound, s.offices, clock, read);
-    let start = office::code::start_of(store, head, s);
-    let own = start.own;
-    if start.code != 0 {
+    let start = office::code::start_code(store, head, s);
+    if start != 0 {
         return start;
     }
     if plot >= store[2] {
-        return Start { code: 4, own };
+        return 4;
     }
     if !office::code::held_all(store, read) {
-        return Start { code: 12, own };
+        return 12;
     }
-    Start { code: 0, own }
+    0
 }
 
-// What a reading answers where entry k is current and these ids are read.
-fn answer_at(store: &[u32], s: Session, plot: u32, k: usize, read: [u32; 8]) -> PlotSeen
+// What a reading answers where entry k is current.
+fn answer_at(store: &[u32], s: Session, plot: u32, k: usize) -> PlotSeen
     requires { (s.count ≤ 16) × Reaches (length store.now) k }
     ensures { (code_of result.status ≡ 0)
         × (result.found ≡ any_found (best_own plot (found_in store.now k) (content_of s).own ∷ []))
         × (result.entry ≡ entry_found (best_own plot (found_in store.now k) (content_of s).own ∷ []))
-        × (result.seen ≡ noted_seen (found_in store.now k) (record { clock = s.clock; read = read })) }
+        × (result.seen ≡ noted_seen (found_in store.now k) (seen_of s)) }
 {
     let best = crate::best::best_with(store, s, plot, k);
     let clock = s.clock;
+    let read = s.read;
     let seen = office::note::note(store, k, Seen { clock, read });
     let entry = best.entry;
     PlotSeen {
@@ -83,48 +72,29 @@ fn answer_at(store: &[u32], s: Session, plot: u32, k: usize, read: [u32; 8]) -> 
     }
 }
 
-// What is refused: nothing is found, and nothing more is seen.
-fn unseen(code: u32, seen: Seen) -> PlotSeen
-    requires { code ≤ 12 }
-    ensures { (code_of result.status ≡ code) × (result.found ≡ false) × (result.entry ≡ blank_entry) × (result.seen ≡ seen) }
+// read_plot, but for the parts of the session that a reading leaves as they were.
+pub fn see_plot(store: &mut [u32], s: Session, plot: u32) -> PlotSeen
+    ensures { ReadPromise store.old s plot (code_of result.status) result.found result.entry (with_seen s result.seen) store.new }
 {
-    let status = office::code::status_of(code);
-    let entry = frame::entry::blank_entry();
-    PlotSeen {
-        status,
-        found: false,
-        entry,
-        seen,
-    }
-}
-
-// read_plot, with what it changes of the session in place of the session.
-pub fn see_plot(store: &mut [u32], s: Session, plot: u32) -> PlotLeft
-    ensures { (result.rest.moved ≡ true → s.count ≤ 16) × ReadPromise store.old s plot (code_of result.done.status) result.done.found result.done.entry (with_rest s result.done.seen result.rest) store.new }
-{
-    let start = read_code(store, s, plot);
+    let code = read_code(store, s, plot);
     let read = s.read;
-    if start.code != 0 {
+    if code != 0 {
+        let status = office::code::status_of(code);
+        let entry = frame::entry::blank_entry();
         let clock = s.clock;
-        let done = unseen(start.code, Seen { clock, read });
-        let rest = crate::release::all_stay(s.count);
-        return PlotLeft { done, rest };
+        return PlotSeen {
+            status,
+            found: false,
+            entry,
+            seen: Seen { clock, read },
+        };
     }
     let revealed = store::reveal::revealed_by(store, read);
     let visible = revealed.visible;
     let k = office::note::place_number(store::current::current(store, visible, plot));
-    let own = start.own;
-    let released = if crate::release::all_hidden(own, visible) {
-        crate::release::none_released(read, s.count)
-    } else {
-        let row = s.own;
-        crate::release::release_own(store, visible, row, s.count, read)
-    };
-    let names = released.read;
-    let done = answer_at(store, s, plot, k, names);
+    let answer = answer_at(store, s, plot, k);
     store::reveal::show(&mut *store, visible);
-    let rest = released.rest;
-    PlotLeft { done, rest }
+    answer
 }
 
 // 2, 3, 4 and 12 for a session that carries nothing.
@@ -185,11 +155,9 @@ pub fn see_alone(
 pub fn read_plot(store: &mut [u32], s: Session, plot: u32) -> PlotRead
     ensures { ReadPromise store.old s plot (code_of result.status) result.found result.entry result.session store.new }
 {
-    let left = see_plot(store, s, plot);
-    let done = left.done;
-    let rest = left.rest;
+    let done = see_plot(store, s, plot);
     let seen = done.seen;
-    let session = crate::release::with_rest(s, seen, rest);
+    let session = office::note::with_seen(s, seen);
     let status = done.status;
     let entry = done.entry;
     PlotRead {

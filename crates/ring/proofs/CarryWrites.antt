@@ -1,43 +1,62 @@
 -- An accepted write does not depend on the carrying order but in the order of what it sends. Assumes nothing.
 use Prim.Native.Nat.{ℕ, ◌+◌, ◌-◌, ◌<◌, suc, zero}
-use mathlib.Core.Bool.{Bool, false, true}
+use mathlib.Core.Bool.{Bool, cond, false, true}
 use mathlib.Core.List.Memᴰ
-use mathlib.Core.List.{List, Memᴰ, [], ◌++◌, ◌∷◌, append_assoc}
+use mathlib.Core.List.{List, Memᴰ, [], ◌++◌, ◌∷◌, append_assoc, map, map-append}
 use mathlib.Core.Logic.{◌⊎◌, inl, inr, ⊎_elim}
 use mathlib.Core.Path.{◌∙◌, ◌≡◌, ap, refl, sym}
 use native.Mathlib.Omega.{arith}
 use lib.Dec.{eqb, leb, ltb}
 use lib.ListN.{length, length-append, length-set, set}
+use borrow.Author.Tests.{eqb-true}
 use Rattle.causal.specs.Clocks.{join}
 use Rattle.causal.specs.Codes.{check, or_else}
-use Rattle.causal.specs.Sets.{IdSet, Within, is_in, subset_of, unite}
-use Rattle.causal.specs.Tests.{implies}
+use Rattle.causal.specs.Sets.{IdSet, has, inserted, is_in, subset_of, unite}
 use Rattle.causal.proofs.Codes.{check_none, or_both}
-use Rattle.causal.proofs.Sets.{ids_unite}
+use Rattle.causal.proofs.Sets.{has_inserted, ids_inserted, ids_unite, in_or_out, same_words}
+use Rattle.causal.specs.Tests.{implies}
 use Rattle.causal.proofs.Tests.{both_true}
 use Rattle.frame.specs.Calls.{laid}
 use Rattle.frame.specs.Entries.{id_of, same_content}
 use Rattle.frame.specs.Frames.{frame_words, framed, ring_ok}
-use Rattle.frame.specs.Sessions.{Content, SaneContent, ids_of, session_ok}
+use Rattle.frame.specs.Sessions.{Content, SaneContent, ids_of, leave_out, session_ok}
 use Rattle.frame.specs.Tokens.{rows_of}
 use Rattle.frame.specs.declared.entry.Entry.{Entry}
 use Rattle.frame.specs.declared.entry.Frame.{Frame}
+use Rattle.frame.proofs.Entries.{entry_facts}
+use Rattle.frame.proofs.Ids.{id_range}
 use Rattle.frame.proofs.LeaveOut.{left_from}
-use Rattle.frame.proofs.Sessions.{ids_from, ids_new, ids_set}
+use Rattle.frame.proofs.Sessions.{ids_from, ids_new, ids_set, own_ok_lem, session_facts}
 use Rattle.joining.specs.Orders.{Permuted, Reordered, permuted_cons, permuted_nil}
-use Rattle.joining.proofs.Orders.{permuted_end, permuted_from, permuted_length, permuted_to}
+use Rattle.joining.proofs.Laws.{left_append}
+use Rattle.joining.proofs.Orders.{Apart, apart_cons, permuted_end, permuted_from, permuted_length, permuted_to}
 use Rattle.store.specs.Offices.{Office, Words32, clock_of, hold, made, office_of, settings_ok, sound_store, store_words}
-use Rattle.store.proofs.Keep.{store_facts}
 use Rattle.office.specs.Calls.{Result, entry_code, given, hold_all, missing, new_entry, own_code, sent_of, worded, write, write_code, write_on, write_sends, wrote_session}
+use Rattle.store.proofs.Keep.{store_facts}
 use Rattle.office.proofs.Along.{hold_end}
 use Rattle.office.proofs.KeptSession.{write_session}
 use Rattle.ring.specs.Carrying.{SameWrite, TenOrEleven, TwoOrders}
 use Rattle.ring.specs.Run.{last_of}
-use Rattle.ring.proofs.Carrying.{apart, ok_same, own_low}
-use Rattle.ring.proofs.TwoOrders.{hold_permuted, left_apart, permuted_left, permuted_map, within_same}
+use Rattle.ring.proofs.Carrying.{apart, n8, ok_same}
 use Rattle.ring.proofs.WriteKeeps.{last_snoc}
 
--- ---- the words of frames in two orders
+-- ---- one list in two orders
+
+permuted_map : {A B : Type 0} (f : A → B) {l m : List A} → Permuted l m → Permuted (map f l) (map f m)
+permuted_map f permuted_nil = permuted_nil
+permuted_map f (permuted_cons {x = x} {l = l} bef aft e k) =
+    permuted_cons {l = map f l} (map f bef) (map f aft) (ap (map f) e ∙ map-append f bef (x ∷ aft)) (rw (← map-append f bef aft) (permuted_map f k))
+
+permuted_left : (t : Entry → Bool) {l m : List Entry} → Permuted l m → Permuted (leave_out t l) (leave_out t m)
+unfolding leave_out
+permuted_left t permuted_nil = permuted_nil
+permuted_left t (permuted_cons {x = x} {l = l} {m = m} bef aft e k) =
+    go (t x) (ap (leave_out t) e ∙ left_append t bef (x ∷ aft)) (rw (left_append t bef aft) at (permuted_left t k))
+  where
+    go : (b : Bool) → leave_out t m ≡ leave_out t bef ++ cond b (leave_out t aft) (x ∷ leave_out t aft)
+        → Permuted (leave_out t l) (leave_out t bef ++ leave_out t aft) → Permuted (cond b (leave_out t l) (x ∷ leave_out t l)) (leave_out t m)
+    go true q ih = rw q ih
+    go false q ih = permuted_cons {l = leave_out t l} (leave_out t bef) (leave_out t aft) q ih
 
 pub rows_append : (fs gs : List Frame) → rows_of (fs ++ gs) ≡ rows_of fs ++ rows_of gs
 unfolding rows_of
@@ -50,6 +69,84 @@ rows_length permuted_nil = refl
 rows_length (permuted_cons {x = x} {l = l} bef aft e k) =
     omega
     (arith, rows_length k, ap (λ (z : List Frame). length (rows_of z)) e, ap length (rows_append bef (x ∷ aft)), ap length (rows_append bef aft), length-append (rows_of bef) (rows_of aft), length-append (rows_of bef) (frame_words x ++ rows_of aft), length-append (frame_words x) (rows_of aft), length-append (frame_words x) (rows_of l))
+
+-- ---- held in two orders
+
+insert_swap : (s : List ℕ) (k j : ℕ) → IdSet s → k < 256 → j < 256 → inserted (inserted s k) j ≡ inserted (inserted s j) k
+insert_swap s k j w lk lj =
+    let wk = ids_inserted s k w in
+    let wj = ids_inserted s j w in
+    same_words (inserted (inserted s k) j) (inserted (inserted s j) k) (ids_inserted (inserted s k) j wk) (ids_inserted (inserted s j) k wj)
+    (λ x l.
+    omega
+    (arith, has_inserted (inserted s k) j x (omega (arith, wk.eight)), has_inserted s k x (omega (arith, w.eight)), has_inserted (inserted s j) k x (omega (arith, wj.eight)), has_inserted s j x (omega (arith, w.eight))))
+
+-- of two ids, whichever is asked first
+entry_swap : (x i j : ℕ) (e f d : Entry) → (i ≡ j → ⊥) → cond (eqb x j) f (cond (eqb x i) e d) ≡ cond (eqb x i) e (cond (eqb x j) f d)
+entry_swap x i j e f d ne = go (eqb x j) refl (eqb x i) refl
+  where
+    go : (a : Bool) → eqb x j ≡ a → (b : Bool) → eqb x i ≡ b → cond a f (cond b e d) ≡ cond b e (cond a f d)
+    go true p true q = absurd (ne (sym (eqb-true x i q) ∙ eqb-true x j p))
+    go true p false q = refl
+    go false p true q = refl
+    go false p false q = refl
+
+hold_swap : (O : Office) (e f : Entry) → IdSet O.held → id_of e < 256 → id_of f < 256 → (id_of e ≡ id_of f → ⊥) → hold (hold O e) f ≡ hold (hold O f) e
+unfolding hold
+hold_swap O e f w le lf ne =
+    let h = insert_swap O.held (id_of e) (id_of f) w le lf in
+    λ i.
+    record {
+      offices = O.offices;
+      own = O.own;
+      plots = O.plots;
+      held = h i;
+      visible = O.visible;
+      entry = λ k. entry_swap k (id_of e) (id_of f) e f (O.entry k) ne i;
+    }
+
+hold_set : (O : Office) (e : Entry) → IdSet O.held → IdSet (hold O e).held
+unfolding hold
+hold_set O e w = ids_inserted O.held (id_of e) w
+
+-- one taken in first, or after some others
+hold_move : (O : Office) (x : Entry) (bef aft : List Entry) → IdSet O.held → ((e : Entry) → Memᴰ e (x ∷ bef) → id_of e < 256)
+    → ((e : Entry) → Memᴰ e bef → id_of x ≡ id_of e → ⊥) → hold_all (hold O x) (bef ++ aft) ≡ hold_all O (bef ++ x ∷ aft)
+unfolding hold_all
+hold_move O x [] aft w small ne = refl
+hold_move O x (e ∷ bef) aft w small ne =
+    ap (λ (P : Office). hold_all P (bef ++ aft))
+    (hold_swap O x e w (small x (Memᴰ.head refl)) (small e (Memᴰ.tail (Memᴰ.head refl))) (ne e (Memᴰ.head refl)))
+    ∙ hold_move (hold O e) x bef aft (hold_set O e w)
+    (λ f m. ⊎_elim (λ (q : f ≡ x). small f (Memᴰ.head q)) (λ i. small f (Memᴰ.tail (Memᴰ.tail i))) (Memᴰ.cases_cons m))
+    (λ f m. ne f (Memᴰ.tail m))
+
+hold_permuted : {l m : List Entry} → Permuted l m → (O : Office) → IdSet O.held → ((e : Entry) → Memᴰ e l → id_of e < 256) → Apart (map id_of l)
+    → hold_all O l ≡ hold_all O m
+unfolding hold_all
+hold_permuted permuted_nil O w small a = refl
+hold_permuted (permuted_cons {x = x} bef aft e k) O w small (apart_cons out a) =
+    hold_permuted k (hold O x) (hold_set O x w) (λ f i. small f (Memᴰ.tail i)) a
+    ∙ hold_move O x bef aft w
+    (λ f m.
+    ⊎_elim (λ (q : f ≡ x). small f (Memᴰ.head q)) (λ i. small f (Memᴰ.tail (permuted_from k f (Memᴰ.append_left aft i))))
+    (Memᴰ.cases_cons m))
+    (λ f m q. out (rw q (Memᴰ.map id_of (permuted_from k f (Memᴰ.append_left aft m)))))
+    ∙ ap (hold_all O) (sym e)
+
+-- what is left of ids that are apart is apart
+left_apart : (t : Entry → Bool) (l : List Entry) → Apart (map id_of l) → Apart (map id_of (leave_out t l))
+unfolding leave_out
+left_apart t [] a = a
+left_apart t (x ∷ l) (apart_cons out a) = go (t x) (left_apart t l a)
+  where
+    go : (b : Bool) → Apart (map id_of (leave_out t l)) → Apart (map id_of (cond b (leave_out t l) (x ∷ leave_out t l)))
+    go true ih = ih
+    go false ih =
+        apart_cons {x = id_of x} {l = map id_of (leave_out t l)}
+        (λ m.
+        let u = Memᴰ.of_map id_of (leave_out t l) m in
+        out (rw (← u.2) (Memᴰ.map id_of (left_from t l u.0 u.1).0))) ih
 
 -- ---- the tests of the own writes
 
@@ -76,7 +173,7 @@ entry_small O e =
     go true false = inr (inr refl)
     go false b = inr (inl refl)
 
-pub own_small : (O : Office) (es : List Entry) → (own_code O es ≡ 0) ⊎ TenOrEleven (own_code O es)
+own_small : (O : Office) (es : List Entry) → (own_code O es ≡ 0) ⊎ TenOrEleven (own_code O es)
 unfolding own_code or_else
 own_small O [] = inl refl
 own_small O (e ∷ es) = go (entry_code O e) (entry_small O e) (own_small O es)
@@ -129,6 +226,9 @@ module _ (s t : Content) (T : TwoOrders s t) (ws : List ℕ) (plot value : ℕ) 
   abbrev O : Office
   O = office_of ws
 
+  small : (r : Content) → session_ok n p r ≡ true → (e : Entry) → Memᴰ e r.own → id_of e < 256
+  small r h e m = omega (arith, n8 s t T, id_range n p e (entry_facts n p e (own_ok_lem n p r (session_facts n p r h) e m)))
+
   -- what an accepted write by r answers
   abbrev W : Content → List ℕ → Result Office Frame
   W r row =
@@ -144,12 +244,20 @@ module _ (s t : Content) (T : TwoOrders s t) (ws : List ℕ) (plot value : ℕ) 
 
   ids_same : ids_of s.own ≡ ids_of t.own
   ids_same =
-      within_same (ids_of s.own) (ids_of t.own) (ids_set s.own (own_low s t T s T.first)) (ids_set t.own (own_low s t T t T.second))
-      (over s.own t.own (own_low s t T s T.first) (own_low s t T t T.second) (permuted_to T.order.own))
-      (over t.own s.own (own_low s t T t T.second) (own_low s t T s T.first) (permuted_from T.order.own))
+      same_words (ids_of s.own) (ids_of t.own) (ids_set s.own (small s T.first)) (ids_set t.own (small t T.second))
+      (λ k l.
+      ⊎_elim
+      (λ (h : has (ids_of s.own) k ≡ 1).
+      h ∙ sym (over s.own t.own (small s T.first) (small t T.second) (permuted_to T.order.own) k h))
+      (λ (h : has (ids_of s.own) k ≡ 0).
+      ⊎_elim
+      (λ (g : has (ids_of t.own) k ≡ 1).
+      over t.own s.own (small t T.second) (small s T.first) (permuted_from T.order.own) k g ∙ sym g)
+      (λ (g : has (ids_of t.own) k ≡ 0). h ∙ sym g) (in_or_out (ids_of t.own) k))
+      (in_or_out (ids_of s.own) k))
     where
       over : (l m : List Entry) → ((e : Entry) → Memᴰ e l → id_of e < 256) → ((e : Entry) → Memᴰ e m → id_of e < 256)
-          → ((e : Entry) → Memᴰ e l → Memᴰ e m) → Within (ids_of l) (ids_of m)
+          → ((e : Entry) → Memᴰ e l → Memᴰ e m) → (k : ℕ) → has (ids_of l) k ≡ 1 → has (ids_of m) k ≡ 1
       over l m bl bm to k h =
           let u = Memᴰ.of_map id_of l (ids_from l bl k h) in ids_new m bm k (rw (← u.2) (Memᴰ.map id_of (to u.0 u.1)))
 
@@ -185,7 +293,7 @@ module _ (s t : Content) (T : TwoOrders s t) (ws : List ℕ) (plot value : ℕ) 
     where
       carried : hold_all O (missing O s.own) ≡ hold_all O (missing O t.own)
       carried =
-          hold_permuted missing_order O w (λ e m. own_low s t T s T.first e (left_from (λ (x : Entry). is_in O.held (id_of x)) s.own e m).0)
+          hold_permuted missing_order O w (λ e m. small s T.first e (left_from (λ (x : Entry). is_in O.held (id_of x)) s.own e m).0)
           (left_apart (λ (e : Entry). is_in O.held (id_of e)) s.own (apart s t T))
 
   wrote_order : Reordered (wrote_session O s plot value) (wrote_session O t plot value)
@@ -285,7 +393,7 @@ module _ (s t : Content) (T : TwoOrders s t) (ws : List ℕ) (plot value : ℕ) 
               rw (Memᴰ.eq_of_singleton i)
               (record {
                 clock8 = length-set (join (clock_of O) r.clock) O.own (made O + 1);
-                deps_set = ids_unite r.read (ids_of r.own) N.read (ids_set r.own (own_low s t T r h));
+                deps_set = ids_unite r.read (ids_of r.own) N.read (ids_set r.own (small r h));
               }))
               (Memᴰ.append_cases r.own m);
         }

@@ -1,5 +1,5 @@
 -- No reading depends on the carrying order. Assumes nothing.
-use Prim.Native.Nat.{ℕ, ◌*◌, ◌<◌, ◌≤◌, suc, zero}
+use Prim.Native.Nat.{ℕ, ◌*◌, ◌≤◌, suc, zero}
 use mathlib.Core.Bool.{Bool, false, true}
 use mathlib.Core.List.{List, Memᴰ, [], ◌∷◌, map}
 use mathlib.Core.Path.{◌∙◌, ◌≡◌, ap, refl, sym}
@@ -9,7 +9,7 @@ use lib.ListN.{length}
 use Rattle.causal.specs.Clocks.{join}
 use Rattle.causal.specs.Codes.{check}
 use Rattle.causal.specs.Lists.{zeros}
-use Rattle.causal.specs.Sets.{IdSet, inserted, subset_of}
+use Rattle.causal.specs.Sets.{inserted, subset_of}
 use Rattle.causal.specs.Tests.{both}
 use Rattle.causal.proofs.Codes.{check_none}
 use Rattle.causal.proofs.Sets.{ids_zeros}
@@ -19,21 +19,16 @@ use Rattle.frame.specs.Entries.{entry_ok, id_of}
 use Rattle.frame.specs.Sessions.{Content, SaneContent, own_ok, session_ok}
 use Rattle.frame.specs.declared.entry.Entry.{Entry}
 use Rattle.frame.proofs.Entries.{EntryFacts, entry_facts, ring_facts}
-use Rattle.frame.proofs.Ids.{id_range}
-use Rattle.frame.proofs.LeaveOut.{left_from}
 use Rattle.frame.proofs.Sessions.{facts_own, facts_session, own_facts, own_ok_lem, session_facts}
 use Rattle.joining.specs.Orders.{Reordered}
 use Rattle.joining.proofs.Orders.{Apart, permuted_from, permuted_length, permuted_to}
 use Rattle.joining.proofs.Sound.{own_apart}
 use Rattle.store.specs.Offices.{Found, None, Office, Some, Words32, current, office_of, reveal, sound_store, store_words}
 use Rattle.store.proofs.Keep.{store_facts}
-use Rattle.office.specs.Calls.{answer_words, given, handed, handed_all, joint_code, joint_on, noted, noted_all, plots_ok, read_all, read_code, read_joint, read_on, read_out, read_plot, released, shows_own, worded}
+use Rattle.office.specs.Calls.{answer_words, given, handed, handed_all, joint_code, joint_on, noted, noted_all, plots_ok, read_all, read_code, read_joint, read_on, read_plot, worded}
 use Rattle.office.proofs.KeptSession.{joint_session, noted_sane, read_session}
-use Rattle.office.proofs.Released.{released_sane}
 use Rattle.ring.specs.Carrying.{SameReply, TwoOrders}
 use Rattle.ring.proofs.BestOwn.{best_same}
-use Rattle.ring.proofs.Noted.{read_own}
-use Rattle.ring.proofs.TwoOrders.{out_same, permuted_left}
 
 -- ---- sound for other settings
 
@@ -64,9 +59,6 @@ module _ (s t : Content) (T : TwoOrders s t) where
   -- what holds of either's own writes
   keeps : (e : Entry) → Memᴰ e s.own → EntryFacts n p e × (length e.clock ≡ 8)
   keeps e m = (entry_facts n p e (own_ok_lem n p s (session_facts n p s T.first) e m), (T.sane_first.own e m).clock8)
-
-  pub own_low : (r : Content) → session_ok n p r ≡ true → (e : Entry) → Memᴰ e r.own → id_of e < 256
-  own_low r h e m = omega (arith, n8, id_range n p e (entry_facts n p e (own_ok_lem n p r (session_facts n p r h) e m)))
 
   pub apart : Apart (map id_of s.own)
   apart = own_apart n p n8 s.read zeros ids_zeros s.own (session_facts n p s T.first).own
@@ -136,21 +128,18 @@ unfolding noted_all
 all_sane O [] s N = N
 all_sane O (q ∷ qs) s N = all_sane O qs (noted (current O q) s) (noted_sane (current O q) s N)
 
--- once what is shown is released
-released_order : (O : Office) (s t : Content) → ((e : Entry) → Memᴰ e s.own → id_of e < 256) → IdSet s.read → Reordered s t
-    → Reordered (released O s) (released O t)
-unfolding released
-released_order O s t small w R =
-    record {
-      offices = R.offices;
-      clock = R.clock;
-      read = out_same O R.own small s.read w ∙ ap (λ (x : List ℕ). read_out (shows_own O) x t.own) R.read;
-      own = permuted_left (shows_own O) R.own;
-    }
+noted_own : (f : Found) (s : Content) → (noted f s).own ≡ s.own
+unfolding noted
+noted_own None s = refl
+noted_own (Some e) s = refl
+
+all_own : (O : Office) (qs : List ℕ) (s : Content) → (noted_all O qs s).own ≡ s.own
+unfolding noted_all
+all_own O [] s = refl
+all_own O (q ∷ qs) s = all_own O qs (noted (current O q) s) ∙ noted_own (current O q) s
 
 -- a session sound for one number of plots whose own writes are in range for another is sound for that
-ok_plots : (n p q : ℕ) (s r : Content) → session_ok n q r ≡ true → ((e : Entry) → Memᴰ e r.own → Memᴰ e s.own)
-    → session_ok n p s ≡ true → session_ok n p r ≡ true
+ok_plots : (n p q : ℕ) (s r : Content) → session_ok n q r ≡ true → r.own ≡ s.own → session_ok n p s ≡ true → session_ok n p r ≡ true
 ok_plots n p q s r h e k =
     let F = session_facts n q r h in
     facts_session n p r
@@ -159,29 +148,18 @@ ok_plots n p q s r h e k =
       few = F.few;
       clock = F.clock;
       ids = F.ids;
-      own = own_settings n q n p r.read zeros r.own F.own (λ x i. own_ok_lem n p s (session_facts n p s k) x (e x i));
+      own = own_settings n q n p r.read zeros r.own F.own (λ x i. own_ok_lem n p s (session_facts n p s k) x (rw e at i));
     })
-
--- a reading that is not refused is of a sound session
-pub read_sound : (O : Office) (s : Content) (plot : ℕ) → read_code O s plot ≡ 0 → session_ok O.offices O.plots s ≡ true
-unfolding read_code
-read_sound O s plot c = (check_none (session_ok O.offices O.plots s) 3 _ (omega arith) c).0
-
-pub joint_sound : (O : Office) (s : Content) (plots : List ℕ) (room : ℕ) → joint_code O s plots room ≡ 0 → session_ok O.offices O.plots s ≡ true
-unfolding joint_code
-joint_sound O s plots room c = (check_none (session_ok O.offices O.plots s) 3 _ (omega arith) c).0
 
 module _ (s t : Content) (T : TwoOrders s t) (ws : List ℕ) (w32 : Words32 ws) where
   abbrev O : Office
   O = office_of ws
 
-  -- what an accepted reading leaves of r
-  abbrev left : Content → List ℕ → Content
-  left r plots = noted_all (reveal O r.read) plots (released (reveal O r.read) r)
-
   -- the sessions left by an accepted reading are again two such
-  left_again : (plots : List ℕ) → session_ok O.offices O.plots s ≡ true → session_ok O.offices O.plots (left s plots) ≡ true
-      → session_ok O.offices O.plots (left t plots) ≡ true → TwoOrders (left s plots) (left t plots)
+  left_again : (plots : List ℕ) → session_ok O.offices O.plots s ≡ true
+      → session_ok O.offices O.plots (noted_all (reveal O s.read) plots s) ≡ true
+      → session_ok O.offices O.plots (noted_all (reveal O t.read) plots t) ≡ true
+      → TwoOrders (noted_all (reveal O s.read) plots s) (noted_all (reveal O t.read) plots t)
   left_again plots h hs ht =
       let e : T.n ≡ O.offices = sym (session_facts T.n T.p s T.first).offices ∙ (session_facts O.offices O.plots s h).offices in
       record {
@@ -189,27 +167,23 @@ module _ (s t : Content) (T : TwoOrders s t) (ws : List ℕ) (w32 : Words32 ws) 
         p = T.p;
         ring = T.ring;
         first =
-            ok_plots T.n T.p O.plots s _ (ap (λ (m : ℕ). session_ok m O.plots (left s plots)) e ∙ hs) (carried s) T.first;
+            ok_plots T.n T.p O.plots s _ (ap (λ (m : ℕ). session_ok m O.plots (noted_all (reveal O s.read) plots s)) e ∙ hs)
+            (all_own (reveal O s.read) plots s) T.first;
         second =
-            ok_plots T.n T.p O.plots t _ (ap (λ (m : ℕ). session_ok m O.plots (left t plots)) e ∙ ht) (carried t) T.second;
-        sane_first = all_sane (reveal O s.read) plots _ (released_sane T.n T.p (n8 s t T) (reveal O s.read) s T.sane_first T.first);
-        sane_second = all_sane (reveal O t.read) plots _ (released_sane T.n T.p (n8 s t T) (reveal O t.read) t T.sane_second T.second);
-        order =
-            at_read s.read t.read T.order.read
-            (all_order (reveal O s.read) plots _ _
-            (released_order (reveal O s.read) s t (own_low s t T s T.first) T.sane_first.read T.order));
+            ok_plots T.n T.p O.plots t _ (ap (λ (m : ℕ). session_ok m O.plots (noted_all (reveal O t.read) plots t)) e ∙ ht)
+            (all_own (reveal O t.read) plots t) T.second;
+        sane_first = all_sane (reveal O s.read) plots s T.sane_first;
+        sane_second = all_sane (reveal O t.read) plots t T.sane_second;
+        order = at_read s.read t.read T.order.read (all_order (reveal O s.read) plots s t T.order);
       }
     where
-      carried : (r : Content) (e : Entry) → Memᴰ e (left r plots).own → Memᴰ e r.own
-      carried r e m = (left_from (shows_own (reveal O r.read)) r.own e (rw (read_own (reveal O r.read) plots r) at m)).0
-
-      at_read : (x y : List ℕ) → x ≡ y → Reordered (left s plots) (noted_all (reveal O x) plots (released (reveal O x) t))
-          → Reordered (left s plots) (noted_all (reveal O y) plots (released (reveal O y) t))
+      at_read : (x y : List ℕ) → x ≡ y → Reordered (noted_all (reveal O s.read) plots s) (noted_all (reveal O x) plots t)
+          → Reordered (noted_all (reveal O s.read) plots s) (noted_all (reveal O y) plots t)
       at_read x y q R = rw q at R
 
   -- the two answers, by their refusal numbers
   reply : (plots row : List ℕ) (x y : List ℕ) → x ≡ y → (b : Bool) (c d : ℕ) → c ≡ d
-      → (b ≡ true → c ≡ 0 → TwoOrders (left s plots) (left t plots))
+      → (b ≡ true → c ≡ 0 → TwoOrders (noted_all (reveal O s.read) plots s) (noted_all (reveal O t.read) plots t))
       → SameReply (worded b ws s row (given c O s row (read_all O s plots x))) (worded b ws t row (given d O t row (read_all O t plots y)))
   reply plots row x y rows true zero zero e h =
       record {
@@ -235,19 +209,23 @@ module _ (s t : Content) (T : TwoOrders s t) (ws : List ℕ) (w32 : Words32 ws) 
       check (ok_same s t T O.offices O.plots i) 3
       (check (ltb plot O.plots) 4 (check (subset_of (T.order.read i) O.held) 12 0))
 
+  read_sound : (plot : ℕ) (r : Content) → read_code O r plot ≡ 0 → session_ok O.offices O.plots r ≡ true
+  unfolding read_code
+  read_sound plot r c = (check_none (session_ok O.offices O.plots r) 3 _ (omega arith) c).0
+
   read_left : (plot : ℕ) (r : Content) → SaneContent r → sound_store ws ≡ true → read_code O r plot ≡ 0
-      → session_ok O.offices O.plots (left r (plot ∷ [])) ≡ true
+      → session_ok O.offices O.plots (noted_all (reveal O r.read) (plot ∷ []) r) ≡ true
   unfolding read_on
   read_left plot r N h c =
       ap (λ (x : ℕ). session_ok O.offices O.plots (given x O r [] (read_all O r (plot ∷ []) [])).session) (sym c)
-      ∙ read_session O (store_facts ws w32 h) r N (read_sound O r plot c) plot
+      ∙ read_session O (store_facts ws w32 h) r N (read_sound plot r c) plot
 
   pub read_same : (plot : ℕ) → SameReply (read_plot ws s plot) (read_plot ws t plot)
   unfolding read_plot read_on
   read_same plot =
       reply (plot ∷ []) [] [] [] refl (sound_store ws) (read_code O s plot) (read_code O t plot) (read_code_lem plot)
       (λ h c.
-      left_again (plot ∷ []) (read_sound O s plot c) (read_left plot s T.sane_first h c)
+      left_again (plot ∷ []) (read_sound plot s c) (read_left plot s T.sane_first h c)
       (read_left plot t T.sane_second h (sym (read_code_lem plot) ∙ c)))
 
   -- ---- jointly
@@ -260,13 +238,17 @@ module _ (s t : Content) (T : TwoOrders s t) (ws : List ℕ) (w32 : Words32 ws) 
       (check (both (leb (length plots) 16) (plots_ok O.plots plots)) 4
       (check (leb (3 * length plots) room) 8 (check (subset_of (T.order.read i) O.held) 12 0)))
 
+  joint_sound : (plots : List ℕ) (room : ℕ) (r : Content) → joint_code O r plots room ≡ 0 → session_ok O.offices O.plots r ≡ true
+  unfolding joint_code
+  joint_sound plots room r c = (check_none (session_ok O.offices O.plots r) 3 _ (omega arith) c).0
+
   joint_left : (plots row : List ℕ) (r : Content) → SaneContent r → sound_store ws ≡ true → joint_code O r plots (length row) ≡ 0
-      → session_ok O.offices O.plots (left r plots) ≡ true
+      → session_ok O.offices O.plots (noted_all (reveal O r.read) plots r) ≡ true
   unfolding joint_on
   joint_left plots row r N h c =
       ap
       (λ (x : ℕ). session_ok O.offices O.plots (given x O r row (read_all O r plots (laid (answer_words (handed_all O r plots)) row))).session) (sym c)
-      ∙ joint_session O (store_facts ws w32 h) r N (joint_sound O r plots (length row) c) plots row
+      ∙ joint_session O (store_facts ws w32 h) r N (joint_sound plots (length row) r c) plots row
 
   pub joint_same : (plots row : List ℕ) → SameReply (read_joint ws s plots row) (read_joint ws t plots row)
   unfolding read_joint joint_on
@@ -276,5 +258,5 @@ module _ (s t : Content) (T : TwoOrders s t) (ws : List ℕ) (w32 : Words32 ws) 
       (all_same s t T (reveal O s.read) plots ∙ ap (λ (r : List ℕ). map (handed (reveal O r) t) plots) T.order.read))
       (sound_store ws) (joint_code O s plots (length row)) (joint_code O t plots (length row)) (joint_code_lem plots (length row))
       (λ h c.
-      left_again plots (joint_sound O s plots (length row) c) (joint_left plots row s T.sane_first h c)
+      left_again plots (joint_sound plots (length row) s c) (joint_left plots row s T.sane_first h c)
       (joint_left plots row t T.sane_second h (sym (joint_code_lem plots (length row)) ∙ c)))

@@ -395,7 +395,7 @@ module _ (n p : ℕ) (two : 2 ≤ n) (eight : n ≤ 8) (one : 1 ≤ p) (p64 : p 
         → shown (read_left σ o i s (plot ∷ []) (read_said r ws') r.code) ≡ step over_words n (shown σ) (reading o i plot)
     unfolding step
     read_is o i plot s r ws' lt e h =
-        let t = read_step (σ.stores o) s.session (sized_at n σ z i s e) plot r ws' h in
+        let t = read_step (σ.stores o) s.session plot r ws' h in
         let b = read_blank (σ.stores o) (content_of s.session) plot in
         let is : result_of (read_said r ws') ≡ over_words.on_read (σ.stores o) (content_of s.session) plot =
         result_is (read_said r ws') (over_words.on_read (σ.stores o) (content_of s.session) plot) t.0 (sym b.0) t.1 t.3 t.2 (sym b.1) (sym b.2)
@@ -450,7 +450,7 @@ module _ (n p : ℕ) (two : 2 ≤ n) (eight : n ≤ 8) (one : 1 ≤ p) (p64 : p 
           → shown (read_left σ o i s plots (joint_said σ.log plots r ws' row') r.code) ≡ step over_words n (shown σ) (joint o i plots row)
       unfolding step over_words
       joint_holds r ws' row' h =
-          let t = joint_step (σ.stores o) s.session (sized_at n σ z i s e) plots row r ws' row' h in
+          let t = joint_step (σ.stores o) s.session plots row r ws' row' h in
           let b = joint_blank (σ.stores o) (content_of s.session) plots row in
           let ji = joint_is n p two eight one p64 rows enough (shown σ) c S k o lt (content_of s.session) plots row in
           let cj : r.code ≡ J.code = t.0 ∙ ap (λ (x : Res). x.code) ji in

@@ -1,7 +1,6 @@
 -- An entry is later than everything in its writer's past (specs/Later.antt): what is kept for it. Assumes nothing.
 use Prim.Native.Nat.{ℕ, ◌*◌, ◌+◌, ◌<◌, ◌≤◌, max, suc, zero}
 use mathlib.Core.Bool.{true}
-use mathlib.Core.List.Memᴰ
 use mathlib.Core.List.{List, Memᴰ, [], ◌++◌, ◌∷◌, map}
 use mathlib.Core.Logic.{◌⊎◌, inl, inr, ⊎_elim}
 use mathlib.Core.Path.{◌∙◌, ◌≡◌, ap, refl, sym}
@@ -11,24 +10,22 @@ use Rattle.causal.specs.Clocks.{Covers, join}
 use Rattle.causal.specs.Lists.{sum_below}
 use Rattle.causal.specs.Rank.{higher, ranks_above}
 use Rattle.causal.specs.Sets.{IdSet, has, inserted}
-use Rattle.causal.proofs.Clocks.{join_at_lem}
+use Rattle.causal.proofs.Clocks.{join_at}
 use Rattle.causal.proofs.Ranks.{higher_more, higher_same}
-use Rattle.causal.proofs.Sets.{has_lt, in_inserted, in_or_out}
+use Rattle.causal.proofs.Sets.{has_lt, ids_inserted, in_inserted, in_or_out}
 use Rattle.causal.proofs.Tests.{eq_or_ne}
 use Rattle.frame.specs.Entries.{id_of, outranks}
-use Rattle.frame.specs.Sessions.{Content, fresh_content, leave_out}
+use Rattle.frame.specs.Sessions.{Content, fresh_content}
 use Rattle.frame.specs.declared.entry.Entry.{Entry}
 use Rattle.frame.specs.declared.entry.Frame.{Frame}
 use Rattle.frame.proofs.Entries.{EntryFacts}
-use Rattle.frame.proofs.LeaveOut.{left_from}
 use Rattle.store.specs.Offices.{Found, None, Office, Some, current, made, reveal}
 use Rattle.store.proofs.Best.{current_from}
 use Rattle.store.proofs.Counts.{counted}
-use Rattle.office.specs.Calls.{Result, given, joint_code, joint_on, noted, noted_all, read_code, read_on, receive_code, receive_on, received_by, released, shows_own}
+use Rattle.office.specs.Calls.{Result, given, joint_code, joint_on, noted, noted_all, read_code, read_on, receive_code, receive_on, received_by}
 use Rattle.ring.specs.Run.{Event, Tracked, TrackedToken, gained, over_contents, read_by, receive_by, upd}
 use Rattle.ring.proofs.Fit.{Agrees, Sys, TrackedFit, Whole, ids, mem_set, upd_case, world}
-use Rattle.ring.proofs.Noted.{noted_set, released_from, released_set}
-use Rattle.ring.proofs.ReadKeeps.{C, cur, own_small, vis_is, vis_made}
+use Rattle.ring.proofs.ReadKeeps.{C, cur, vis_is, vis_made}
 use Rattle.ring.proofs.ReceiveKeeps.{changed}
 
 -- no number of d's clock is above e's, and at e's office it is below e's serial
@@ -86,9 +83,9 @@ module _ (n : ℕ) (E : ℕ → Entry) where
   noted_fit stores (Some h) s n8 w c K =
       let t = c h refl in
       record {
-        over = λ k m j l. over t k m j l (join_at_lem s.clock h.clock j l);
+        over = λ k m j l. over t k m j l (join_at s.clock h.clock j l);
         bound = λ j l.
-            let q = join_at_lem s.clock h.clock j (omega arith) in
+            let q = join_at s.clock h.clock j (omega arith) in
             let e : get_or h.clock j 0 ≡ get_or (E (id_of h)).clock j 0 = ap (λ (x : Entry). get_or x.clock j 0) t.1 in
             omega (arith, K.bound j l, t.2 j l);
       }
@@ -154,7 +151,7 @@ module _ (n p : ℕ) (two : 2 ≤ n) (eight : n ≤ 8) (E : ℕ → Entry) (P : 
     receive_clocks f rest e row zero = receive_any f rest e row _ _
     receive_clocks f rest e row (suc c) = receive_any f rest e row _ _
 
-    module _ (i : ℕ) (r : Tracked) (in_r : Memᴰ r g.sessions) (A : Agrees E P g.log) where
+    module _ (i : ℕ) (r : Tracked) (in-r : Memᴰ r g.sessions) (A : Agrees E P g.log) where
       abbrev s : Content
       s = r.session
 
@@ -162,45 +159,26 @@ module _ (n p : ℕ) (two : 2 ≤ n) (eight : n ≤ 8) (E : ℕ → Entry) (P : 
       O1 = reveal (g.stores o) r.session.read
 
       F : TrackedFit n two E P (world g) r.session r.past
-      F = w.sessions r in_r
+      F = w.sessions r in-r
 
       visible : made (g.stores o) ≤ made (reveal (g.stores o) r.session.read)
       visible =
-          let H = C n p two eight E P g w A o lt i r in_r in
+          let H = C n p two eight E P g w A o lt i r in-r in
           made_mono (g.stores o) (reveal (g.stores o) r.session.read) ((w.offices o).own ∙ sym H.fit.own) H.held_to
 
       cur_fit : (q : ℕ) (h : Entry) → current (reveal (g.stores o) r.session.read) q ≡ Some h
           → (id_of h < 256) × (h ≡ E (id_of h)) × ((j : ℕ) → j < n → get_or (E (id_of h)).clock j 0 ≤ made (g.stores j))
       cur_fit q h e =
-          let t = cur n p two eight E P g w A o lt i r in_r q h e in
-          let m = vis_made n p two eight E P g w A o lt i r in_r (id_of h) t.0 in
+          let t = cur n p two eight E P g w A o lt i r in-r q h e in
+          let m = vis_made n p two eight E P g w A o lt i r in-r (id_of h) t.0 in
           (omega (arith, t.1), same q h e, λ j l. K.bound (id_of h) m j l)
         where
           same : (q : ℕ) (h : Entry) → current (reveal (g.stores o) r.session.read) q ≡ Some h → h ≡ E (id_of h)
           same q h e =
               let u = current_from (reveal (g.stores o) r.session.read) q h e in
-              let hk : h ≡ E u.0 = u.3 ∙ vis_is n p two eight E P g w A o lt i r in_r u.0 u.2 in
-              let nm : id_of h ≡ u.0 = ap id_of hk ∙ (w.good u.0 (vis_made n p two eight E P g w A o lt i r in_r u.0 u.2)).id_is in
+              let hk : h ≡ E u.0 = u.3 ∙ vis_is n p two eight E P g w A o lt i r in-r u.0 u.2 in
+              let nm : id_of h ≡ u.0 = ap id_of hk ∙ (w.good u.0 (vis_made n p two eight E P g w A o lt i r in-r u.0 u.2)).id_is in
               hk ∙ ap E (sym nm)
-
-      own_low : (e : Entry) → Memᴰ e s.own → id_of e < 256
-      own_low = own_small n p two eight E P g w A o lt i r in_r
-
-      -- names move only: what is released was an own write, and the clock covers it
-      left_fit : ClockFit n E g.stores (released O1 s)
-      unfolding released
-      left_fit = record { over = λ k m. (K.sessions r in_r).over k (source k m); bound = (K.sessions r in_r).bound }
-        where
-          source : (k : ℕ) → (has (released O1 s).read k ≡ 1) ⊎ Memᴰ k (map id_of (leave_out (shows_own O1) s.own))
-              → (has s.read k ≡ 1) ⊎ Memᴰ k (map id_of s.own)
-          source k (inl h) =
-              ⊎_elim (λ t. inr (rw t.3 (Memᴰ.map id_of t.1))) (λ x. inl x) (released_from O1 s F.fit.read_set own_low k h)
-          source k (inr h) =
-              let t = Memᴰ.of_map id_of (leave_out (shows_own O1) s.own) h in
-              inr (rw (← t.2) (Memᴰ.map id_of (left_from (shows_own O1) s.own t.0 t.1).0))
-
-      left_set : IdSet (released O1 s).read
-      left_set = released_set O1 s F.fit.read_set
 
       noted_all_lem : (qs : List ℕ) (x : Content) → IdSet x.read → ClockFit n E g.stores x
           → ClockFit n E g.stores (noted_all (reveal (g.stores o) r.session.read) qs x)
@@ -208,8 +186,12 @@ module _ (n p : ℕ) (two : 2 ≤ n) (eight : n ≤ 8) (E : ℕ → Entry) (P : 
       noted_all_lem [] x wx c = c
       noted_all_lem (q ∷ qs) x wx c =
           noted_all_lem qs (noted (current (reveal (g.stores o) r.session.read) q) x)
-          (noted_set (current (reveal (g.stores o) r.session.read) q) x wx)
+          (words_noted (current (reveal (g.stores o) r.session.read) q))
           (noted_fit n E g.stores (current (reveal (g.stores o) r.session.read) q) x eight wx (cur_fit q) c)
+        where
+          words_noted : (f : Found) → IdSet (noted f x).read
+          words_noted None = wx
+          words_noted (Some e) = ids_inserted x.read (id_of e) wx
 
       -- whatever the past and the events
       with_past : (R : Result Office Frame) → made (g.stores o) ≤ made R.store → ClockFit n E g.stores R.session
@@ -245,8 +227,8 @@ module _ (n p : ℕ) (two : 2 ≤ n) (eight : n ≤ 8) (E : ℕ → Entry) (P : 
           read_any (read_on (g.stores o) r.session plot) (plot ∷ [])
           (given_store (λ X. made (g.stores o) ≤ made X) (read_code (g.stores o) r.session plot) (g.stores o) r.session [] _
           (omega arith) visible)
-          (given_session (λ x. ClockFit n E g.stores x) (read_code (g.stores o) r.session plot) (g.stores o) r.session [] _ (K.sessions r in_r)
-          (noted_all_lem (plot ∷ []) (released O1 s) left_set left_fit)) c
+          (given_session (λ x. ClockFit n E g.stores x) (read_code (g.stores o) r.session plot) (g.stores o) r.session [] _ (K.sessions r in-r)
+          (noted_all_lem (plot ∷ []) r.session F.fit.read_set (K.sessions r in-r))) c
 
       pub joint_clocks : (plots row : List ℕ) → (c : ℕ)
           → Clocks n E (read_by over_contents n g o i r plots (joint_on (g.stores o) r.session plots row) c)
@@ -255,8 +237,8 @@ module _ (n p : ℕ) (two : 2 ≤ n) (eight : n ≤ 8) (E : ℕ → Entry) (P : 
           read_any (joint_on (g.stores o) r.session plots row) plots
           (given_store (λ X. made (g.stores o) ≤ made X) (joint_code (g.stores o) r.session plots (length row)) (g.stores o)
           r.session row _ (omega arith) visible)
-          (given_session (λ x. ClockFit n E g.stores x) (joint_code (g.stores o) r.session plots (length row)) (g.stores o) r.session row _ (K.sessions r in_r)
-          (noted_all_lem plots (released O1 s) left_set left_fit)) c
+          (given_session (λ x. ClockFit n E g.stores x) (joint_code (g.stores o) r.session plots (length row)) (g.stores o) r.session row _ (K.sessions r in-r)
+          (noted_all_lem plots r.session F.fit.read_set (K.sessions r in-r))) c
 
 -- ---- what it is for
 

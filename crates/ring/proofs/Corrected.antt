@@ -23,7 +23,7 @@ use Rattle.frame.specs.declared.entry.Entry.{Entry}
 use Rattle.frame.proofs.Cases.{entry_a}
 use Rattle.store.specs.Offices.{Office, Some, best_own, best_to, better, clock_of, consider, current, hold, made, max_to, need, reveal}
 use Rattle.store.specs.Reveal.{revealed, steps}
-use Rattle.office.specs.Calls.{entry_code, fresh_code, handed, hold_all, hold_new, new_entry, noted, noted_all, own_code, read_code, read_on, read_out, receive_code, receive_on, receive_sends, received_by, released, sent_of, shows_own, write_code, write_on, wrote_session}
+use Rattle.office.specs.Calls.{entry_code, fresh_code, handed, hold_all, hold_new, new_entry, noted, noted_all, own_code, read_code, read_on, receive_code, receive_on, receive_sends, received_by, sent_of, write_code, write_on, wrote_session}
 use Rattle.ring.specs.Holds.{Same, Shows}
 use Rattle.ring.specs.Later.{Knew}
 use Rattle.ring.specs.Run.{Call, Event, Made, at, contents_run, fresh, gained, last_of, next_of, over_contents, reading, receiving, run, step, together, upd, words_run, writer_past, writing}
@@ -76,7 +76,7 @@ record Computed : Type 0 where
   handed_back : map (λ (v : Event). v.reads) (at (contents_run 3 64 visited).events 8) ≡ ((5, Some entry_c) ∷ []) ∷ []
 
 computed : Computed
-unfolding count_trailing_zeros both either implies all_below check or_else part tab sum_below eq_words bit has is_in unite minus inserted word_in subset_of lowest_in lowest_of join higher ranks_above outranks clock_words id_word_if id_words_to id_words total summed clock_place_ok clock_ok ids_place_ok ids_ok bounds_ok entry_ok same_content ring_ok body_words frame_words laid ids_of own_ok session_ok rows_of steps revealed made max_to clock_of reveal hold better consider best_to current best_own entry_code own_code noted read_out shows_own released noted_all read_code handed new_entry leave_out sent_of write_code hold_all wrote_session receive_code hold_new received_by receive_sends read_on write_on receive_on fresh_code at upd next_of writer_past gained together last_of step run over_contents contents_run
+unfolding count_trailing_zeros both either implies all_below check or_else part tab sum_below eq_words bit has is_in unite minus inserted word_in subset_of lowest_in lowest_of join higher ranks_above outranks clock_words id_word_if id_words_to id_words total summed clock_place_ok clock_ok ids_place_ok ids_ok bounds_ok entry_ok same_content ring_ok body_words frame_words laid ids_of own_ok session_ok rows_of steps revealed made max_to clock_of reveal hold better consider best_to current best_own entry_code own_code noted noted_all read_code handed new_entry leave_out sent_of write_code hold_all wrote_session receive_code hold_new received_by receive_sends read_on write_on receive_on fresh_code at upd next_of writer_past gained together last_of step run over_contents contents_run
 computed = record { log = refl; shows = refl; shows_first = refl; handed_back = refl }
 
 pub corrected : (rows : ℕ → List ℕ) → ((o : ℕ) → o < 3 → need 3 ≤ length (rows o)) → Corrected rows

@@ -13,10 +13,8 @@ use Rattle.ring.proofs.Chain.{all_answered}
 use Rattle.ring.proofs.Claim.{claim}
 use Rattle.ring.proofs.EitherWay.{carrying_order, either_way}
 use Rattle.ring.proofs.GoesOn.{goes_on}
-use Rattle.ring.proofs.JoinedBack.{joined_back}
 use Rattle.ring.proofs.JointTogether.{joint_together}
 use Rattle.ring.proofs.KeepsOn.{keeps_on}
-use Rattle.ring.proofs.Lasting.{lasting}
 use Rattle.ring.proofs.LaterCounts.{later_counts}
 use Rattle.ring.proofs.Settings.{settings_stay}
 use Rattle.ring.proofs.Theorem.{demand3, opens}
@@ -44,6 +42,4 @@ third_demand =
       either_way = either_way;
       goes_on = goes_on;
       keeps_on = keeps_on;
-      joined_back = joined_back;
-      lasting = lasting;
     }

@@ -24,7 +24,7 @@ use Rattle.frame.proofs.Cases.{entry_a, entry_b, row_a, row_b}
 use Rattle.joining.specs.Joins.{all_alike, alike, each, join_code, joined}
 use Rattle.store.specs.Offices.{None, Some, best_own, best_to, better, clock_of, consider, current, hold, made, max_to, need, reveal, settings_ok}
 use Rattle.store.specs.Reveal.{revealed, steps}
-use Rattle.office.specs.Calls.{answer_words, entry_code, fresh_code, handed, hold_all, hold_new, joint_code, joint_on, new_entry, noted, noted_all, own_code, plots_ok, read_code, read_on, read_out, receive_code, receive_on, receive_sends, received_by, released, sent_of, shows_own, three_words, write_code, write_on, wrote_session}
+use Rattle.office.specs.Calls.{answer_words, entry_code, fresh_code, handed, hold_all, hold_new, joint_code, joint_on, new_entry, noted, noted_all, own_code, plots_ok, read_code, read_on, receive_code, receive_on, receive_sends, received_by, sent_of, three_words, write_code, write_on, wrote_session}
 use Rattle.ring.specs.Holds.{Same, token_on}
 use Rattle.ring.specs.Run.{Call, Event, Made, Tracked, TrackedToken, at, contents_run, copy_session, copy_token, fresh, gained, joining, joint, last_of, next_of, over_contents, reading, receiving, receiving_words, run, step, together, token_reading, token_writing, upd, words_run, writer_past, writing}
 use Rattle.ring.proofs.Theorem.{demand3}
@@ -78,7 +78,7 @@ others =
     ∷ joining 7 7 3 4  -- plots 5 and 6 are no plots of four: 3
     ∷ joining 0 6 3 64  -- of another ring: 3
     ∷ joining 0 1 3 65  -- 1
-    ∷ joint 2 7 (3 ∷ 5 ∷ 6 ∷ []) row  -- 1.2, 0.1 and 1.1; that office shows the last two, and they are released
+    ∷ joint 2 7 (3 ∷ 5 ∷ 6 ∷ []) row  -- 1.2, 0.1 and 1.1
     ∷ joint 2 8 (3 ∷ 5 ∷ 6 ∷ []) row  -- the same
     ∷ joining 9 9 3 64  -- session 10, the same as 9
     ∷ joining 6 6 4 64  -- session 11, of the other ring
@@ -173,9 +173,8 @@ pub record LedJoined (events : List Event) (sessions : List Tracked) (log : List
       ∷ (32 ∷ 0 ∷ 0 ∷ 33 ∷ (past_1 ++ (past_0 ++ past_5)))
       ∷ past_9
       ∷ []
-  -- a joined session carries the first's own entries, then those of the second not among them, and has read what either has read. So does 9; 7 and 8
-  -- have since read at an office that shows 0.1 and 1.1, and these they no longer carry
-  pub joined_own : map (λ (r : Tracked). map id_of r.session.own) (take 3 (drop 7 sessions)) ≡ (33 ∷ []) ∷ (33 ∷ []) ∷ (33 ∷ 0 ∷ 32 ∷ []) ∷ []
+  -- .. and carries the first's own entries, then those of the second not among them, and has read what either has read
+  pub joined_own : map (λ (r : Tracked). map id_of r.session.own) (take 3 (drop 7 sessions)) ≡ (33 ∷ 0 ∷ 32 ∷ []) ∷ (0 ∷ 32 ∷ 33 ∷ []) ∷ (33 ∷ 0 ∷ 32 ∷ []) ∷ []
   pub joined_read : map (λ (r : Tracked). take 2 r.session.read) (take 3 (drop 7 sessions)) ≡ (1 ∷ 1 ∷ []) ∷ (1 ∷ 1 ∷ []) ∷ (1 ∷ 1 ∷ []) ∷ []
   pub joined_replies : map (λ (v : Event). take 9 v.row) (at events 35 ++ at events 36)
       ≡ (1 ∷ 8 ∷ 258 ∷ 1 ∷ 709 ∷ 1 ∷ 1 ∷ 1 ∷ 257 ∷ []) ∷ (1 ∷ 8 ∷ 258 ∷ 1 ∷ 709 ∷ 1 ∷ 1 ∷ 1 ∷ 257 ∷ []) ∷ []
@@ -208,7 +207,7 @@ pub record Computed : Type 0 where
   pub tokens : take 2 (map token_on (contents_run 3 64 every_call).tokens) ≡ twice
 
 pub computed : Computed
-unfolding count_trailing_zeros both either implies all_below check or_else part tab sum_below eq_words bit has is_in unite minus inserted word_in subset_of lowest_in lowest_of join higher ranks_above outranks clock_words clock_from id_word_if id_words_to id_words ids_from total summed clock_place_ok clock_ok ids_place_ok ids_ok bounds_ok entry_ok same_content ring_ok body_words frame_words frame_ok frame_of accepts laid laid_if ids_of own_ok session_ok write_token_code write_token_row token_words rows_of steps revealed settings_ok made max_to clock_of reveal hold better consider best_to current best_own entry_code own_code noted read_out shows_own released noted_all plots_ok joint_code joint_on three_words answer_words read_code handed new_entry leave_out sent_of write_code hold_all wrote_session receive_code hold_new received_by receive_sends read_on write_on receive_on fresh_code each alike all_alike joined join_code at upd next_of writer_past gained together last_of step run over_contents contents_run
+unfolding count_trailing_zeros both either implies all_below check or_else part tab sum_below eq_words bit has is_in unite minus inserted word_in subset_of lowest_in lowest_of join higher ranks_above outranks clock_words clock_from id_word_if id_words_to id_words ids_from total summed clock_place_ok clock_ok ids_place_ok ids_ok bounds_ok entry_ok same_content ring_ok body_words frame_words frame_ok frame_of accepts laid laid_if ids_of own_ok session_ok write_token_code write_token_row token_words rows_of steps revealed settings_ok made max_to clock_of reveal hold better consider best_to current best_own entry_code own_code noted noted_all plots_ok joint_code joint_on three_words answer_words read_code handed new_entry leave_out sent_of write_code hold_all wrote_session receive_code hold_new received_by receive_sends read_on write_on receive_on fresh_code each alike all_alike joined join_code at upd next_of writer_past gained together last_of step run over_contents contents_run
 computed =
     record {
       led =
@@ -235,7 +234,7 @@ computed =
     }
 
 computed_joined : LedJoined (contents_run 3 64 every_call).events (contents_run 3 64 every_call).sessions (contents_run 3 64 every_call).log
-unfolding count_trailing_zeros both either implies all_below check or_else part tab sum_below eq_words bit has is_in unite minus inserted word_in subset_of lowest_in lowest_of join higher ranks_above outranks clock_words clock_from id_word_if id_words_to id_words ids_from total summed clock_place_ok clock_ok ids_place_ok ids_ok bounds_ok entry_ok same_content ring_ok body_words frame_words frame_ok frame_of accepts laid laid_if ids_of own_ok session_ok write_token_code write_token_row token_words rows_of steps revealed settings_ok made max_to clock_of reveal hold better consider best_to current best_own entry_code own_code noted read_out shows_own released noted_all plots_ok joint_code joint_on three_words answer_words read_code handed new_entry leave_out sent_of write_code hold_all wrote_session receive_code hold_new received_by receive_sends read_on write_on receive_on fresh_code each alike all_alike joined join_code at upd next_of writer_past gained together last_of step run over_contents contents_run
+unfolding count_trailing_zeros both either implies all_below check or_else part tab sum_below eq_words bit has is_in unite minus inserted word_in subset_of lowest_in lowest_of join higher ranks_above outranks clock_words clock_from id_word_if id_words_to id_words ids_from total summed clock_place_ok clock_ok ids_place_ok ids_ok bounds_ok entry_ok same_content ring_ok body_words frame_words frame_ok frame_of accepts laid laid_if ids_of own_ok session_ok write_token_code write_token_row token_words rows_of steps revealed settings_ok made max_to clock_of reveal hold better consider best_to current best_own entry_code own_code noted noted_all plots_ok joint_code joint_on three_words answer_words read_code handed new_entry leave_out sent_of write_code hold_all wrote_session receive_code hold_new received_by receive_sends read_on write_on receive_on fresh_code each alike all_alike joined join_code at upd next_of writer_past gained together last_of step run over_contents contents_run
 computed_joined =
     record { joined_pasts = refl; joined_own = refl; joined_read = refl; joined_replies = refl; joined_write = refl; joined_token = refl }
 

@@ -9,7 +9,7 @@ use native.Mathlib.Omega.{arith}
 use lib.ListN.{get_or}
 use Rattle.causal.specs.Clocks.{join}
 use Rattle.causal.specs.Sets.{IdSet, has, is_in, unite}
-use Rattle.causal.proofs.Clocks.{join_at_lem}
+use Rattle.causal.proofs.Clocks.{join_at}
 use Rattle.causal.proofs.Sets.{ids_unite, in_is, in_unite, unite_left, unite_right}
 use Rattle.frame.specs.Entries.{id_of, same_content}
 use Rattle.frame.specs.Sessions.{ids_of}
@@ -94,8 +94,8 @@ module _ (n p : ℕ) (two : 2 ≤ n) (eight : n ≤ 8) (E : ℕ → Entry) (P : 
   unfolding joined
   join_clock stores Ka Kb =
       record {
-        over = λ k m j l. over k m j l (join_at_lem a.session.clock b.session.clock j l);
-        bound = λ j l. omega (arith, join_at_lem a.session.clock b.session.clock j (omega arith), Ka.bound j l, Kb.bound j l);
+        over = λ k m j l. over k m j l (join_at a.session.clock b.session.clock j l);
+        bound = λ j l. omega (arith, join_at a.session.clock b.session.clock j (omega arith), Ka.bound j l, Kb.bound j l);
       }
     where
       over : (k : ℕ) → (has (unite a.session.read b.session.read) k ≡ 1) ⊎ Memᴰ k (map id_of (a.session.own ++ Rest)) → (j : ℕ) → j < 8

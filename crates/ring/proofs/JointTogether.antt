@@ -15,7 +15,7 @@ use Rattle.reading.proofs.JointReads.{joint_hands}
 use Rattle.ring.specs.Holds.{Holds}
 use Rattle.ring.specs.Joint.{JointTogether, Replies}
 use Rattle.ring.specs.Run.{Call, Event, Made, State, Tracked, at, contents_run, gained, joint, joint_at, over_words, read_by, read_in, run, step, together, words_run}
-use Rattle.ring.proofs.Gained.{gained_keeps}
+use Rattle.ring.proofs.ReadKeeps.{gained_keeps}
 use Rattle.ring.proofs.RunAppend.{run_append}
 use Rattle.ring.proofs.Theorem.{demand3}
 use Rattle.ring.proofs.Together.{together_plots}

@@ -15,7 +15,7 @@ use Rattle.frame.proofs.Entries.{outranks_irrefl, outranks_trans}
 use Rattle.store.specs.Offices.{Found, Office, Some, current, need, office_of, reveal}
 use Rattle.store.specs.Reveal.{Reached, dep, seed}
 use Rattle.store.proofs.Best.{Over}
-use Rattle.office.specs.Calls.{Result, handed, noted_all, read_joint, read_plot, released, write, write_on}
+use Rattle.office.specs.Calls.{Result, handed, noted_all, read_joint, read_plot, write, write_on}
 use Rattle.reading.proofs.JointReads.{joint_hands}
 use Rattle.reading.proofs.OnePlot.{one_plot}
 use Rattle.ring.specs.Holds.{Holds, Shows}
@@ -24,10 +24,9 @@ use Rattle.ring.specs.Run.{Call, Made, Tracked, at, contents_run, last_of, over_
 use Rattle.ring.proofs.Base.{held_made}
 use Rattle.ring.proofs.Clocks.{Clocks}
 use Rattle.ring.proofs.Fit.{Agrees, Sys, Whole, mem_at}
-use Rattle.ring.proofs.Gained.{gained_keeps}
 use Rattle.ring.proofs.Later.{dep_later, past_later}
 use Rattle.ring.proofs.Log.{entry_in, log_agrees}
-use Rattle.ring.proofs.ReadKeeps.{all_reads, kept, over_known, over_shown}
+use Rattle.ring.proofs.ReadKeeps.{all_reads, gained_keeps, kept, over_known, over_shown}
 use Rattle.ring.proofs.SameRun.{WState}
 use Rattle.ring.proofs.Steps.{Ok, contents_ok, ok_clocks, ok_whole, write_adds}
 use Rattle.ring.proofs.Theorem.{above_made, demand3, is_current, over_some}
@@ -200,12 +199,12 @@ module _ (n p : ℕ) (two : 2 ≤ n) (eight : n ≤ 8) (one : 1 ≤ p) (p64 : p 
 
         shown : has O1.visible (id_of m.entry) ≡ 1 → Over f (E (id_of m.entry))
         shown v =
-            over_shown n p two eight E P c w A o lt i s in_s plots (map (handed O1 s.session) plots) (noted_all O1 plots (released O1 s.session)) []
+            over_shown n p two eight E P c w A o lt i s in_s plots (map (handed O1 s.session) plots) (noted_all O1 plots s.session) []
             (all_reads n p two eight E P c w A o lt i s in_s plots) m.entry.plot f j (id_of m.entry) v on_plot
 
         known : Memᴰ (id_of m.entry) s.past → Over f (E (id_of m.entry))
         known v =
-            over_known n p two eight E P c w A o lt i s in_s plots (map (handed O1 s.session) plots) (noted_all O1 plots (released O1 s.session)) []
+            over_known n p two eight E P c w A o lt i s in_s plots (map (handed O1 s.session) plots) (noted_all O1 plots s.session) []
             (all_reads n p two eight E P c w A o lt i s in_s plots) m.entry.plot f j (id_of m.entry)
             (gained_keeps c.log (map (handed O1 s.session) plots) s.past (id_of m.entry) v) on_plot
 
@@ -214,7 +213,7 @@ module _ (n p : ℕ) (two : 2 ≤ n) (eight : n ≤ 8) (one : 1 ≤ p) (p64 : p 
         → (y : Made) × Memᴰ y c.log × (y.entry ≡ x)
     handed_made plots x j =
         let t =
-        kept n p two eight E P c w A o lt i s in_s plots (map (handed O1 s.session) plots) (noted_all O1 plots (released O1 s.session)) []
+        kept n p two eight E P c w A o lt i s in_s plots (map (handed O1 s.session) plots) (noted_all O1 plots s.session) []
         (all_reads n p two eight E P c w A o lt i s in_s plots) m.entry.plot x j
         in
         let y = mathlib.Core.List.Memᴰ.of_map (λ (z : Made). id_of z.entry) c.log t.2 in

@@ -24,7 +24,7 @@ use Rattle.joining.specs.Promises.{JoinPromise}
 use Rattle.joining.proofs.Laws.{joinable}
 use Rattle.store.specs.Offices.{Found, None, Office, Some, office_of, reveal, sound_store}
 use Rattle.office.specs.Answers.{any_found, entry_found, fresh_by}
-use Rattle.office.specs.Calls.{Result, answer_words, fresh_code, given, handed, handed_all, hold_all, joint_code, joint_on, noted_all, open_office, parsed, read_all, read_code, read_joint, read_on, read_plot, receive, receive_code, receive_on, receive_sends, received_by, released, sent_of, three_words, worded, write, write_code, write_on, write_sends, wrote_session}
+use Rattle.office.specs.Calls.{Result, answer_words, fresh_code, given, handed, handed_all, hold_all, joint_code, joint_on, noted_all, open_office, parsed, read_all, read_code, read_joint, read_on, read_plot, receive, receive_code, receive_on, receive_sends, received_by, sent_of, three_words, worded, write, write_code, write_on, write_sends, wrote_session}
 use Rattle.office.specs.Promises.{FreshPromise, JointPromise, OpenPromise, ReadPromise, ReceivePromise, WritePromise}
 use Rattle.reading.proofs.Answers.{joint_content, read_content}
 use Rattle.writing.proofs.Answers.{write_content}
@@ -95,7 +95,7 @@ read_found ws s plot =
           count = 0;
           found = f ∷ [];
           store = reveal (office_of ws) s.read;
-          session = noted_all (reveal (office_of ws) s.read) (plot ∷ []) (released (reveal (office_of ws) s.read) s);
+          session = noted_all (reveal (office_of ws) s.read) (plot ∷ []) s;
           row = [];
           sent = [];
         }))
@@ -106,22 +106,21 @@ read_found ws s plot =
     go true (suc c) f = refl
     go false c f = refl
 
-pub read_step : (ws : List ℕ) (s : Session) → length s.own ≡ 16 → (plot : ℕ) (r : ReadAnswer) (ws' : List ℕ) → ReadPromise ws s plot r.code r.found r.entry r.session ws'
+pub read_step : (ws : List ℕ) (s : Session) (plot : ℕ) (r : ReadAnswer) (ws' : List ℕ) → ReadPromise ws s plot r.code r.found r.entry r.session ws'
     → (r.code ≡ (over_words.on_read ws (content_of s) plot).code)
     × (handed_back r.code r.found r.entry ≡ (over_words.on_read ws (content_of s) plot).found)
     × (content_of r.session ≡ (over_words.on_read ws (content_of s) plot).session)
     × (ws' ≡ (over_words.on_read ws (content_of s) plot).store)
 unfolding over_words
-read_step ws s n plot r ws' h =
-    (h.0, rw (h.0, h.1, h.2) (read_found ws (content_of s) plot), ap content_of h.3 ∙ read_content ws s n plot, h.4)
+read_step ws s plot r ws' h = (h.0, rw (h.0, h.1, h.2) (read_found ws (content_of s) plot), ap content_of h.3 ∙ read_content ws s plot, h.4)
 
-pub joint_step : (ws : List ℕ) (s : Session) → length s.own ≡ 16 → (plots row : List ℕ) (r : SessionAnswer) (ws' row' : List ℕ) → JointPromise ws s plots row r.code r.session ws' row'
+pub joint_step : (ws : List ℕ) (s : Session) (plots row : List ℕ) (r : SessionAnswer) (ws' row' : List ℕ) → JointPromise ws s plots row r.code r.session ws' row'
     → (r.code ≡ (over_words.on_joint ws (content_of s) plots row).code)
     × (content_of r.session ≡ (over_words.on_joint ws (content_of s) plots row).session)
     × (ws' ≡ (over_words.on_joint ws (content_of s) plots row).store)
     × (row' ≡ (over_words.on_joint ws (content_of s) plots row).row)
 unfolding over_words
-joint_step ws s n plots row r ws' row' h = (h.0, ap content_of h.1 ∙ joint_content ws s n plots row, h.2, h.3)
+joint_step ws s plots row r ws' row' h = (h.0, ap content_of h.1 ∙ joint_content ws s plots row, h.2, h.3)
 
 pub answers_joined : (fs : List Found) → answer_words fs ≡ joined (map three_words fs)
 unfolding answer_words joined

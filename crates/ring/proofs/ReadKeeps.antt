@@ -1,43 +1,193 @@
 -- A reading, single or joint, keeps the invariant, and is never refused with 10, 11 or 12. What it hands back is not outranked by the past.
 -- Assumes nothing.
 use Prim.Native.Nat.{ℕ, ◌*◌, ◌/◌, ◌<◌, ◌≤◌}
-use mathlib.Core.Bool.{Bool, false, true}
+use mathlib.Core.Bool.{Bool, cond, false, true}
 use mathlib.Core.List.{List, Memᴰ, [], ◌++◌, ◌∷◌, map}
 use mathlib.Core.Logic.{◌⊎◌, inl, inr, ⊎_elim}
 use mathlib.Core.Path.{◌∙◌, ◌≡◌, ap, refl, sym}
 use native.Mathlib.Omega.{arith}
-use lib.Dec.{leb, ltb}
+use lib.Dec.{eqb, leb, ltb}
 use lib.ListN.{length, set}
+use borrow.Author.Tests.{eq-eqb, eqb-true}
+use Rattle.causal.specs.Clocks.{join}
 use Rattle.causal.specs.Codes.{check}
-use Rattle.causal.specs.Sets.{IdSet, has, is_in}
+use Rattle.causal.specs.Sets.{IdSet, has}
 use Rattle.causal.specs.Tests.{both}
-use Rattle.causal.proofs.Sets.{in_is}
-use Rattle.causal.proofs.Tests.{both_intro, both_true, same_test}
+use Rattle.causal.proofs.Sets.{ids_inserted, in_inserted, inserted_old}
+use Rattle.causal.proofs.Tests.{false_true}
 use Rattle.frame.specs.Calls.{laid}
-use Rattle.frame.specs.Entries.{id_of, same_content}
+use Rattle.frame.specs.Entries.{id_of}
 use Rattle.frame.specs.Sessions.{Content, session_ok}
 use Rattle.frame.specs.declared.entry.Entry.{Entry}
 use Rattle.frame.specs.declared.entry.Frame.{Frame}
-use Rattle.frame.proofs.LeaveOut.{left_from}
-use Rattle.frame.proofs.SameContent.{same_refl}
-use Rattle.store.specs.Offices.{Found, Office, Some, current, reveal}
+use Rattle.frame.proofs.Ids.{inserted_new}
+use Rattle.store.specs.Offices.{Found, None, Office, Some, current, reveal}
 use Rattle.store.proofs.Best.{Over, current_from, current_over, own_from, own_keeps, own_over}
-use Rattle.office.specs.Calls.{Result, answer_words, given, handed, handed_all, joint_code, joint_on, noted_all, plots_ok, read_all, read_code, read_on, refusal, released, shows_own}
-use Rattle.office.proofs.Released.{shows_visible}
+use Rattle.office.specs.Calls.{Result, answer_words, given, handed, handed_all, joint_code, joint_on, noted, noted_all, plots_ok, read_all, read_code, read_on, refusal}
 use Rattle.mesh.specs.Ring.{Shape}
-use Rattle.mesh.specs.Sessions.{SoundSession, TakesIn, Without}
+use Rattle.mesh.specs.Sessions.{SoundSession, TakesIn}
 use Rattle.mesh.specs.World.{Inv, Reach, Reveal, self}
 use Rattle.mesh.proofs.Carry.{reached_held}
 use Rattle.mesh.proofs.Reveal.{reveal_inv}
 use Rattle.mesh.proofs.Sessions.{past_known, past_made, sound_later, take_sound, take_visible}
-use Rattle.ring.specs.Run.{Event, Tracked, gained, over_contents, read_by, read_in, refused_by, together}
+use Rattle.ring.specs.Run.{Event, Made, Tracked, gained, over_contents, read_by, read_in, refused_by, together, writer_past}
 use Rattle.ring.proofs.Base.{Fine, dep_made, events_more, held_made, made_range, read_held, read_within, refused_whole, revealing, visible_held}
 use Rattle.ring.proofs.Change.{Changed, Never}
 use Rattle.ring.proofs.Fit.{Agrees, OfficeFit, Sys, TrackedFit, Whole, ids, mem_set, seen, shape, upd_case, upd_said, upd_same, world, wpast}
-use Rattle.ring.proofs.Gained.{gained_from, gained_keeps, gained_new, writer_is}
-use Rattle.ring.proofs.LeaveOut.{left_without}
-use Rattle.ring.proofs.Noted.{New, On, read_clock, read_from, read_new, read_own, read_set, read_to}
 use Rattle.ring.proofs.Together.{together_from, together_in}
+
+-- ---- what a reading notes
+
+module _ (f : Found) (s : Content) where
+  noted_own : (noted f s).own ≡ s.own
+  unfolding noted
+  noted_own = go f
+    where
+      go : (x : Found) → (noted x s).own ≡ s.own
+      go None = refl
+      go (Some e) = refl
+
+noted_set : (f : Found) (s : Content) → IdSet s.read → IdSet (noted f s).read
+unfolding noted
+noted_set None s w = w
+noted_set (Some e) s w = ids_inserted s.read (id_of e) w
+
+noted_clock : (f : Found) (s : Content) → length s.clock ≡ 8 → length (noted f s).clock ≡ 8
+unfolding noted join
+noted_clock None s w = w
+noted_clock (Some e) s w = refl
+
+noted_from : (f : Found) (s : Content) → ((h : Entry) → f ≡ Some h → id_of h < 256) → IdSet s.read → (k : ℕ) → has (noted f s).read k ≡ 1
+    → ((h : Entry) × (f ≡ Some h) × (k ≡ id_of h)) ⊎ (has s.read k ≡ 1)
+unfolding noted
+noted_from None s b w k h = inr h
+noted_from (Some e) s b w k h = ⊎_elim (λ q. inl (e, refl, q)) (λ m. inr m) (in_inserted s.read (id_of e) k (b e refl) w h)
+
+noted_to : (f : Found) (s : Content) → ((h : Entry) → f ≡ Some h → id_of h < 256) → IdSet s.read → (k : ℕ) → has s.read k ≡ 1
+    → has (noted f s).read k ≡ 1
+unfolding noted
+noted_to None s b w k h = h
+noted_to (Some e) s b w k h = inserted_old s.read (id_of e) (b e refl) w k h
+
+noted_new : (f : Found) (s : Content) → ((h : Entry) → f ≡ Some h → id_of h < 256) → IdSet s.read → (h : Entry) → f ≡ Some h
+    → has (noted f s).read (id_of h) ≡ 1
+unfolding noted
+noted_new None s b w h q = let z : ◌≡◌ {A = ℕ} 0 1 = cc in absurd (omega arith)
+noted_new (Some e) s b w h q = let r : h ≡ e = cc in rw r (inserted_new s.read (id_of e) (b e refl) w)
+
+-- what is on the plots
+abbrev pub On : Office → List ℕ → ℕ → Type 0
+On O plots k = (q : ℕ) × (h : Entry) × Memᴰ q plots × (current O q ≡ Some h) × (k ≡ id_of h)
+
+module _ (O : Office) (small : (q : ℕ) (h : Entry) → current O q ≡ Some h → id_of h < 256) where
+  all_own : (qs : List ℕ) (s : Content) → (noted_all O qs s).own ≡ s.own
+  unfolding noted_all
+  all_own [] s = refl
+  all_own (q ∷ qs) s = all_own qs (noted (current O q) s) ∙ noted_own (current O q) s
+
+  all_sets : (qs : List ℕ) (s : Content) → IdSet s.read → IdSet (noted_all O qs s).read
+  unfolding noted_all
+  all_sets [] s w = w
+  all_sets (q ∷ qs) s w = all_sets qs (noted (current O q) s) (noted_set (current O q) s w)
+
+  all_clock : (qs : List ℕ) (s : Content) → length s.clock ≡ 8 → length (noted_all O qs s).clock ≡ 8
+  unfolding noted_all
+  all_clock [] s w = w
+  all_clock (q ∷ qs) s w = all_clock qs (noted (current O q) s) (noted_clock (current O q) s w)
+
+  all_to : (qs : List ℕ) (s : Content) → IdSet s.read → (k : ℕ) → has s.read k ≡ 1 → has (noted_all O qs s).read k ≡ 1
+  unfolding noted_all
+  all_to [] s w k h = h
+  all_to (q ∷ qs) s w k h = all_to qs (noted (current O q) s) (noted_set (current O q) s w) k (noted_to (current O q) s (small q) w k h)
+
+  all_from : (qs : List ℕ) (s : Content) → IdSet s.read → (k : ℕ) → has (noted_all O qs s).read k ≡ 1 → On O qs k ⊎ (has s.read k ≡ 1)
+  unfolding noted_all
+  all_from [] s w k h = inr h
+  all_from (q ∷ qs) s w k h =
+      ⊎_elim (λ (t : On O qs k). inl (t.0, t.1, mathlib.Core.List.Memᴰ.tail t.2, t.3, t.4))
+      (λ (m : has (noted (current O q) s).read k ≡ 1).
+      ⊎_elim (λ (t : (h : Entry) × (current O q ≡ Some h) × (k ≡ id_of h)). inl (q, t.0, mathlib.Core.List.Memᴰ.head refl, t.1, t.2)) (λ r. inr r)
+      (noted_from (current O q) s (small q) w k m)) (all_from qs (noted (current O q) s) (noted_set (current O q) s w) k h)
+
+  all_new : (qs : List ℕ) (s : Content) → IdSet s.read → (k : ℕ) → On O qs k → has (noted_all O qs s).read k ≡ 1
+  unfolding noted_all
+  all_new [] s w k t = absurd (mathlib.Core.List.Memᴰ.not-nil t.2)
+  all_new (q ∷ qs) s w k t =
+      ⊎_elim
+      (λ (e : t.0 ≡ q).
+      all_to qs (noted (current O q) s) (noted_set (current O q) s w) k (rw t.4 (noted_new (current O q) s (small q) w t.1 (ap (current O) (sym e) ∙ t.3))))
+      (λ m. all_new qs (noted (current O q) s) (noted_set (current O q) s w) k (t.0, t.1, m, t.3, t.4)) (mathlib.Core.List.Memᴰ.cases_cons t.2)
+
+-- ---- the past
+
+writer_in : (E : ℕ → Entry) (P : ℕ → List ℕ) (log : List Made) → Agrees E P log → (k q : ℕ) → Memᴰ q (writer_past log k) → Memᴰ q (P k)
+unfolding writer_past
+writer_in E P [] A k q m = absurd (mathlib.Core.List.Memᴰ.not-nil m)
+writer_in E P (x ∷ l) A k q m =
+    go (eqb (id_of x.entry) k) refl m
+    (λ i. writer_in E P l (record { entry = λ y j. A.entry y (mathlib.Core.List.Memᴰ.tail j); past = λ y j. A.past y (mathlib.Core.List.Memᴰ.tail j) }) k q i)
+  where
+    go : (t : Bool) → eqb (id_of x.entry) k ≡ t → Memᴰ q (cond t x.past (writer_past l k))
+        → (Memᴰ q (writer_past l k) → Memᴰ q (P k)) → Memᴰ q (P k)
+    go true t i ih =
+        let e : id_of x.entry ≡ k = eqb-true (id_of x.entry) k t in
+        let a : P k ≡ x.past = ap P (sym e) ∙ A.past x (mathlib.Core.List.Memᴰ.head refl) in rw a i
+    go false t i ih = ih i
+
+gained_from : (E : ℕ → Entry) (P : ℕ → List ℕ) (log : List Made) → Agrees E P log → (fs : List Found) (past : List ℕ) (q : ℕ)
+    → Memᴰ q (gained log fs past) →
+    Memᴰ q past ⊎ ((x : ℕ) × ((h : Entry) × Memᴰ (Some h) fs × (x ≡ id_of h)) × ((q ≡ x) ⊎ Memᴰ q (P x)))
+unfolding gained
+gained_from E P log A [] past q m = inl m
+gained_from E P log A (None ∷ fs) past q m =
+    ⊎_elim (λ i. inl i)
+    (λ (t : (x : ℕ) × ((h : Entry) × Memᴰ (Some h) fs × (x ≡ id_of h)) × ((q ≡ x) ⊎ Memᴰ q (P x))). inr
+    (t.0, (t.1.0, mathlib.Core.List.Memᴰ.tail t.1.1, t.1.2), t.2))
+    (gained_from E P log A fs past q m)
+gained_from E P log A (Some e ∷ fs) past q m =
+    ⊎_elim
+    (λ (i : Memᴰ q (id_of e ∷ (writer_past log (id_of e) ++ past))).
+    ⊎_elim (λ (y : q ≡ id_of e). inr (id_of e, (e, mathlib.Core.List.Memᴰ.head refl, refl), inl y))
+    (λ j. ⊎_elim (λ z. inr (id_of e, (e, mathlib.Core.List.Memᴰ.head refl, refl), inr (writer_in E P log A (id_of e) q z))) (λ z. inl z) (mathlib.Core.List.Memᴰ.append_cases (writer_past log (id_of e)) j)) (mathlib.Core.List.Memᴰ.cases_cons i))
+    (λ (t : (x : ℕ) × ((h : Entry) × Memᴰ (Some h) fs × (x ≡ id_of h)) × ((q ≡ x) ⊎ Memᴰ q (P x))). inr
+    (t.0, (t.1.0, mathlib.Core.List.Memᴰ.tail t.1.1, t.1.2), t.2))
+    (gained_from E P log A fs (id_of e ∷ (writer_past log (id_of e) ++ past)) q m)
+
+-- .. and to it
+
+writer_is : (E : ℕ → Entry) (P : ℕ → List ℕ) (log : List Made) → Agrees E P log → (k : ℕ) → Memᴰ k (ids log) → writer_past log k ≡ P k
+unfolding writer_past
+writer_is E P [] A k m = absurd (mathlib.Core.List.Memᴰ.not-nil m)
+writer_is E P (x ∷ l) A k m =
+    go (eqb (id_of x.entry) k) refl
+    (λ i. writer_is E P l (record { entry = λ y j. A.entry y (mathlib.Core.List.Memᴰ.tail j); past = λ y j. A.past y (mathlib.Core.List.Memᴰ.tail j) }) k i)
+  where
+    go : (t : Bool) → eqb (id_of x.entry) k ≡ t → (Memᴰ k (ids l) → writer_past l k ≡ P k) → cond t x.past (writer_past l k) ≡ P k
+    go true t ih = sym (A.past x (mathlib.Core.List.Memᴰ.head refl)) ∙ ap P (eqb-true (id_of x.entry) k t)
+    go false t ih =
+        ih (⊎_elim (λ (e : k ≡ id_of x.entry). false_true (sym t ∙ eq-eqb (id_of x.entry) k (sym e))) (λ i. i) (mathlib.Core.List.Memᴰ.cases_cons m))
+
+pub gained_keeps : (log : List Made) (fs : List Found) (past : List ℕ) (q : ℕ) → Memᴰ q past → Memᴰ q (gained log fs past)
+unfolding gained
+gained_keeps log [] past q m = m
+gained_keeps log (None ∷ fs) past q m = gained_keeps log fs past q m
+gained_keeps log (Some e ∷ fs) past q m = gained_keeps log fs _ q (mathlib.Core.List.Memᴰ.tail (mathlib.Core.List.Memᴰ.append_right (writer_past log (id_of e)) m))
+
+gained_new : (log : List Made) (fs : List Found) (past : List ℕ) (h : Entry) → Memᴰ (Some h) fs
+    → Memᴰ (id_of h) (gained log fs past) × ((q : ℕ) → Memᴰ q (writer_past log (id_of h)) → Memᴰ q (gained log fs past))
+unfolding gained
+gained_new log [] past h m = absurd (mathlib.Core.List.Memᴰ.not-nil m)
+gained_new log (None ∷ fs) past h m =
+    gained_new log fs past h (⊎_elim (λ (e : Some h ≡ None). let z : ◌≡◌ {A = ℕ} 0 1 = cc in absurd (omega arith)) (λ i. i) (mathlib.Core.List.Memᴰ.cases_cons m))
+gained_new log (Some e ∷ fs) past h m =
+    ⊎_elim
+    (λ (x : Some h ≡ Some e).
+    let y : h ≡ e = cc in
+    rw y (
+      gained_keeps log fs _ (id_of e) (mathlib.Core.List.Memᴰ.head refl),
+      λ q j. gained_keeps log fs _ q (mathlib.Core.List.Memᴰ.tail (mathlib.Core.List.Memᴰ.append_left past j)),
+    ))
+    (λ i. gained_new log fs _ h i) (mathlib.Core.List.Memᴰ.cases_cons m)
 
 -- "An accepted reading adds": what the session's past had before, it has after, and at the reading
 pub reading_adds : (n : ℕ) (g : Sys) (o i : ℕ) (r : Tracked) (plots : List ℕ) (R : Result Office Frame)
@@ -51,18 +201,17 @@ reading_adds n g o i r plots R =
 pub record Reads (O1 : Office) (s s' : Content) (plots : List ℕ) (fs : List Found) : Type 0 where
   pub handed : (h : Entry) → Memᴰ (Some h) fs → On O1 plots (id_of h) ⊎ Memᴰ h s.own
   pub on_plot : (q : ℕ) (h : Entry) → Memᴰ (q, Some h) (together plots fs) → (current O1 q ≡ Some h) ⊎ (Memᴰ h s.own × (h.plot ≡ q))
-  pub reads_from : (k : ℕ) → has s'.read k ≡ 1 → New O1 s plots k ⊎ (has s.read k ≡ 1)
+  pub reads_from : (k : ℕ) → has s'.read k ≡ 1 → On O1 plots k ⊎ (has s.read k ≡ 1)
   pub reads_to : (k : ℕ) → has s.read k ≡ 1 → has s'.read k ≡ 1
-  pub reads_new : (k : ℕ) → New O1 s plots k → has s'.read k ≡ 1
-  pub own_left : Without (New O1 s plots) (map id_of s.own) (map id_of s'.own)
-  pub own_from : (e : Entry) → Memᴰ e s'.own → Memᴰ e s.own
+  pub reads_new : (k : ℕ) → On O1 plots k → has s'.read k ≡ 1
+  pub own_are : s'.own ≡ s.own
   pub read_set : IdSet s'.read
   pub clock8 : length s'.clock ≡ 8
   pub over_visible : (q : ℕ) (f : Found) → Memᴰ (q, f) (together plots fs) → (e : Entry) → Over (current O1 q) e → Over f e
   pub over_own : (q : ℕ) (f : Found) → Memᴰ (q, f) (together plots fs) → (e : Entry) → Memᴰ e s.own → e.plot ≡ q → Over f e
 
 module _ (n p : ℕ) (two : 2 ≤ n) (eight : n ≤ 8) (E : ℕ → Entry) (P : ℕ → List ℕ) (g : Sys) (w : Whole n p two E P g) (A : Agrees E P g.log)
-    (o : ℕ) (lt : o < n) (i : ℕ) (r : Tracked) (in_r : Memᴰ r g.sessions) where
+    (o : ℕ) (lt : o < n) (i : ℕ) (r : Tracked) (in-r : Memᴰ r g.sessions) where
   abbrev S' : Shape
   S' = shape n two E
 
@@ -70,7 +219,7 @@ module _ (n p : ℕ) (two : 2 ≤ n) (eight : n ≤ 8) (E : ℕ → Entry) (P : 
   s = r.session
 
   F : TrackedFit n two E P (world g) s r.past
-  F = w.sessions r in_r
+  F = w.sessions r in-r
 
   abbrev O : Office
   O = g.stores o
@@ -96,14 +245,6 @@ module _ (n p : ℕ) (two : 2 ≤ n) (eight : n ≤ 8) (E : ℕ → Entry) (P : 
   pub vis_made : (k : ℕ) → has O1.visible k ≡ 1 → Memᴰ k (ids g.log)
   vis_made k h = ⊎_elim (λ a. held_made n p two eight E P g w o k a) (λ a. absurd a) (C.held_from k (vis_held k h))
 
-  -- of what the session carries, what is visible is shown with equal content
-  pub shows_own_lem : (e : Entry) → Memᴰ e s.own → shows_own O1 e ≡ is_in O1.visible (id_of e)
-  unfolding shows_own
-  shows_own_lem e m = same_test _ _ (λ t. (both_true _ _ t).0) (λ t. both_intro _ _ t (same (in_is O1.visible (id_of e) t)))
-    where
-      same : has O1.visible (id_of e) ≡ 1 → same_content e (O1.entry (id_of e)) ≡ true
-      same h = ap (same_content e) (vis_is (id_of e) h ∙ sym (F.fit.own_is e m)) ∙ same_refl e
-
   pub cur : (q : ℕ) (h : Entry) → current O1 q ≡ Some h → (has O1.visible (id_of h) ≡ 1) × (id_of h < 32 * n)
   cur q h e =
       let t = current_from O1 q h e in
@@ -113,9 +254,6 @@ module _ (n p : ℕ) (two : 2 ≤ n) (eight : n ≤ 8) (E : ℕ → Entry) (P : 
 
   pub cur_small : (q : ℕ) (h : Entry) → current O1 q ≡ Some h → id_of h < 256
   cur_small q h e = omega (arith, (cur q h e).1)
-
-  pub own_small : (e : Entry) → Memᴰ e s.own → id_of e < 256
-  own_small e m = omega (arith, made_range n p two eight E P g w (id_of e) (F.sound.own_made (id_of e) (mathlib.Core.List.Memᴰ.map id_of m)))
 
   module _ (plots : List ℕ) (fs : List Found) (s' : Content) (row : List ℕ) (K : Reads O1 s s' plots fs) where
     abbrev Rs : Result Office Frame
@@ -164,29 +302,25 @@ module _ (n p : ℕ) (two : 2 ≤ n) (eight : n ≤ 8) (E : ℕ → Entry) (P : 
     abbrev Hs : ℕ → Type 0
     Hs x = (h : Entry) × Memᴰ (Some h) fs × (x ≡ id_of h)
 
-    is_takes : TakesIn S' (wpast P) (world g') (seen s r.past) (seen s' past') o (New O1 s plots) Hs
+    is_takes : TakesIn S' (wpast P) (world g') (seen s r.past) (seen s' past') o (On O1 plots) Hs
     is_takes =
         record {
-          visible = shown;
-          handed = λ x t. rw t.2 (⊎_elim (λ a. inl (inl a)) (λ a. inr (mathlib.Core.List.Memᴰ.map id_of a)) (K.handed t.0 t.1));
+          visible = λ x t. rw t.4 (here (id_of t.1) (cur t.0 t.1 t.3).0);
+          handed = λ x t. rw t.2 (⊎_elim (λ a. inl a) (λ a. inr (mathlib.Core.List.Memᴰ.map id_of a)) (K.handed t.0 t.1));
           reads_from = K.reads_from;
           reads_to = K.reads_to;
           reads_new = K.reads_new;
-          own_left = K.own_left;
+          own_are = ap (map id_of) K.own_are;
           past_are = λ q m. gained_from E P g.log A fs r.past q m;
         }
-      where
-        shown : (x : ℕ) → New O1 s plots x → has (g'.stores o).visible x ≡ 1
-        shown x (inl t) = rw t.4 (here (id_of t.1) (cur t.0 t.1 t.3).0)
-        shown x (inr t) = rw t.3 (here (id_of t.0) (shows_visible O1 t.0 t.2))
 
     S2 : SoundSession S' (wpast P) (world g') (seen s' past')
-    S2 = take_sound S' (wpast P) (world g') I' w.law (seen s r.past) (seen s' past') J o (New O1 s plots) Hs is_takes
+    S2 = take_sound S' (wpast P) (world g') I' w.law (seen s r.past) (seen s' past') J o (On O1 plots) Hs is_takes
 
     -- what s has read is visible at o
     all_visible : (k : ℕ) → has s'.read k ≡ 1 → has (g'.stores o).visible k ≡ 1
     all_visible =
-        take_visible S' (wpast P) (world g') I' w.law (seen s r.past) (seen s' past') J o (New O1 s plots) Hs is_takes
+        take_visible S' (wpast P) (world g') I' w.law (seen s r.past) (seen s' past') J o (On O1 plots) Hs is_takes
         (λ k m. here k (C.visible_new k (k, m, self)))
 
     -- what is visible is not above what is handed back on its plot
@@ -203,8 +337,9 @@ module _ (n p : ℕ) (two : 2 ≤ n) (eight : n ≤ 8) (E : ℕ → Entry) (P : 
       where
         own : Memᴰ k (map id_of s'.own) → Over f (E k)
         own i =
-            let t = mathlib.Core.List.Memᴰ.of_map id_of s'.own i in
-            let mo : Memᴰ t.0 s.own = K.own_from t.0 t.1 in
+            let j : Memᴰ k (map id_of s.own) = rw K.own_are at i in
+            let t = mathlib.Core.List.Memᴰ.of_map id_of s.own j in
+            let mo : Memᴰ t.0 s.own = t.1 in
             let is : t.0 ≡ E k = F.fit.own_is t.0 mo ∙ ap E t.2 in
             rw is at (K.over_own q f m t.0 mo (ap (λ (x : Entry). x.plot) is ∙ e))
 
@@ -262,17 +397,12 @@ module _ (n p : ℕ) (two : 2 ≤ n) (eight : n ≤ 8) (E : ℕ → Entry) (P : 
         mine =
             record {
               sound = S2;
-              fit = record { clock8 = K.clock8; read_set = K.read_set; own_is = λ e m. F.fit.own_is e (K.own_from e m) };
+              fit = record { clock8 = K.clock8; read_set = K.read_set; own_is = λ e m. F.fit.own_is e (rw K.own_are at m) };
             }
 
   -- ---- a reading of plots, one or several
 
-  -- what is left is carried in order, and all else has become a read name
-  pub all_left : (plots : List ℕ) → Without (New O1 s plots) (map id_of s.own) (map id_of (noted_all O1 plots (released O1 s)).own)
-  all_left plots =
-      rw (read_own O1 plots s) (left_without (shows_own O1) (New O1 s plots) s.own (λ e m q. inr (e, m, q, refl)))
-
-  pub all_reads : (plots : List ℕ) → Reads O1 s (noted_all O1 plots (released O1 s)) plots (map (handed O1 s) plots)
+  pub all_reads : (plots : List ℕ) → Reads O1 s (noted_all O1 plots s) plots (map (handed O1 s) plots)
   unfolding handed
   all_reads plots =
       record {
@@ -280,20 +410,19 @@ module _ (n p : ℕ) (two : 2 ≤ n) (eight : n ≤ 8) (E : ℕ → Entry) (P : 
             ⊎_elim (λ (c : current O1 t.0 ≡ Some h). inl (t.0, h, t.1, c, refl)) (λ c. inr c.0)
             (own_from t.0 s.own (current O1 t.0) h t.2);
         on_plot = λ q h m. own_from q s.own (current O1 q) h (sym (together_from (handed O1 s) plots q (Some h) m).1);
-        reads_from = read_from O1 s F.fit.read_set own_small cur_small plots;
-        reads_to = read_to O1 s F.fit.read_set own_small cur_small plots;
-        reads_new = read_new O1 s F.fit.read_set own_small cur_small plots;
-        own_left = all_left plots;
-        own_from = λ e m. (left_from (shows_own O1) s.own e (rw (read_own O1 plots s) at m)).0;
-        read_set = read_set O1 s F.fit.read_set plots;
-        clock8 = read_clock O1 plots s F.fit.clock8;
+        reads_from = all_from O1 cur_small plots s F.fit.read_set;
+        reads_to = all_to O1 cur_small plots s F.fit.read_set;
+        reads_new = all_new O1 cur_small plots s F.fit.read_set;
+        own_are = all_own O1 cur_small plots s;
+        read_set = all_sets O1 cur_small plots s F.fit.read_set;
+        clock8 = all_clock O1 cur_small plots s F.fit.clock8;
         over_visible = λ q f m e v. rw (together_from (handed O1 s) plots q f m).1 (own_keeps q s.own (current O1 q) e v);
         over_own = λ q f m e c v. rw (together_from (handed O1 s) plots q f m).1 (own_over q s.own (current O1 q) e c v);
       }
 
   refused : (c : ℕ) (row : List ℕ) → Fine c
       → Whole n p two E P (refused_by over_contents n g o i r (refusal {A = Office} {B = Frame} c O s row))
-  refused c row f = refused_whole n p two eight E P g w o c row i r in_r f
+  refused c row f = refused_whole n p two eight E P g w o c row i r in-r f
 
   read_code_lem : (plot : ℕ) → read_code O s plot ≡ check (session_ok O.offices O.plots s) 3 (check (ltb plot O.plots) 4 0)
   unfolding read_code check
@@ -305,7 +434,7 @@ module _ (n p : ℕ) (two : 2 ≤ n) (eight : n ≤ 8) (E : ℕ → Entry) (P : 
     where
       go : (t u : Bool) → Whole n p two E P (read_by over_contents n g o i r (plot ∷ []) (given (check t 3 (check u 4 0)) O s [] (read_all O s (plot ∷ []) []))
           (given (check t 3 (check u 4 0)) O s [] (read_all O s (plot ∷ []) [])).code)
-      go true true = read_whole (plot ∷ []) (handed_all O s (plot ∷ [])) (noted_all O1 (plot ∷ []) (released O1 s)) [] (all_reads (plot ∷ []))
+      go true true = read_whole (plot ∷ []) (handed_all O s (plot ∷ [])) (noted_all O1 (plot ∷ []) s) [] (all_reads (plot ∷ []))
       go true false = refused 4 [] (λ e. omega arith, λ e. omega arith, λ e. omega arith)
       go false u = refused 3 [] (λ e. omega arith, λ e. omega arith, λ e. omega arith)
 
@@ -326,7 +455,7 @@ module _ (n p : ℕ) (two : 2 ≤ n) (eight : n ≤ 8) (E : ℕ → Entry) (P : 
       where
         go : (t u v : Bool)
             → Whole n p two E P (read_by over_contents n g o i r plots (given (check t 3 (check u 4 (check v 8 0))) O s row RJ) (given (check t 3 (check u 4 (check v 8 0))) O s row RJ).code)
-        go true true true = read_whole plots (handed_all O s plots) (noted_all O1 plots (released O1 s)) RJ.row (all_reads plots)
+        go true true true = read_whole plots (handed_all O s plots) (noted_all O1 plots s) RJ.row (all_reads plots)
         go true true false = refused 8 row (λ e. omega arith, λ e. omega arith, λ e. omega arith)
         go true false v = refused 4 row (λ e. omega arith, λ e. omega arith, λ e. omega arith)
         go false u v = refused 3 row (λ e. omega arith, λ e. omega arith, λ e. omega arith)

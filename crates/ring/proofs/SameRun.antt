@@ -287,7 +287,7 @@ module _ (n p : ℕ) (two : 2 ≤ n) (eight : n ≤ 8) (one : 1 ≤ p) (p64 : p 
         ap (λ (b : Bool). worded b (g.stores o) s row (write_on (office_of (g.stores o)) s plot value row)) (sound o lt)
         ∙ ap (λ (O : Office). worded true (g.stores o) s row (write_on O s plot value row)) (S.stores o lt)
 
-    pub read_is : (o : ℕ) → o < n → (s : Content) (plot : ℕ)
+    read_is : (o : ℕ) → o < n → (s : Content) (plot : ℕ)
         → read_plot (g.stores o) s plot ≡ worded true (g.stores o) s [] (read_on (c.stores o) s plot)
     unfolding read_plot
     read_is o lt s plot =

@@ -8,7 +8,6 @@ use mathlib.Core.Path.{◌∙◌, ◌≡◌, ap, refl}
 use native.Mathlib.Omega.{arith}
 use lib.Dec.{eqb}
 use lib.ListN.{length, length-append, length-replicate, length-set, replicate, set}
-use lib.Seq.{length-sets}
 use Rattle.frame.specs.Entries.{blank_entry}
 use Rattle.frame.specs.Refusals.{Reply}
 use Rattle.frame.specs.Sessions.{Content, content_of, filled, fresh_content, session_of}
@@ -17,7 +16,7 @@ use Rattle.frame.specs.Tokens.{content_from}
 use Rattle.frame.specs.declared.session.Session.{Session}
 use Rattle.joining.specs.Joins.{join_code, join_sessions, joined, joined_if}
 use Rattle.store.specs.Offices.{Found, None, Office, Some, current, office_of, reveal}
-use Rattle.office.specs.Answers.{extended_by, fresh_by, noted_all_in, noted_in, read_joint_session, read_plot_session, released_in, session_if, write_session}
+use Rattle.office.specs.Answers.{extended_by, fresh_by, noted_all_in, noted_in, read_joint_session, read_plot_session, session_if, write_session}
 use Rattle.office.specs.Calls.{fresh_code, new_entry, read_joint, read_plot, write}
 use Rattle.ring.specs.Answers.{Carried, Ring, Said, joint_said, own_of, read_said, received_said, token_written, wrote_said}
 use Rattle.ring.specs.Claim.{Step, absent, begins_fresh, copies_session, copies_token, joins, reads, reads_jointly, reads_token, receives, receives_words, writes, writes_token}
@@ -45,23 +44,17 @@ unfolding noted_all_in
 sized_all O [] s = refl
 sized_all O (q ∷ qs) s = sized_all O qs (noted_in (current O q) s) ∙ sized_noted (current O q) s
 
-sized_released : (O : Office) (s : Session) → length (released_in O s).own ≡ length s.own
-unfolding released_in
-sized_released O s = simp length-sets
-
 sized_read : (ws : List ℕ) (s : Session) (plot : ℕ) → length s.own ≡ 16 → length (read_plot_session ws s plot).own ≡ 16
 unfolding read_plot_session
 sized_read ws s plot h =
-    let O = reveal (office_of ws) s.read in
-    sized_if (read_plot ws (content_of s) plot).code s (noted_in (current O plot) (released_in O s)) h
-    (sized_noted (current O plot) (released_in O s) ∙ sized_released O s ∙ h)
+    sized_if (read_plot ws (content_of s) plot).code s (noted_in (current (reveal (office_of ws) s.read) plot) s) h
+    (sized_noted (current (reveal (office_of ws) s.read) plot) s ∙ h)
 
 sized_joint : (ws : List ℕ) (s : Session) (plots row : List ℕ) → length s.own ≡ 16 → length (read_joint_session ws s plots row).own_val ≡ 16
 unfolding read_joint_session
 sized_joint ws s plots row h =
-    let O = reveal (office_of ws) s.read in
-    sized_if (read_joint ws (content_of s) plots row).code s (noted_all_in O plots (released_in O s)) h
-    (sized_all O plots (released_in O s) ∙ sized_released O s ∙ h)
+    sized_if (read_joint ws (content_of s) plots row).code s (noted_all_in (reveal (office_of ws) s.read) plots s) h
+    (sized_all (reveal (office_of ws) s.read) plots s ∙ h)
 
 sized_write : (ws : List ℕ) (s : Session) (plot value : ℕ) (row : List ℕ) → length s.own ≡ 16 → length (write_session ws s plot value row).own_val ≡ 16
 unfolding write_session extended_by

@@ -12,7 +12,7 @@ use borrow.Author.Tests.{ltb-true}
 use Rattle.causal.specs.Clocks.{Covers, join}
 use Rattle.causal.specs.Codes.{check, or_else}
 use Rattle.causal.specs.Sets.{IdSet, has, is_in}
-use Rattle.causal.proofs.Clocks.{join_at_lem}
+use Rattle.causal.proofs.Clocks.{join_at}
 use Rattle.causal.proofs.Sets.{in_is, in_or_out, is_in_lem, out_is}
 use Rattle.causal.proofs.Tests.{eq_or_ne}
 use Rattle.frame.specs.Calls.{laid}
@@ -93,7 +93,7 @@ framed_in : (n t : ℕ) (es : List Entry) (f : Frame) → Memᴰ f (map (framed 
 framed_in n t es f m = let r = Memᴰ.of_map (framed n t) es m in (ap (λ (x : Frame). x.offices) (sym r.2), rw (← r.2) r.1)
 
 module _ (n p : ℕ) (two : 2 ≤ n) (eight : n ≤ 8) (E : ℕ → Entry) (P : ℕ → List ℕ) (g : Sys) (w : Whole n p two E P g)
-    (o : ℕ) (lt : o < n) (i : ℕ) (r : Tracked) (in_r : Memᴰ r g.sessions) (plot value : ℕ) (row : List ℕ) where
+    (o : ℕ) (lt : o < n) (i : ℕ) (r : Tracked) (in-r : Memᴰ r g.sessions) (plot value : ℕ) (row : List ℕ) where
   abbrev S' : Shape
   S' = shape n two E
 
@@ -101,7 +101,7 @@ module _ (n p : ℕ) (two : 2 ≤ n) (eight : n ≤ 8) (E : ℕ → Entry) (P : 
   s = r.session
 
   F : TrackedFit n two E P (world g) s r.past
-  F = w.sessions r in_r
+  F = w.sessions r in-r
 
   abbrev pub O : Office
   O = g.stores o
@@ -456,7 +456,7 @@ module _ (n p : ℕ) (two : 2 ≤ n) (eight : n ≤ 8) (E : ℕ → Entry) (P : 
       O' = hold_all O (sent_of O s plot value)
 
       KS : ClockFit n E g.stores s
-      KS = K.sessions r in_r
+      KS = K.sessions r in-r
 
       k_held : has (hold_all O (sent_of O s plot value)).held (32 * (hold_all O (sent_of O s plot value)).own + made O) ≡ 1
       k_held =
@@ -574,8 +574,8 @@ module _ (n p : ℕ) (two : 2 ≤ n) (eight : n ≤ 8) (E : ℕ → Entry) (P : 
       unfolding wrote_session
       mine_clock =
           record {
-            over = λ x m j l. over x m j l (join_at_lem s.clock e.clock j l);
-            bound = λ j l. omega (arith, join_at_lem s.clock e.clock j (omega arith), KS.bound j l, mono j, e_bound j l);
+            over = λ x m j l. over x m j l (join_at s.clock e.clock j l);
+            bound = λ j l. omega (arith, join_at s.clock e.clock j (omega arith), KS.bound j l, mono j, e_bound j l);
           }
         where
           over : (x : ℕ) → (has s.read x ≡ 1) ⊎ Memᴰ x (map id_of (s.own ++ (e ∷ []))) → (j : ℕ) → j < 8
@@ -655,7 +655,7 @@ module _ (n p : ℕ) (two : 2 ≤ n) (eight : n ≤ 8) (E : ℕ → Entry) (P : 
   unfolding write_on
   write_whole =
       by_code (λ c. Agrees E P (after c).log → Whole n p two E P (after c))
-      (λ c f A. refused_whole n p two eight E P g w o (suc c) row i r in_r f)
+      (λ c f A. refused_whole n p two eight E P g w o (suc c) row i r in-r f)
       (λ t A. rw wrote_is (wrote_whole (rw log_is at A) t.0 t.1 t.2 t.3))
 
   pub write_distinct : Distinct g.log
@@ -677,7 +677,7 @@ module _ (n p : ℕ) (two : 2 ≤ n) (eight : n ≤ 8) (E : ℕ → Entry) (P : 
       kept c =
           rw (upd_self g.stores o)
           (later n p two eight E P g w K g.stores (λ j. omega arith) (set g.sessions i (record { session = s; past = r.past }))
-          (λ x m. ⊎_elim (λ (q : x ≡ record { session = s; past = r.past }). rw q (K.sessions r in_r)) (λ j. K.sessions x j)
+          (λ x m. ⊎_elim (λ (q : x ≡ record { session = s; past = r.past }). rw q (K.sessions r in-r)) (λ j. K.sessions x j)
           (mem_set g.sessions i (record { session = s; past = r.past }) x m)) _ _)
 
   -- the entry of a write that is not refused, the last of the session's own, is later than all that its office shows

@@ -11,8 +11,7 @@
 --                               Beside it `settings`, of the call that paper 01 does not have: specs/Settings.antt; `joint_together`, what the
 --                               replies of a joint reading show together: specs/Joint.antt; `later_counts`, an entry and its writer's past:
 --                               specs/Later.antt; `join_laws`, what a join of two sessions keeps: joining/specs/Laws.antt; `carrying_order`,
---                               `either_way`, `goes_on`, `keeps_on`, `joined_back`, what later calls make of it: specs/Carrying.antt;
---                               `lasting`, what a session carries after readings that release, and refusal 7: specs/Lasting.antt
+--                               `either_way`, `goes_on`, `keeps_on`, what later calls make of it: specs/Carrying.antt
 -- Assumes nothing.
 use base.Logic.{SProp}
 use contract.Monad.{Fun}
@@ -29,11 +28,10 @@ use Rattle.writing.proofs.Contract.{WritingContracts}
 use Rattle.hearing.proofs.Contract.{HearingContracts}
 use Rattle.lent.proofs.Contract.{LentContracts}
 use Rattle.host.proofs.Contract.{HostContracts}
-use Rattle.ring.specs.Carrying.{CarryingOrder, EitherWay, GoesOn, JoinedBack, KeepsOn}
+use Rattle.ring.specs.Carrying.{CarryingOrder, EitherWay, GoesOn, KeepsOn}
 use Rattle.ring.specs.Claim.{Answered, Claim}
 use Rattle.ring.specs.Holds.{Demand3, Opens}
 use Rattle.ring.specs.Joint.{JointTogether}
-use Rattle.ring.specs.Lasting.{Lasting}
 use Rattle.ring.specs.Later.{LaterCounts}
 use Rattle.ring.specs.Settings.{SettingsStay}
 
@@ -62,5 +60,3 @@ pub record ThirdDemand : Type 2 where
   pub either_way : EitherWay
   pub goes_on : GoesOn
   pub keeps_on : KeepsOn
-  pub joined_back : JoinedBack
-  pub lasting : Lasting

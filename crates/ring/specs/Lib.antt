@@ -7,4 +7,3 @@ pub mod Settings
 pub mod Joint
 pub mod Later
 pub mod Demand
-pub mod Lasting

@@ -7,9 +7,9 @@ ghost use Rattle.player.specs.Shows.{Shows};
 ghost use Rattle.ring_program.specs.Fed.{Finishes, Follows, Leads, Staged, desk_of, fed};
 
 use frame::session::Session;
+use office::note::with_seen;
 use player::board::Board;
 use player::play::{play_other, read_line, write_line};
-use reading::release::with_rest;
 use script::line::Line;
 use script::pending::{Pending, is_empty, nothing, parse, take};
 use script::reply::put_reply;
@@ -109,10 +109,9 @@ pub fn feed_some(
                 let s = sessions[who];
                 let turn = read_line(board, who, s, plot, &mut *stores);
                 let seen = turn.seen;
-                let rest = turn.rest;
                 let mine = sessions[who];
-                let left = with_rest(mine, seen, rest);
-                sessions[who] = left;
+                let noted = with_seen(mine, seen);
+                sessions[who] = noted;
                 let reply = turn.reply;
                 at = put_reply(reply, &mut *text, at);
             }

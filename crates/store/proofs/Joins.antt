@@ -7,7 +7,7 @@ use Rattle.causal.specs.Clocks.{join}
 use Rattle.causal.proofs.Tests.{eq_or_ne}
 use Rattle.causal.proofs.Lists.{part_at, tab_length, tab_at}
 use Rattle.causal.proofs.Sets.{in_is, zero_at}
-use Rattle.causal.proofs.Clocks.{join_at_lem}
+use Rattle.causal.proofs.Clocks.{join_at}
 use Rattle.causal.proofs.Walk.{Passed, Next, fold_next, fold_end, has_word, sum_ext, ones_bits}
 use Rattle.frame.specs.declared.entry.Entry.{Entry}
 use Rattle.store.specs.Offices.{entry_at, office_of, made, max_to, visible_at, clock_place, clock_of}
@@ -88,7 +88,7 @@ module _ (ws : List ℕ) (same : (k : ℕ) → has (part ws 11 8) k ≡ 1 → (o
   unfolding office_of
   top_step j l k true e ih =
       let q : get_or ((office_of ws).entry k).clock j 0 ≡ get_or (entry_at ws k).clock j 0 = ap (λ (x : Entry). get_or x.clock j 0) (same k (in_is (part ws 11 8) k e)) in
-      join_at_lem (tops_to ws (part ws 11 8) k) (entry_at ws k).clock j l ∙ rw e (omega arith)
+      join_at (tops_to ws (part ws 11 8) k) (entry_at ws k).clock j l ∙ rw e (omega arith)
   top_step j l k false e ih = rw e (omega arith)
 
   tops_at : (j : ℕ) → j < 8 → (k : ℕ) → get_or (tops_to ws (part ws 11 8) k) j 0 ≡ max_to (visible_at (office_of ws) j) k

@@ -46,7 +46,7 @@ fn the_version_is_that_of_the_header_and_of_the_archive() {
     assert_eq!(defined(&header(), "BURIAL_VERSION"), VERSION.0);
     assert_eq!(archive_version(), VERSION);
     assert_eq!(check_version(), Ok(()));
-    assert_eq!(VERSION.to_string(), "1.3.0");
+    assert_eq!(VERSION.to_string(), "1.2.0");
 }
 
 #[test]

@@ -61,28 +61,13 @@ impl Office {
     }
 
     /// Reads one plot: the higher-ranked of the shown entry and the session's own. What the session
-    /// has read is shown here from now on. Of its own entries it carries those no more that are
-    /// shown here, and has read them.
-    ///
-    /// ```
-    /// # use burial_register::{Office, Refusal, Ring, Session};
-    /// # let ring = Ring { offices: 2, plots: 64 };
-    /// # let (mut first, mut last) = (Office::open(ring, 0)?, Office::open(ring, 1)?);
-    /// let mut session = Session::fresh(ring)?;
-    /// for frame in first.write(&mut session, 5, 709)? {
-    ///     last.hear(&frame)?;
-    /// }
-    /// assert_eq!(last.read(&mut session, 5)?.unwrap().to_string(), "709 by 0.1");
-    /// assert_eq!(session.carried(), 0);
-    /// # Ok::<(), Refusal>(())
-    /// ```
+    /// has read is shown here from now on.
     pub fn read(&mut self, session: &mut Session, plot: u32) -> Result<Option<Entry>, Refusal> {
         let found = ffi::read_plot(&mut self.store, &mut session.inner, plot)?;
         Ok(found.map(Entry::from))
     }
 
-    /// Reads up to 16 plots at one moment, each as [`read`](Office::read) does. With no plots it
-    /// only shows what the session has read, and releases.
+    /// Reads up to 16 plots at one moment, each as [`read`](Office::read) does.
     ///
     /// ```
     /// # use burial_register::{Office, Refusal, Ring, Session};

@@ -178,22 +178,3 @@ fn a_session_that_is_full_is_refused() {
     assert_eq!(office.write(&mut session, 5, 1), Err(Refusal::SessionFull));
     assert!(office.write(&mut Session::fresh(RING).unwrap(), 5, 1).is_ok());
 }
-
-/// Entries of office 0 come round to office 2, which shows them.
-#[test]
-fn a_session_that_reads_where_its_entries_are_shown_writes_on() {
-    let ((mut first, mut session), mut middle, mut last) = (opened(0), opened(1).0, opened(2).0);
-    for plot in 0..CARRIED as u32 {
-        let frame = first.write(&mut session, plot, 7).unwrap().remove(0);
-        last.hear(&middle.hear(&frame).unwrap().unwrap()).unwrap();
-    }
-    assert_eq!(first.read(&mut session, 3), Ok(Some(entry(0, 4, 3, 7))));
-    assert_eq!(session.carried(), CARRIED);
-    assert_eq!(last.write(&mut session, 20, 8), Err(Refusal::SessionFull));
-    assert_eq!(last.read_joint(&mut session, &[]), Ok(vec![]));
-    assert_eq!(session.carried(), 0);
-    let told: Vec<Entry> =
-        last.write(&mut session, 20, 8).unwrap().iter().map(Frame::entry).collect();
-    assert_eq!(told, [entry(2, 1, 20, 8)]);
-    assert_eq!(middle.read(&mut session, 3), Ok(Some(entry(0, 4, 3, 7))));
-}

@@ -17,8 +17,8 @@ pub enum Refusal {
     BadValue,
     /// 6: the office has made its 32 entries.
     OfficeFull,
-    /// 7: the session carries 16 entries, or two that are joined would carry more. A reading where
-    /// some are shown takes these off it; a new one carries none.
+    /// 7: the session carries 16 entries, or two that are joined would carry more; a new one carries
+    /// none.
     SessionFull,
     /// 8: a row is too short. The rows of this wrapper never are.
     NoRoom,

@@ -59,8 +59,7 @@ impl Session {
         Ok(Token::from_words(row))
     }
 
-    /// How many entries of its own it carries. With 16 it writes no more until it has read at an
-    /// office that shows some of them: those it carries no more. Or a fresh one writes.
+    /// How many entries of its own it carries. With 16 it can write no more; a fresh one can.
     pub fn carried(&self) -> usize {
         self.inner.count
     }

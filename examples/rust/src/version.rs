@@ -14,7 +14,7 @@ impl fmt::Display for Version {
 }
 
 /// The version of the header that this wrapper follows.
-pub const VERSION: Version = Version(0x01_03_00);
+pub const VERSION: Version = Version(0x01_02_00);
 
 /// The version that the archive was built as.
 pub fn archive_version() -> Version {

@@ -1,35 +1,34 @@
--- `host::lent.burial_lent_read_joint` meets its contract: a walk of its MIR with three ways out, over the covered `joint_alone`, `joint_by_value` and `moved_session`. Assumes nothing.
-use mathlib.Core.Path.{◌≡◌, refl, ap, sym, subst, ◌∙◌}
-use Prim.Native.Nat.{ℕ, ◌≤◌}
-use mathlib.Core.Bool.{Bool, true, false}
-use mathlib.Core.List.{[], ◌∷◌, List, map-id}
+-- `host::lent.burial_lent_read_joint` meets its contract: a walk of its MIR with a branch, over the covered `joint_alone` and `joint_by_value`. Assumes nothing.
+use mathlib.Core.Path.{◌≡◌, refl, ap, subst, ◌∙◌}
+use Prim.Native.Nat.{ℕ}
+use mathlib.Core.List.{[], ◌∷◌, List}
 use lib.Dec.{eqb}
-use lib.Ieee.Bits.{is_true, is_false}
+use lib.Ieee.Bits.{is_true}
 use lib.ListN.{length}
 use borrow.Author.Tests.{eqb-true}
 use seplogic.Ra.Ura.{Ura}
 use seplogic.Ra.TreeShare.{full_share}
-use mir.Syntax.{named, w32, w64}
+use mir.Syntax.{named, w32}
 use mir.Val.{Val, vint, vptr}
 use base.Logic.{SProp, ent, emp, via, fst∗, id⊢}
 use base.Fml.{Lft, Share, GName, ftrue, fat, flft, fobs, fbor}
 use prog.Memory.{Memory}
 use prog.Routine.{Routine}
-use prog.Wp.{Env, Calls, Loops, WpFn, Tables}
+use prog.Wp.{Calls, Loops, WpFn, Tables}
 use types.Logic.{Logic}
 use contract.Monad.{Fun, fact}
 use contract.Running.{tables, tables_of}
 use types.Kit.{‵, raw, some, later, ◌⊛◌, ⋆, ◌$◌, ◌∵◌, !, qed, by, move, keep, drop, use1, split, join, pick, rewrite, fsplit, fsplit3, fjoin, fjoin3, feq_l, feq_i, at_ret, suffices, frame, await, done}
-use types.Run.{look, store, look_raw, store_raw, init, forget, stop, hop, fld, from, load, lit, bin, addr, of_opd, and_then, no_more, assigns, land, first, skips, branches, exec, returns_within, returns, enter, alloc1, alloc0, params1, pass1, pass0, free1, free0}
+use types.Run.{look, look_raw, init, forget, stop, hop, fld, from, load, lit, bin, addr, of_opd, and_then, no_more, assigns, first, branches, exec, land_last, returns, enter, alloc1, alloc0, params1, pass1, pass0, free1, free0}
 use types.Part.{agg, whole, sub, look_in, store_in}
 use types.SemTy.{Body}
 use sound.WpLaws.{FmC, fm_of, WpFn-mono}
 use denote.RattleType.{owns}
 use denote.Memory.{mem}
 use denote.Laws.{Is, shows}
-use denote.Plain.{uint_Makes, uint_Lawful, bool_Makes}
+use denote.Plain.{uint_Makes, uint_Lawful}
 use denote.Array.{Array, Array-Makes}
-use denote.Builtin.{u32, usize, bool}
+use denote.Builtin.{u32}
 use denote.Ref.{Bor, MutBor, MutRef, mut_vals, mut_Tells}
 use denote.Slice.{slice_val, MutSlice, ShrSlice, Room, finally, shr_slice_vals, mut_slice_vals, mut_slice_Tells, shr_slice_Tells, shr_slice_copy}
 use denote.Steps.{only, opens, closes, owned, peeks, heard, nothing}
@@ -38,7 +37,7 @@ use denote.Struct.Laws as LL
 use denote.Triple.Entry.{on_entry}
 use denote.Triple.Spec.{Meets, triple_of}
 use denote.Triple.Statement.{Contract, Triple}
-use denote.Triple.Call.{calls_at}
+use denote.Triple.Call.{calls_at_last}
 use denote.Triple.Clauses.{ensured, lasts}
 use denote.Triple.Table.{entered, cited}
 use denote.Triple.Walked.{says, Stays, stay_ref, stay_none_slice, gave_slice, walk_of, AllGo, Goes-ref, Goes-none_slice, Goes-gave_slice, Walks, ends_at, walked, walk_Meets}
@@ -46,7 +45,6 @@ use denote.Exit.{yes}
 use denote.Signature.{plain}
 use Rattle.office.specs.Decide.{alone, with_seen}
 use Rattle.office.specs.Promises.{JointPromise}
-use Rattle.reading.specs.Releases.{row_left, with_rest}
 use Rattle.frame.specs.declared.entry.Entry.{Entry}
 use Rattle.office.proofs.Alone.{is_alone}
 use Rattle.host.proofs.Fields.{Held, clock_is, clock_val, read_is, read_val}
@@ -56,9 +54,6 @@ use Rattle.frame.proofs.session.Session.TheLaws as T-Session'
 use Rattle.host.specs.declared.lent.JointDone.{JointDone}
 use Rattle.host.specs.contracts.lent.JointDone as T-JointDone
 use Rattle.host.proofs.lent.JointDone.TheLaws as T-JointDone'
-use Rattle.host.specs.declared.lent.JointLeft.{JointLeft}
-use Rattle.host.specs.contracts.lent.JointLeft as T-JointLeft
-use Rattle.host.proofs.lent.JointLeft.TheLaws as T-JointLeft'
 use Rattle.host.specs.contracts.lent.joint_alone as alone
 use Rattle.host.proofs.lent.joint_alone.Symbol as alone-def
 use Rattle.host.proofs.lent.joint_alone.Symbol.{name as #host·joint-alone}
@@ -67,10 +62,6 @@ use Rattle.host.specs.contracts.lent.joint_by_value as carrying
 use Rattle.host.proofs.lent.joint_by_value.Symbol as carrying-def
 use Rattle.host.proofs.lent.joint_by_value.Symbol.{name as #host·joint-by-value}
 use Rattle.host.proofs.lent.joint_by_value.Met as carrying-thm
-use Rattle.host.specs.contracts.lent.moved_session as moved
-use Rattle.host.proofs.lent.moved_session.Symbol as moved-def
-use Rattle.host.proofs.lent.moved_session.Symbol.{name as #host·moved-session}
-use Rattle.host.proofs.lent.moved_session.Met as moved-thm
 use Rattle.host.specs.contracts.lent.burial_lent_read_joint.Key.{name as #host·burial-lent-read-joint}
 use Rattle.host.specs.contracts.lent.burial_lent_read_joint as f
 use Rattle.host.proofs.lent.burial_lent_read_joint.Statement as stated
@@ -87,90 +78,32 @@ Alone 𝓛 at_mem run = triple_of 𝓛 alone.signature (alone.spec 𝓛 at_mem r
 abbrev Carrying : {M : Type 1} {𝓤 : Ura M} (𝓛 : Logic 𝓤) (at_mem : Memory → SProp 𝓤) (run : Routine → Fun 𝓤) → Contract 𝓤
 Carrying 𝓛 at_mem run = triple_of 𝓛 carrying.signature (carrying.spec 𝓛 at_mem run)
 
-abbrev Moved : {M : Type 1} {𝓤 : Ura M} (𝓛 : Logic 𝓤) (at_mem : Memory → SProp 𝓤) (run : Routine → Fun 𝓤) → Contract 𝓤
-Moved 𝓛 at_mem run = triple_of 𝓛 moved.signature (moved.spec 𝓛 at_mem run)
-
--- what the call promises, and what the contracts say of the results and of the last lists
-abbrev Said : List ℕ → Session → List ℕ → List ℕ → ℕ → Session → List ℕ → List ℕ → Type 0
-Said x-store x-s x-plots x-answer n t z-store z-answer = JointPromise x-store x-s x-plots x-answer n t z-store z-answer
-
-abbrev CarryingSays : List ℕ → Session → List ℕ → List ℕ → JointLeft → List ℕ → List ℕ → Type 0
-CarryingSays x-store x-s x-plots x-answer r z-store z-answer = (r.moved ≡ true → x-s.count ≤ 16) × JointPromise x-store x-s x-plots x-answer r.refusal (with_rest x-s (record { clock = r.clock; read = r.read }) (record { gone = r.gone; left = r.count; moved = r.moved })) z-store z-answer
+-- what they say of the result and of the last lists
+abbrev CarryingSays : List ℕ → Session → List ℕ → List ℕ → JointDone → List ℕ → List ℕ → Type 0
+CarryingSays x-store x-s x-plots x-answer r z-store z-answer = JointPromise x-store x-s x-plots x-answer r.refusal (with_seen x-s (record { clock = r.clock; read = r.read })) z-store z-answer
 
 abbrev AloneSays : List ℕ → ℕ → List ℕ → List ℕ → List ℕ → List ℕ → JointDone → List ℕ → List ℕ → Type 0
 AloneSays x-store offices clock read x-plots x-answer r z-store z-answer = (own : List Entry) → JointPromise x-store (alone offices clock read own) x-plots x-answer r.refusal (with_seen (alone offices clock read own) (record { clock = r.clock; read = r.read })) z-store z-answer
 
-abbrev MovedSays : Session → JointLeft → Session → Type 0
-MovedSays x-s r t = t ≡ with_rest x-s (record { clock = r.clock; read = r.read }) (record { gone = r.gone; left = r.count; moved = true })
+said_alone : (x-store : List ℕ) (x-s : Session) (x-plots : List ℕ) (x-answer : List ℕ) (r : JointDone) (z-store : List ℕ) (z-answer : List ℕ) → x-s.count ≡ 0 → AloneSays x-store x-s.offices x-s.clock x-s.read x-plots x-answer r z-store z-answer → CarryingSays x-store x-s x-plots x-answer r z-store z-answer
+said_alone x-store x-s x-plots x-answer r z-store z-answer none e = subst (λ (s : Session). CarryingSays x-store s x-plots x-answer r z-store z-answer) (is_alone x-s none) (e x-s.own)
 
--- `s` where it carried nothing: the fields that are written, and the others as they were
-abbrev done_s : Session → JointDone → Session
-done_s x r = record { offices = x.offices; clock = r.clock; read = r.read; count = x.count; own = x.own }
+-- `s` after the call: the fields that are written, and the others as they were
+abbrev next_s : Session → JointDone → Session
+next_s x r = record { offices = x.offices; clock = r.clock; read = r.read; count = x.count; own = x.own }
 
-done_s_is : (x : Session) (r : JointDone) (w : Val) → Held x → Is T-JointDone.the_row r (w ∷ []) → Held (done_s x r)
-done_s_is x r w g is =
-    let old = LL.owed T-Session.the_type T-Session'.the_laws x _ g in
-    let new = LL.owed T-JointDone.the_type T-JointDone'.the_laws r (w ∷ []) is in
-    LL.owes T-Session.the_type T-Session'.the_laws (done_s x r) (old.0, (new.1.0, (new.1.1.0, (old.1.1.1.0, (old.1.1.1.1.0, tt)))))
-
-done_is : (x : Session) (r : JointDone) → done_s x r ≡ with_seen x (record { clock = r.clock; read = r.read })
-unfolding with_seen
-done_is x r = refl
-
--- `s` where no own write moves
-abbrev next_s : Session → JointLeft → Session
-next_s x r = record { offices = x.offices; clock = r.clock; read = r.read; count = r.count; own = x.own }
-
-next_s_is : (x : Session) (r : JointLeft) (w : Val) → Held x → Is T-JointLeft.the_row r (w ∷ []) → Held (next_s x r)
+next_s_is : (x : Session) (r : JointDone) (w : Val) → Held x → Is T-JointDone.the_row r (w ∷ []) → Held (next_s x r)
 next_s_is x r w g is =
     let old = LL.owed T-Session.the_type T-Session'.the_laws x _ g in
-    let new = LL.owed T-JointLeft.the_type T-JointLeft'.the_laws r (w ∷ []) is in
-    LL.owes T-Session.the_type T-Session'.the_laws (next_s x r) (old.0, (new.1.0, (new.1.1.0, (new.1.1.1.0, (old.1.1.1.1.0, tt)))))
+    let new = LL.owed T-JointDone.the_type T-JointDone'.the_laws r (w ∷ []) is in
+    LL.owes T-Session.the_type T-Session'.the_laws (next_s x r) (old.0, (new.1.0, (new.1.1.0, (old.1.1.1.0, (old.1.1.1.1.0, tt)))))
 
-next_is : (x : Session) (r : JointLeft) → r.moved ≡ false → next_s x r ≡ with_rest x (record { clock = r.clock; read = r.read }) (record { gone = r.gone; left = r.count; moved = r.moved })
-unfolding with_rest row_left
-next_is x r stays = subst (λ (b : Bool). next_s x r ≡ with_rest x (record { clock = r.clock; read = r.read }) (record { gone = r.gone; left = r.count; moved = b })) (sym stays) refl
+result_is : (r : JointDone) (w : Val) → Is T-JointDone.the_row r (w ∷ []) → Is u32 r.refusal (vint w32 r.refusal ∷ [])
+result_is r w is = (LL.owed T-JointDone.the_type T-JointDone'.the_laws r (w ∷ []) is).0
 
-said_alone : (x-store : List ℕ) (x-s : Session) (x-plots : List ℕ) (x-answer : List ℕ) (r : JointDone) (z-store : List ℕ) (z-answer : List ℕ) → x-s.count ≡ 0 → AloneSays x-store x-s.offices x-s.clock x-s.read x-plots x-answer r z-store z-answer → Said x-store x-s x-plots x-answer r.refusal (done_s x-s r) z-store z-answer
-said_alone x-store x-s x-plots x-answer r z-store z-answer none e =
-    let q = subst (λ (s : Session). Said x-store s x-plots x-answer r.refusal (with_seen s (record { clock = r.clock; read = r.read })) z-store z-answer) (is_alone x-s none) (e x-s.own) in
-    (q.0, done_is x-s r ∙ q.1, q.2, q.3)
-
-said_moved : (x-store : List ℕ) (x-s : Session) (x-plots : List ℕ) (x-answer : List ℕ) (r : JointLeft) (t : Session) (z-store : List ℕ) (z-answer : List ℕ) → r.moved ≡ true → MovedSays x-s r t → CarryingSays x-store x-s x-plots x-answer r z-store z-answer → Said x-store x-s x-plots x-answer r.refusal t z-store z-answer
-said_moved x-store x-s x-plots x-answer r t z-store z-answer moves m e = (e.1.0, m ∙ ap (λ (b : Bool). with_rest x-s (record { clock = r.clock; read = r.read }) (record { gone = r.gone; left = r.count; moved = b })) (sym moves) ∙ e.1.1, e.1.2, e.1.3)
-
-said_next : (x-store : List ℕ) (x-s : Session) (x-plots : List ℕ) (x-answer : List ℕ) (r : JointLeft) (z-store : List ℕ) (z-answer : List ℕ) → r.moved ≡ false → CarryingSays x-store x-s x-plots x-answer r z-store z-answer → Said x-store x-s x-plots x-answer r.refusal (next_s x-s r) z-store z-answer
-said_next x-store x-s x-plots x-answer r z-store z-answer stays e = (e.1.0, next_is x-s r stays ∙ e.1.1, e.1.2, e.1.3)
-
-done_answer_is : (r : JointDone) (w : Val) → Is T-JointDone.the_row r (w ∷ []) → Is u32 r.refusal (vint w32 r.refusal ∷ [])
-done_answer_is r w is = (LL.owed T-JointDone.the_type T-JointDone'.the_laws r (w ∷ []) is).0
-
-left_answer_is : (r : JointLeft) (w : Val) → Is T-JointLeft.the_row r (w ∷ []) → Is u32 r.refusal (vint w32 r.refusal ∷ [])
-left_answer_is r w is = (LL.owed T-JointLeft.the_type T-JointLeft'.the_laws r (w ∷ []) is).0
-
-abbrev left_clock : JointLeft → Val
-left_clock r = (T-JointLeft'.the_laws).1.0.val ((T-JointLeft.the_type).to r).1.0
-
-abbrev left_read : JointLeft → Val
-left_read r = (T-JointLeft'.the_laws).1.1.0.val ((T-JointLeft.the_type).to r).1.1.0
-
-abbrev left_count : JointLeft → Val
-left_count r = (T-JointLeft'.the_laws).1.1.1.0.val ((T-JointLeft.the_type).to r).1.1.1.0
-
-abbrev left_gone : JointLeft → Val
-left_gone r = (T-JointLeft'.the_laws).1.1.1.1.1.0.val ((T-JointLeft.the_type).to r).1.1.1.1.1.0
-
-left_clock_is : (r : JointLeft) (w : Val) → Is T-JointLeft.the_row r (w ∷ []) → Is (Array u32 8) r.clock (left_clock r ∷ [])
-left_clock_is r w is = subst (λ (ns : List ℕ). Is (Array u32 8) ns (left_clock r ∷ [])) (map-id r.clock) (LL.owed T-JointLeft.the_type T-JointLeft'.the_laws r (w ∷ []) is).1.0
-
-left_read_is : (r : JointLeft) (w : Val) → Is T-JointLeft.the_row r (w ∷ []) → Is (Array u32 8) r.read (left_read r ∷ [])
-left_read_is r w is = subst (λ (ns : List ℕ). Is (Array u32 8) ns (left_read r ∷ [])) (map-id r.read) (LL.owed T-JointLeft.the_type T-JointLeft'.the_laws r (w ∷ []) is).1.1.0
-
-left_gone_is : (r : JointLeft) (w : Val) → Is T-JointLeft.the_row r (w ∷ []) → Is (Array bool 16) r.gone (left_gone r ∷ [])
-left_gone_is r w is = subst (λ (ns : List Bool). Is (Array bool 16) ns (left_gone r ∷ [])) (map-id r.gone) (LL.owed T-JointLeft.the_type T-JointLeft'.the_laws r (w ∷ []) is).1.1.1.1.1.0
-
-session_is : (t : Session) (v : Val) → Is T-Session.the_row t (v ∷ []) → Held t
-session_is t v is = subst (λ (vs : List Val). Is T-Session.the_row t vs) (LL.tells T-Session.the_type T-Session'.the_laws t _ is) is
+next_is : (x : Session) (r : JointDone) → next_s x r ≡ with_seen x (record { clock = r.clock; read = r.read })
+unfolding with_seen
+next_is x r = refl
 
 module _ {M : Type 1} {𝓤 : Ura M} (𝓛 : Logic 𝓤) (at_mem : Memory → SProp 𝓤) (run : Routine → Fun 𝓤) (κ-store : Lft) (q-store : Share) (b-store o-store : ℕ) (γ-store : GName) (x-store : List ℕ) (room_store : Room u32 (length x-store)) (κ-s : Lft) (q-s : Share) (b_s o-s : ℕ) (γ-s : GName) (x-s : Session) (κ-plots : Lft) (q-plots : Share) (b-plots o-plots : ℕ) (γ-plots : GName) (x-plots : List ℕ) (room-plots : Room u32 (length x-plots)) (κ-answer : Lft) (q-answer : Share) (b-answer o-answer : ℕ) (γ-answer : GName) (x-answer : List ℕ) (room-answer : Room u32 (length x-answer)) where
   open 𝓛 use {H}
@@ -205,9 +138,6 @@ module _ {M : Type 1} {𝓤 : Ura M} (𝓛 : Logic 𝓤) (at_mem : Memory → SP
   abbrev to_carrying : (Carrying 𝓛 at_mem run).Ghost
   to_carrying = (((κ-store, (κ-plots, (κ-answer, tt))), (q-store, (q-plots, (q-answer, tt))), tt, (ref_store, (x-s, (ref_plots, (ref_answer, tt)))), (slice_val (b-store, o-store) (length x-store) ∷ [], (LL.val T-Session.the_type T-Session'.the_laws x-s ∷ [], (slice_val (b-plots, o-plots) (length x-plots) ∷ [], (slice_val (b-answer, o-answer) (length x-answer) ∷ [], tt))))), tt)
 
-  abbrev to_moved : JointLeft → (Moved 𝓛 at_mem run).Ghost
-  to_moved r = ((tt, tt, tt, (x-s, (r.clock, (r.read, (r.count, (r.gone, tt))))), (LL.val T-Session.the_type T-Session'.the_laws x-s ∷ [], (left_clock r ∷ [], (left_read r ∷ [], (left_count r ∷ [], (left_gone r ∷ [], tt)))))), tt)
-
   goes_alone : Held x-s → ent 𝓤 (⋆ 𝓛 (‵ (flft κ-store q-store) ∷ ‵ (flft κ-plots q-plots) ∷ ‵ (flft κ-answer q-answer) ∷ ‵ ((MutSlice (named 0) κ-store u32).own_val ref_store (slice_val (b-store, o-store) (length x-store) ∷ [])) ∷ ‵ ((ShrSlice (named 2) κ-plots u32).own_val ref_plots (slice_val (b-plots, o-plots) (length x-plots) ∷ [])) ∷ ‵ ((MutSlice (named 3) κ-answer u32).own_val ref_answer (slice_val (b-answer, o-answer) (length x-answer) ∷ [])) ∷ [])) ((Alone 𝓛 at_mem run).pre to_alone)
   goes_alone g-s =
       qed 𝓛 (‵ (flft κ-store q-store) ∷ ‵ (flft κ-plots q-plots) ∷ ‵ (flft κ-answer q-answer) ∷ ‵ ((MutSlice (named 0) κ-store u32).own_val ref_store (slice_val (b-store, o-store) (length x-store) ∷ [])) ∷ ‵ ((ShrSlice (named 2) κ-plots u32).own_val ref_plots (slice_val (b-plots, o-plots) (length x-plots) ∷ [])) ∷ ‵ ((MutSlice (named 3) κ-answer u32).own_val ref_answer (slice_val (b-answer, o-answer) (length x-answer) ∷ [])) ∷ []) ∵ nothing ! $ move ! (6 ∷ 0 ∷ []) $ fjoin ! $ move ! (5 ∷ 0 ∷ []) $ fjoin ! $ owned ! (Array u32 8) (Is (Array u32 8)) (Array-Makes 𝓛 u32 (uint_Makes 𝓛 w32) 8) x-s.read _ (read_is x-s g-s) $ fjoin ! $ owned ! (Array u32 8) (Is (Array u32 8)) (Array-Makes 𝓛 u32 (uint_Makes 𝓛 w32) 8) x-s.clock _ (clock_is x-s g-s) $ fjoin ! $ owned ! u32 (Is u32) (uint_Makes 𝓛 w32) x-s.offices _ (LL.owed T-Session.the_type T-Session'.the_laws x-s _ g-s).0 $ fjoin ! $ move ! (4 ∷ 0 ∷ []) $ fjoin ! $ nothing ! $ move ! (4 ∷ 0 ∷ []) $ join ! $ move ! (3 ∷ 0 ∷ []) $ join ! $ move ! (2 ∷ 0 ∷ []) $ join ! $ join ! $ frame ! $ done !
@@ -216,79 +146,61 @@ module _ {M : Type 1} {𝓤 : Ura M} (𝓛 : Logic 𝓤) (at_mem : Memory → SP
   goes_carrying g-s =
       qed 𝓛 (‵ (flft κ-store q-store) ∷ ‵ (flft κ-plots q-plots) ∷ ‵ (flft κ-answer q-answer) ∷ ‵ ((MutSlice (named 0) κ-store u32).own_val ref_store (slice_val (b-store, o-store) (length x-store) ∷ [])) ∷ ‵ ((ShrSlice (named 2) κ-plots u32).own_val ref_plots (slice_val (b-plots, o-plots) (length x-plots) ∷ [])) ∷ ‵ ((MutSlice (named 3) κ-answer u32).own_val ref_answer (slice_val (b-answer, o-answer) (length x-answer) ∷ [])) ∷ []) ∵ nothing ! $ move ! (6 ∷ 0 ∷ []) $ fjoin ! $ move ! (5 ∷ 0 ∷ []) $ fjoin ! $ owned ! T-Session.the_row (Is T-Session.the_row) (LL.makes T-Session.the_type T-Session'.the_plain 𝓛) x-s _ g-s $ fjoin ! $ move ! (4 ∷ 0 ∷ []) $ fjoin ! $ nothing ! $ move ! (4 ∷ 0 ∷ []) $ join ! $ move ! (3 ∷ 0 ∷ []) $ join ! $ move ! (2 ∷ 0 ∷ []) $ join ! $ join ! $ frame ! $ done !
 
-  goes_moved : (r : JointLeft) (w : Val) → Held x-s → Is T-JointLeft.the_row r (w ∷ []) → x-s.count ≤ 16 → ent 𝓤 (⋆ 𝓛 (‵ ftrue ∷ [])) ((Moved 𝓛 at_mem run).pre (to_moved r))
-  goes_moved r w g-s is few =
-      qed 𝓛 (‵ ftrue ∷ []) ∵ drop ! $ says ! few $ nothing ! $ owned ! (Array bool 16) (Is (Array bool 16)) (Array-Makes 𝓛 bool (bool_Makes 𝓛) 16) r.gone _ (left_gone_is r w is) $ fjoin ! $ owned ! usize (Is usize) (uint_Makes 𝓛 w64) r.count _ (LL.owed T-JointLeft.the_type T-JointLeft'.the_laws r (w ∷ []) is).1.1.1.0 $ fjoin ! $ owned ! (Array u32 8) (Is (Array u32 8)) (Array-Makes 𝓛 u32 (uint_Makes 𝓛 w32) 8) r.read _ (left_read_is r w is) $ fjoin ! $ owned ! (Array u32 8) (Is (Array u32 8)) (Array-Makes 𝓛 u32 (uint_Makes 𝓛 w32) 8) r.clock _ (left_clock_is r w is) $ fjoin ! $ owned ! T-Session.the_row (Is T-Session.the_row) (LL.makes T-Session.the_type T-Session'.the_plain 𝓛) x-s _ g-s $ fjoin ! $ nothing ! $ frame ! $ done !
+  exits : (r : JointDone) (w : Val) (z-store : List ℕ) (z-answer : List ℕ) → Held x-s → CarryingSays x-store x-s x-plots x-answer r z-store z-answer → length z-store ≡ length x-store → length z-answer ≡ length x-answer → Is T-JointDone.the_row r (w ∷ []) → ent 𝓤 (⋆ 𝓛 (‵ (finally u32 γ-store z-store) ∷ ‵ (fobs γ-s ((T-Session.the_row).coded.code (next_s x-s r))) ∷ ‵ (fbor κ-s (Body (mem T-Session.the_row) b_s o-s γ-s)) ∷ ‵ ((ShrSlice (named 2) κ-plots u32).own_val ref_plots (slice_val (b-plots, o-plots) (length x-plots) ∷ [])) ∷ ‵ (finally u32 γ-answer z-answer) ∷ ‵ (flft κ-store q-store) ∷ ‵ (flft κ-s q-s) ∷ ‵ (flft κ-plots q-plots) ∷ ‵ (flft κ-answer q-answer) ∷ [])) (Post (vint w32 r.refusal))
+  exits r w z-store z-answer g-s e l-store l-answer is =
+      qed 𝓛 (‵ (finally u32 γ-store z-store) ∷ ‵ (fobs γ-s ((T-Session.the_row).coded.code (next_s x-s r))) ∷ ‵ (fbor κ-s (Body (mem T-Session.the_row) b_s o-s γ-s)) ∷ ‵ ((ShrSlice (named 2) κ-plots u32).own_val ref_plots (slice_val (b-plots, o-plots) (length x-plots) ∷ [])) ∷ ‵ (finally u32 γ-answer z-answer) ∷ ‵ (flft κ-store q-store) ∷ ‵ (flft κ-s q-s) ∷ ‵ (flft κ-plots q-plots) ∷ ‵ (flft κ-answer q-answer) ∷ []) ∵ suffices ! _ (ends_at 𝓛 f.ended stayed (f.clauses 𝓛 at_mem run) (((κ-store, (κ-s, (κ-plots, (κ-answer, tt)))), (q-store, (q-s, (q-plots, (q-answer, tt)))), tt, a, vals), tt) (vint w32 r.refusal) r.refusal (z-store, ((next_s x-s r), (tt, (z-answer, tt)))) (l-store, (tt, (tt, (l-answer, tt))))) $ says ! (e.0, next_is x-s r ∙ e.1, e.2, e.3) $
+      nothing ! $ move ! (9 ∷ 0 ∷ []) $ join ! $ move ! (8 ∷ 0 ∷ []) $ join ! $ move ! (7 ∷ 0 ∷ []) $ join ! $ move ! (6 ∷ 0 ∷ []) $ join ! $ frame ! $ nothing ! $ move ! (5 ∷ 0 ∷ []) $ fjoin ! $ move ! (4 ∷ 0 ∷ []) $ fjoin ! $ move ! (2 ∷ 3 ∷ []) $ feq_i ! (List Val) (vptr b_s o-s ∷ []) (vptr b_s o-s ∷ []) refl $ fjoin3 ! $ fjoin ! $ move ! (1 ∷ 0 ∷ []) $ fjoin ! $ owned ! u32 (Is u32) (uint_Makes 𝓛 w32) r.refusal _ (result_is r w is) $ move ! (1 ∷ 0 ∷ []) $ done !
 
-  exits : (n : ℕ) (t : Session) (z-store : List ℕ) (z-answer : List ℕ) → Is u32 n (vint w32 n ∷ []) → Said x-store x-s x-plots x-answer n t z-store z-answer → length z-store ≡ length x-store → length z-answer ≡ length x-answer → ent 𝓤 (⋆ 𝓛 (‵ (finally u32 γ-store z-store) ∷ ‵ (fobs γ-s ((T-Session.the_row).coded.code t)) ∷ ‵ (fbor κ-s (Body (mem T-Session.the_row) b_s o-s γ-s)) ∷ ‵ ((ShrSlice (named 2) κ-plots u32).own_val ref_plots (slice_val (b-plots, o-plots) (length x-plots) ∷ [])) ∷ ‵ (finally u32 γ-answer z-answer) ∷ ‵ (flft κ-store q-store) ∷ ‵ (flft κ-s q-s) ∷ ‵ (flft κ-plots q-plots) ∷ ‵ (flft κ-answer q-answer) ∷ [])) (Post (vint w32 n))
-  exits n t z-store z-answer g-n e l-store l-answer =
-      qed 𝓛 (‵ (finally u32 γ-store z-store) ∷ ‵ (fobs γ-s ((T-Session.the_row).coded.code t)) ∷ ‵ (fbor κ-s (Body (mem T-Session.the_row) b_s o-s γ-s)) ∷ ‵ ((ShrSlice (named 2) κ-plots u32).own_val ref_plots (slice_val (b-plots, o-plots) (length x-plots) ∷ [])) ∷ ‵ (finally u32 γ-answer z-answer) ∷ ‵ (flft κ-store q-store) ∷ ‵ (flft κ-s q-s) ∷ ‵ (flft κ-plots q-plots) ∷ ‵ (flft κ-answer q-answer) ∷ []) ∵ suffices ! _ (ends_at 𝓛 f.ended stayed (f.clauses 𝓛 at_mem run) (((κ-store, (κ-s, (κ-plots, (κ-answer, tt)))), (q-store, (q-s, (q-plots, (q-answer, tt)))), tt, a, vals), tt) (vint w32 n) n (z-store, (t, (tt, (z-answer, tt)))) (l-store, (tt, (tt, (l-answer, tt))))) $ says ! e $
-      nothing ! $ move ! (9 ∷ 0 ∷ []) $ join ! $ move ! (8 ∷ 0 ∷ []) $ join ! $ move ! (7 ∷ 0 ∷ []) $ join ! $ move ! (6 ∷ 0 ∷ []) $ join ! $ frame ! $ nothing ! $ move ! (5 ∷ 0 ∷ []) $ fjoin ! $ move ! (4 ∷ 0 ∷ []) $ fjoin ! $ move ! (2 ∷ 3 ∷ []) $ feq_i ! (List Val) (vptr b_s o-s ∷ []) (vptr b_s o-s ∷ []) refl $ fjoin3 ! $ fjoin ! $ move ! (1 ∷ 0 ∷ []) $ fjoin ! $ owned ! u32 (Is u32) (uint_Makes 𝓛 w32) n _ g-n $ move ! (1 ∷ 0 ∷ []) $ done !
-
-  module _ (C : Calls 𝓤 H) (Λ : Loops 𝓤 H) (fm : FmC 𝓤 H 𝓛.laws C) (Known-alone : Triple 𝓤 (C #host·joint-alone) (Alone 𝓛 at_mem run)) (known-carrying : Triple 𝓤 (C #host·joint-by-value) (Carrying 𝓛 at_mem run)) (known-moved : Triple 𝓤 (C #host·moved-session) (Moved 𝓛 at_mem run)) where
+  module _ (C : Calls 𝓤 H) (Λ : Loops 𝓤 H) (fm : FmC 𝓤 H 𝓛.laws C) (Known-alone : Triple 𝓤 (C #host·joint-alone) (Alone 𝓛 at_mem run)) (known-carrying : Triple 𝓤 (C #host·joint-by-value) (Carrying 𝓛 at_mem run)) where
     walk : ent 𝓤 (on_entry 𝓛 f.signature (κ-store, (κ-s, (κ-plots, (κ-answer, tt)))) (q-store, (q-s, (q-plots, (q-answer, tt)))) a vals) (WpFn 𝓤 H C Λ code.function (slice_val (b-store, o-store) (length x-store) ∷ vptr b_s o-s ∷ slice_val (b-plots, o-plots) (length x-plots) ∷ slice_val (b-answer, o-answer) (length x-answer) ∷ []) Post)
     walk =
         qed 𝓛 ((‵ (flft κ-store q-store) ⊛ (‵ (flft κ-s q-s) ⊛ (‵ (flft κ-plots q-plots) ⊛ (‵ (flft κ-answer q-answer) ⊛ ‵ ftrue)))) ∷ ‵ (owns (MutSlice (named 0) κ-store u32 ∷ MutRef (named 1) κ-s T-Session.the_row ∷ ShrSlice (named 2) κ-plots u32 ∷ MutSlice (named 3) κ-answer u32 ∷ []) a vals) ∷ []) ∵ enter ! C Λ code.function (slice_val (b-store, o-store) (length x-store) ∷ vptr b_s o-s ∷ slice_val (b-plots, o-plots) (length x-plots) ∷ slice_val (b-answer, o-answer) (length x-answer) ∷ []) _ $
-        alloc1 ! (λ l-0. alloc1 ! (λ l-1. alloc1 ! (λ l-2. alloc1 ! (λ l-3. alloc1 ! (λ l-4. alloc1 ! (λ l-5. alloc1 ! (λ l-6. alloc1 ! (λ l-7. alloc1 ! (λ l-8. alloc1 ! (λ l-9. alloc1 ! (λ l-10. alloc1 ! (λ l-11. alloc1 ! (λ l-12. alloc1 ! (λ l-13. alloc1 ! (λ l-14. alloc1 ! (λ l-15. alloc1 ! (λ l-16. alloc1 ! (λ l-17. alloc1 ! (λ l-18. alloc1 ! (λ l-19. alloc1 ! (λ l-20. alloc1 ! (λ l-21. alloc1 ! (λ l-22. alloc0 ! $ params1 ! $ pass1 ! (init ! 42 refl (tt, (tt, (record { fits = room_store.0 }, tt)))) $ pass1 ! (init ! 40 refl (tt, tt)) $ pass1 ! (init ! 38 refl (tt, (tt, (record { fits = room-plots.0 }, tt)))) $ pass1 ! (init ! 36 refl (tt, (tt, (record { fits = room-answer.0 }, tt)))) $ pass0 ! $
-        -- [0: _22; 2: _21; 4: _20; 6: _19; 8: _18; 10: _17; 12: _16; 14: _15; 16: _14; 18: _13; 20: _12; 22: _11; 24: _10; 26: _9; 28: _8; 30: _7; 32: _6; 34: _5; 36: _4; 38: _3; 40: _2; 42: _1; 44: _0; toks; owns]
-        move ! (47 ∷ []) $ fsplit ! $ move ! (1 ∷ []) $ fsplit ! $ move ! (1 ∷ []) $ fsplit ! $ move ! (1 ∷ []) $ fsplit ! $ move ! (1 ∷ []) $ drop ! $ move ! (50 ∷ []) $ split ! $ move ! (1 ∷ []) $ split ! $ move ! (1 ∷ []) $ split ! $ move ! (1 ∷ []) $ split ! $ move ! (1 ∷ []) $ drop ! $ move ! (6 ∷ []) $ fsplit3 ! $ drop ! $ move ! (0 ∷ 1 ∷ 4 ∷ []) $ opens ! tt T-Session.the_row {h = x-s} b_s o-s (λ vs-s. spelt ! T-Session.the_row (Is T-Session.the_row) (shows 𝓛 T-Session.the_row) (LL.vals T-Session.the_type T-Session'.the_laws) (LL.tells T-Session.the_type T-Session'.the_laws) full_share x-s vs-s b_s o-s $ move ! (1 ∷ []) $ peeks ! T-Session.the_row (Is T-Session.the_row) (shows 𝓛 T-Session.the_row) x-s (LL.val T-Session.the_type T-Session'.the_laws x-s ∷ []) (λ g-s. move ! (9 ∷ []) $ use1 𝓛 (‵ ((ShrSlice (named 2) κ-plots u32).own_val ref_plots (slice_val (b-plots, o-plots) (length x-plots) ∷ [])) ⊛ ‵ ((ShrSlice (named 2) κ-plots u32).own_val ref_plots (slice_val (b-plots, o-plots) (length x-plots) ∷ []))) ((shr_slice_copy 𝓛 (named 2) κ-plots u32).twice ref_plots (slice_val (b-plots, o-plots) (length x-plots) ∷ [])) $ split ! $
-        -- [own:plots; own2:plots; held:s; cell:s; obor:s; obs:s; auth:s; tok:answer; tok:plots; tok:store; own:answer; own:store; 12: _22; 14: _21; 16: _20; 18: _19; 20: _18; 22: _17; 24: _16; 26: _15; 28: _14; 30: _13; 32: _12; 34: _11; 36: _10; 38: _9; 40: _8; 42: _7; 44: _6; 46: _5; 48: _4; 50: _3; 52: _2; 54: _1; 56: _0]
-        assigns ! (of_opd ! (load ! (from ! (hop ! (look ! 52 refl) (fld ! refl (stop !)))) (look_in ! 3 (sub ! 3 refl (whole !))))) (from ! (stop !)) (init ! 42 refl (((T-Session'.the_laws).1.1.1.0.lawful 𝓛).typed ((T-Session.the_type).to x-s).1.1.1.0 _ (LL.owed T-Session.the_type T-Session'.the_laws x-s _ g-s).1.1.1.0).0) $ assigns ! (bin ! (load ! (from ! (stop !)) (look ! 42 refl)) (lit ! tt) tt) (from ! (stop !)) (init ! 40 refl (tt, tt)) $
-        first ! $ branches ! {y = eqb x-s.count 0} (load ! (from ! (stop !)) (look ! 40 refl))
-        -- it carries nothing
-        (λ on. assigns ! (addr ! (from ! (fld ! refl (hop ! (look_in ! 54 (sub ! 0 refl (whole !))) (stop !))))) (from ! (stop !)) (init ! 38 refl (tt, tt)) $ assigns ! (agg ! (and_then ! (load ! (from ! (stop !)) (look ! 38 refl)) (and_then ! (load ! (from ! (fld ! refl (stop !))) (look_in ! 54 (sub ! 1 refl (whole !)))) (no_more !)))) (from ! (stop !)) (init ! 36 refl (tt, (tt, (record { fits = room_store.0 }, tt)))) $ assigns ! (of_opd ! (load ! (from ! (hop ! (look ! 52 refl) (fld ! refl (stop !)))) (look_in ! 3 (sub ! 0 refl (whole !))))) (from ! (stop !)) (init ! 34 refl (((T-Session'.the_laws).0.lawful 𝓛).typed ((T-Session.the_type).to x-s).0 _ (LL.owed T-Session.the_type T-Session'.the_laws x-s _ g-s).0).0) $ assigns ! (of_opd ! (load ! (from ! (hop ! (look ! 52 refl) (fld ! refl (stop !)))) (look_in ! 3 (sub ! 1 refl (whole !))))) (from ! (stop !)) (init ! 32 refl (((T-Session'.the_laws).1.0.lawful 𝓛).typed ((T-Session.the_type).to x-s).1.0 _ (LL.owed T-Session.the_type T-Session'.the_laws x-s _ g-s).1.0).0) $ assigns ! (of_opd ! (load ! (from ! (hop ! (look ! 52 refl) (fld ! refl (stop !)))) (look_in ! 3 (sub ! 2 refl (whole !))))) (from ! (stop !)) (init ! 30 refl (((T-Session'.the_laws).1.1.0.lawful 𝓛).typed ((T-Session.the_type).to x-s).1.1.0 _ (LL.owed T-Session.the_type T-Session'.the_laws x-s _ g-s).1.1.0).0) $ assigns ! (addr ! (from ! (fld ! refl (hop ! (look_in ! 48 (sub ! 0 refl (whole !))) (stop !))))) (from ! (stop !)) (init ! 28 refl (tt, tt)) $ assigns ! (agg ! (and_then ! (load ! (from ! (stop !)) (look ! 28 refl)) (and_then ! (load ! (from ! (fld ! refl (stop !))) (look_in ! 48 (sub ! 1 refl (whole !)))) (no_more !)))) (from ! (stop !)) (init ! 26 refl (tt, (tt, (record { fits = room-answer.0 }, tt)))) $ move ! (9 ∷ 8 ∷ 7 ∷ 11 ∷ 0 ∷ 10 ∷ []) $ move ! (4 ∷ 5 ∷ []) $ join ! $ move ! (1 ∷ 2 ∷ 3 ∷ 4 ∷ 0 ∷ []) $ move ! (3 ∷ 4 ∷ []) $ join ! $ move ! (1 ∷ 2 ∷ 3 ∷ 0 ∷ []) $ move ! (2 ∷ 3 ∷ []) $ join ! $ move ! (1 ∷ 2 ∷ 0 ∷ []) $ move ! (1 ∷ 2 ∷ []) $ join ! $ move ! (1 ∷ 0 ∷ []) $ move ! (0 ∷ 1 ∷ []) $ join ! $ move ! (0 ∷ []) $ use1 𝓛 (raw ((Alone 𝓛 at_mem run).pre to_alone)) (goes_alone g-s) $
-        calls_at ! fm (Alone 𝓛 at_mem run) Known-alone to_alone (and_then ! (load ! (from ! (stop !)) (look ! 31 refl)) (and_then ! (load ! (from ! (stop !)) (look ! 29 refl)) (and_then ! (load ! (from ! (stop !)) (look ! 27 refl)) (and_then ! (load ! (from ! (stop !)) (look ! 25 refl)) (and_then ! (load ! (from ! (stop !)) (look ! 45 refl)) (and_then ! (load ! (from ! (stop !)) (look ! 21 refl)) (no_more !))))))) (λ w.
+        alloc1 ! (λ l-0. alloc1 ! (λ l-1. alloc1 ! (λ l-2. alloc1 ! (λ l-3. alloc1 ! (λ l-4. alloc1 ! (λ l-5. alloc1 ! (λ l-6. alloc1 ! (λ l-7. alloc1 ! (λ l-8. alloc1 ! (λ l-9. alloc1 ! (λ l-10. alloc1 ! (λ l-11. alloc1 ! (λ l-12. alloc1 ! (λ l-13. alloc1 ! (λ l-14. alloc1 ! (λ l-15. alloc1 ! (λ l-16. alloc1 ! (λ l-17. alloc1 ! (λ l-18. alloc1 ! (λ l-19. alloc1 ! (λ l-20. alloc0 ! $ params1 ! $ pass1 ! (init ! 38 refl (tt, (tt, (record { fits = room_store.0 }, tt)))) $ pass1 ! (init ! 36 refl (tt, tt)) $ pass1 ! (init ! 34 refl (tt, (tt, (record { fits = room-plots.0 }, tt)))) $ pass1 ! (init ! 32 refl (tt, (tt, (record { fits = room-answer.0 }, tt)))) $ pass0 ! $
+        -- [0: _20; 2: _19; 4: _18; 6: _17; 8: _16; 10: _15; 12: _14; 14: _13; 16: _12; 18: _11; 20: _10; 22: _9; 24: _8; 26: _7; 28: _6; 30: _5; 32: _4; 34: _3; 36: _2; 38: _1; 40: _0; toks; owns]
+        move ! (43 ∷ []) $ fsplit ! $ move ! (1 ∷ []) $ fsplit ! $ move ! (1 ∷ []) $ fsplit ! $ move ! (1 ∷ []) $ fsplit ! $ move ! (1 ∷ []) $ drop ! $ move ! (46 ∷ []) $ split ! $ move ! (1 ∷ []) $ split ! $ move ! (1 ∷ []) $ split ! $ move ! (1 ∷ []) $ split ! $ move ! (1 ∷ []) $ drop ! $ move ! (6 ∷ []) $ fsplit3 ! $ drop ! $ move ! (0 ∷ 1 ∷ 4 ∷ []) $ opens ! tt T-Session.the_row {h = x-s} b_s o-s (λ vs-s. spelt ! T-Session.the_row (Is T-Session.the_row) (shows 𝓛 T-Session.the_row) (LL.vals T-Session.the_type T-Session'.the_laws) (LL.tells T-Session.the_type T-Session'.the_laws) full_share x-s vs-s b_s o-s $ move ! (1 ∷ []) $ peeks ! T-Session.the_row (Is T-Session.the_row) (shows 𝓛 T-Session.the_row) x-s (LL.val T-Session.the_type T-Session'.the_laws x-s ∷ []) (λ g-s. move ! (9 ∷ []) $ use1 𝓛 (‵ ((ShrSlice (named 2) κ-plots u32).own_val ref_plots (slice_val (b-plots, o-plots) (length x-plots) ∷ [])) ⊛ ‵ ((ShrSlice (named 2) κ-plots u32).own_val ref_plots (slice_val (b-plots, o-plots) (length x-plots) ∷ []))) ((shr_slice_copy 𝓛 (named 2) κ-plots u32).twice ref_plots (slice_val (b-plots, o-plots) (length x-plots) ∷ [])) $ split ! $
+        -- [own:plots; own2:plots; held:s; cell:s; obor:s; obs:s; auth:s; tok:answer; tok:plots; tok:store; own:answer; own:store; 12: _20; 14: _19; 16: _18; 18: _17; 20: _16; 22: _15; 24: _14; 26: _13; 28: _12; 30: _11; 32: _10; 34: _9; 36: _8; 38: _7; 40: _6; 42: _5; 44: _4; 46: _3; 48: _2; 50: _1; 52: _0]
+        assigns ! (of_opd ! (load ! (from ! (hop ! (look ! 48 refl) (fld ! refl (stop !)))) (look_in ! 3 (sub ! 3 refl (whole !))))) (from ! (stop !)) (init ! 40 refl (((T-Session'.the_laws).1.1.1.0.lawful 𝓛).typed ((T-Session.the_type).to x-s).1.1.1.0 _ (LL.owed T-Session.the_type T-Session'.the_laws x-s _ g-s).1.1.1.0).0) $ assigns ! (bin ! (load ! (from ! (stop !)) (look ! 40 refl)) (lit ! tt) tt) (from ! (stop !)) (init ! 38 refl (tt, tt)) $
+        first ! $ branches ! {y = eqb x-s.count 0} (load ! (from ! (stop !)) (look ! 38 refl))
+        -- alone
+        (λ on. assigns ! (addr ! (from ! (fld ! refl (hop ! (look_in ! 50 (sub ! 0 refl (whole !))) (stop !))))) (from ! (stop !)) (init ! 34 refl (tt, tt)) $ assigns ! (agg ! (and_then ! (load ! (from ! (stop !)) (look ! 34 refl)) (and_then ! (load ! (from ! (fld ! refl (stop !))) (look_in ! 50 (sub ! 1 refl (whole !)))) (no_more !)))) (from ! (stop !)) (init ! 32 refl (tt, (tt, (record { fits = room_store.0 }, tt)))) $ assigns ! (of_opd ! (load ! (from ! (hop ! (look ! 48 refl) (fld ! refl (stop !)))) (look_in ! 3 (sub ! 0 refl (whole !))))) (from ! (stop !)) (init ! 30 refl (((T-Session'.the_laws).0.lawful 𝓛).typed ((T-Session.the_type).to x-s).0 _ (LL.owed T-Session.the_type T-Session'.the_laws x-s _ g-s).0).0) $ assigns ! (of_opd ! (load ! (from ! (hop ! (look ! 48 refl) (fld ! refl (stop !)))) (look_in ! 3 (sub ! 1 refl (whole !))))) (from ! (stop !)) (init ! 28 refl (((T-Session'.the_laws).1.0.lawful 𝓛).typed ((T-Session.the_type).to x-s).1.0 _ (LL.owed T-Session.the_type T-Session'.the_laws x-s _ g-s).1.0).0) $ assigns ! (of_opd ! (load ! (from ! (hop ! (look ! 48 refl) (fld ! refl (stop !)))) (look_in ! 3 (sub ! 2 refl (whole !))))) (from ! (stop !)) (init ! 26 refl (((T-Session'.the_laws).1.1.0.lawful 𝓛).typed ((T-Session.the_type).to x-s).1.1.0 _ (LL.owed T-Session.the_type T-Session'.the_laws x-s _ g-s).1.1.0).0) $ assigns ! (addr ! (from ! (fld ! refl (hop ! (look_in ! 44 (sub ! 0 refl (whole !))) (stop !))))) (from ! (stop !)) (init ! 24 refl (tt, tt)) $ assigns ! (agg ! (and_then ! (load ! (from ! (stop !)) (look ! 24 refl)) (and_then ! (load ! (from ! (fld ! refl (stop !))) (look_in ! 44 (sub ! 1 refl (whole !)))) (no_more !)))) (from ! (stop !)) (init ! 22 refl (tt, (tt, (record { fits = room-answer.0 }, tt)))) $ move ! (9 ∷ 8 ∷ 7 ∷ 11 ∷ 0 ∷ 10 ∷ []) $ move ! (4 ∷ 5 ∷ []) $ join ! $ move ! (1 ∷ 2 ∷ 3 ∷ 4 ∷ 0 ∷ []) $ move ! (3 ∷ 4 ∷ []) $ join ! $ move ! (1 ∷ 2 ∷ 3 ∷ 0 ∷ []) $ move ! (2 ∷ 3 ∷ []) $ join ! $ move ! (1 ∷ 2 ∷ 0 ∷ []) $ move ! (1 ∷ 2 ∷ []) $ join ! $ move ! (1 ∷ 0 ∷ []) $ move ! (0 ∷ 1 ∷ []) $ join ! $ move ! (0 ∷ []) $ use1 𝓛 (raw ((Alone 𝓛 at_mem run).pre to_alone)) (goes_alone g-s) $
+        calls_at_last ! fm (Alone 𝓛 at_mem run) Known-alone to_alone (and_then ! (load ! (from ! (stop !)) (look ! 27 refl)) (and_then ! (load ! (from ! (stop !)) (look ! 25 refl)) (and_then ! (load ! (from ! (stop !)) (look ! 23 refl)) (and_then ! (load ! (from ! (stop !)) (look ! 21 refl)) (and_then ! (load ! (from ! (stop !)) (look ! 41 refl)) (and_then ! (load ! (from ! (stop !)) (look ! 17 refl)) (no_more !))))))) (λ w.
         use1 𝓛 (later (some (λ (r : JointDone). ((‵ (flft κ-store q-store) ⊛ (‵ (flft κ-plots q-plots) ⊛ (‵ (flft κ-answer q-answer) ⊛ ‵ ftrue))) ⊛ ‵ ((T-JointDone.the_row).own_val r (w ∷ []))) ⊛ raw (ensured 𝓛 alone.ended (alone.clauses 𝓛 at_mem run) (κ-store, (κ-plots, (κ-answer, tt))) (ref_store, (x-s.offices, (x-s.clock, (x-s.read, (ref_plots, (ref_answer, tt)))))) tt r)))) (id⊢ 𝓤 _) $ await ! tt $ pick ! (λ r. split ! $ move ! (1 ∷ []) $ use1 𝓛 (some (λ (zs : List ℕ × (Unit {0} × (Unit {0} × (Unit {0} × (Unit {0} × (List ℕ × Unit {0})))))). ‵ (lasts alone.ended (κ-store, (κ-plots, (κ-answer, tt))) (ref_store, (x-s.offices, (x-s.clock, (x-s.read, (ref_plots, (ref_answer, tt)))))) zs) ⊛ raw (fact 𝓤 (AloneSays x-store x-s.offices x-s.clock x-s.read x-plots x-answer r zs.0 zs.1.1.1.1.1.0)))) (id⊢ 𝓤 _) $ pick ! (λ zs. split ! $ move ! (1 ∷ []) $ heard ! (AloneSays x-store x-s.offices x-s.clock x-s.read x-plots x-answer r zs.0 zs.1.1.1.1.1.0) (λ e. fsplit ! $ fsplit ! $ move ! (1 ∷ []) $ feq_l ! (λ l-store. move ! (1 ∷ []) $ fsplit ! $ move ! (1 ∷ []) $ fsplit ! $ move ! (1 ∷ []) $ fsplit ! $ move ! (1 ∷ []) $ fsplit ! $ move ! (1 ∷ []) $ fsplit ! $ fsplit ! $ move ! (1 ∷ []) $ feq_l ! (λ l-answer. move ! (1 ∷ []) $ drop ! $ move ! (4 ∷ []) $ drop ! $ move ! (3 ∷ []) $ drop ! $ move ! (2 ∷ []) $ drop ! $ move ! (1 ∷ []) $ drop ! $ move ! (2 ∷ []) $ split ! $ move ! (1 ∷ []) $ peeks ! T-JointDone.the_row (Is T-JointDone.the_row) (shows 𝓛 T-JointDone.the_row) r (w ∷ []) (λ is.
-        -- [result; btoks; fin:answer; fin:store; own:plots; held:s; cell:s; obor:s; obs:s; auth:s; 10: _22; 12: _21; 14: _20; 16: _19; 18: _18; 20: _17; 22: _16; 24: _15; 26: _14; 28: _13; 30: _12; 32: _11; 34: _10; 36: _9; 38: _8; 40: _7; 42: _6; 44: _5; 46: _4; 48: _3; 50: _2; 52: _1; 54: _0]
-        land ! (from ! (stop !)) (init ! 44 refl ((LL.lawful T-JointDone.the_type T-JointDone'.the_laws 𝓛).typed r _ is).0) $ rewrite ! 44 (λ (u : Val). ‵ (fat full_share T-JointDone'.mir l-5 0 u)) (ap only (LL.tells T-JointDone.the_type T-JointDone'.the_laws r _ is)) refl $
-        assigns ! (of_opd ! (load ! (from ! (fld ! refl (stop !))) (look_in ! 44 (sub ! 1 refl (whole !))))) (from ! (hop ! (look ! 50 refl) (fld ! refl (stop !)))) (store_in ! 6 (sub ! 1 refl (whole !)) (((T-JointDone'.the_laws).1.0.lawful 𝓛).typed ((T-JointDone.the_type).to r).1.0 _ (LL.owed T-JointDone.the_type T-JointDone'.the_laws r (w ∷ []) is).1.0).0) $
-        assigns ! (of_opd ! (load ! (from ! (fld ! refl (stop !))) (look_in ! 44 (sub ! 2 refl (whole !))))) (from ! (hop ! (look ! 50 refl) (fld ! refl (stop !)))) (store_in ! 6 (sub ! 2 refl (whole !)) (((T-JointDone'.the_laws).1.1.0.lawful 𝓛).typed ((T-JointDone.the_type).to r).1.1.0 _ (LL.owed T-JointDone.the_type T-JointDone'.the_laws r (w ∷ []) is).1.1.0).0) $
-        assigns ! (of_opd ! (load ! (from ! (fld ! refl (stop !))) (look_in ! 44 (sub ! 0 refl (whole !))))) (from ! (stop !)) (init ! 54 refl ((uint_Lawful 𝓛 w32).typed r.refusal _ (done_answer_is r w is)).0) $ move ! (5 ∷ []) $ drop ! $ owned ! T-Session.the_row (Is T-Session.the_row) (LL.makes T-Session.the_type T-Session'.the_plain 𝓛) (done_s x-s r) _ (done_s_is x-s r w g-s is) $ move ! (6 ∷ 0 ∷ 7 ∷ 8 ∷ 9 ∷ []) $ closes ! tt T-Session.the_row (done_s x-s r) (LL.val T-Session.the_type T-Session'.the_laws (done_s x-s r) ∷ []) b_s o-s $ move ! (4 ∷ []) $ split ! $ move ! (1 ∷ []) $ split ! $ move ! (1 ∷ []) $ split ! $ move ! (1 ∷ []) $ drop ! $ move ! (6 ∷ []) $ drop ! $
-        -- [tok:answer; tok:plots; tok:store; obs:s; bor:s; tok:s; fin:answer; fin:store; own:plots; 9: _22; 11: _21; 13: _20; 15: _19; 17: _18; 19: _17; 21: _16; 23: _15; 25: _14; 27: _13; 29: _12; 31: _11; 33: _10; 35: _9; 37: _8; 39: _7; 41: _6; 43: _5; 45: _4; 47: _3; 49: _2; 51: _1; 53: _0]
-        returns_within ! Post refl (look ! 53 refl) $ forget ! 23 refl $ forget ! 25 refl $ forget ! 27 refl $ forget ! 29 refl $ forget ! 31 refl $ forget ! 33 refl $ forget ! 35 refl $ forget ! 37 refl $ forget ! 39 refl $ forget ! 43 refl $ forget ! 45 refl $ forget ! 47 refl $ forget ! 49 refl $ forget ! 51 refl $ forget ! 53 refl $ move ! (53 ∷ 54 ∷ []) $ free1 ! $ move ! (51 ∷ 52 ∷ []) $ free1 ! $ move ! (49 ∷ 50 ∷ []) $ free1 ! $ move ! (47 ∷ 48 ∷ []) $ free1 ! $ move ! (45 ∷ 46 ∷ []) $ free1 ! $ move ! (43 ∷ 44 ∷ []) $ free1 ! $ move ! (41 ∷ 42 ∷ []) $ free1 ! $ move ! (39 ∷ 40 ∷ []) $ free1 ! $ move ! (37 ∷ 38 ∷ []) $ free1 ! $ move ! (35 ∷ 36 ∷ []) $ free1 ! $ move ! (33 ∷ 34 ∷ []) $ free1 ! $ move ! (31 ∷ 32 ∷ []) $ free1 ! $ move ! (29 ∷ 30 ∷ []) $ free1 ! $ move ! (27 ∷ 28 ∷ []) $ free1 ! $ move ! (25 ∷ 26 ∷ []) $ free1 ! $ move ! (23 ∷ 24 ∷ []) $ free1 ! $ move ! (21 ∷ 22 ∷ []) $ free1 ! $ move ! (19 ∷ 20 ∷ []) $ free1 ! $ move ! (17 ∷ 18 ∷ []) $ free1 ! $ move ! (15 ∷ 16 ∷ []) $ free1 ! $ move ! (13 ∷ 14 ∷ []) $ free1 ! $ move ! (11 ∷ 12 ∷ []) $ free1 ! $ move ! (9 ∷ 10 ∷ []) $ free1 ! $ free0 ! $ keep ! (7 ∷ 3 ∷ 4 ∷ 8 ∷ 6 ∷ 2 ∷ 5 ∷ 1 ∷ 0 ∷ []) $ by ! (exits r.refusal (done_s x-s r) zs.0 zs.1.1.1.1.1.0 (done_answer_is r w is) (said_alone x-store x-s x-plots x-answer r zs.0 zs.1.1.1.1.1.0 (eqb-true x-s.count 0 (is_true (eqb x-s.count 0) on)) e) l-store l-answer)))))))))
-        -- it carries own writes
-        (λ past. let En : Env 𝓤 H = ((_, l-0) ∷ (_, l-1) ∷ (_, l-2) ∷ (_, l-3) ∷ (_, l-4) ∷ (_, l-5) ∷ (_, l-6) ∷ (_, l-7) ∷ (_, l-8) ∷ (_, l-9) ∷ (_, l-10) ∷ (_, l-11) ∷ (_, l-12) ∷ (_, l-13) ∷ (_, l-14) ∷ (_, l-15) ∷ (_, l-16) ∷ (_, l-17) ∷ (_, l-18) ∷ (_, l-19) ∷ (_, l-20) ∷ (_, l-21) ∷ (_, l-22) ∷ []) in skips ! $ exec ! C Λ En pieces.t-4 (at_ret En Post) $
-        assigns ! (addr ! (from ! (fld ! refl (hop ! (look_in ! 54 (sub ! 0 refl (whole !))) (stop !))))) (from ! (stop !)) (init ! 24 refl (tt, tt)) $ assigns ! (agg ! (and_then ! (load ! (from ! (stop !)) (look ! 24 refl)) (and_then ! (load ! (from ! (fld ! refl (stop !))) (look_in ! 54 (sub ! 1 refl (whole !)))) (no_more !)))) (from ! (stop !)) (init ! 22 refl (tt, (tt, (record { fits = room_store.0 }, tt)))) $ assigns ! (of_opd ! (load ! (from ! (hop ! (look ! 52 refl) (stop !))) (look_raw ! 3 refl))) (from ! (stop !)) (init ! 20 refl ((LL.lawful T-Session.the_type T-Session'.the_laws 𝓛).typed x-s _ g-s).0) $ assigns ! (addr ! (from ! (fld ! refl (hop ! (look_in ! 48 (sub ! 0 refl (whole !))) (stop !))))) (from ! (stop !)) (init ! 18 refl (tt, tt)) $ assigns ! (agg ! (and_then ! (load ! (from ! (stop !)) (look ! 18 refl)) (and_then ! (load ! (from ! (fld ! refl (stop !))) (look_in ! 48 (sub ! 1 refl (whole !)))) (no_more !)))) (from ! (stop !)) (init ! 16 refl (tt, (tt, (record { fits = room-answer.0 }, tt)))) $ move ! (9 ∷ 8 ∷ 7 ∷ 11 ∷ 0 ∷ 10 ∷ []) $ move ! (4 ∷ 5 ∷ []) $ join ! $ move ! (1 ∷ 2 ∷ 3 ∷ 4 ∷ 0 ∷ []) $ move ! (3 ∷ 4 ∷ []) $ join ! $ move ! (1 ∷ 2 ∷ 3 ∷ 0 ∷ []) $ move ! (2 ∷ 3 ∷ []) $ join ! $ move ! (1 ∷ 2 ∷ 0 ∷ []) $ move ! (1 ∷ 2 ∷ []) $ join ! $ move ! (1 ∷ 0 ∷ []) $ move ! (0 ∷ 1 ∷ []) $ join ! $ move ! (0 ∷ []) $ use1 𝓛 (raw ((Carrying 𝓛 at_mem run).pre to_carrying)) (goes_carrying g-s) $
-        calls_at ! fm (Carrying 𝓛 at_mem run) known-carrying to_carrying (and_then ! (load ! (from ! (stop !)) (look ! 17 refl)) (and_then ! (load ! (from ! (stop !)) (look ! 15 refl)) (and_then ! (load ! (from ! (stop !)) (look ! 45 refl)) (and_then ! (load ! (from ! (stop !)) (look ! 11 refl)) (no_more !))))) (λ w.
-        use1 𝓛 (later (some (λ (r : JointLeft). ((‵ (flft κ-store q-store) ⊛ (‵ (flft κ-plots q-plots) ⊛ (‵ (flft κ-answer q-answer) ⊛ ‵ ftrue))) ⊛ ‵ ((T-JointLeft.the_row).own_val r (w ∷ []))) ⊛ raw (ensured 𝓛 carrying.ended (carrying.clauses 𝓛 at_mem run) (κ-store, (κ-plots, (κ-answer, tt))) (ref_store, (x-s, (ref_plots, (ref_answer, tt)))) tt r)))) (id⊢ 𝓤 _) $ await ! tt $ pick ! (λ r. split ! $ move ! (1 ∷ []) $ use1 𝓛 (some (λ (zs : List ℕ × (Unit {0} × (Unit {0} × (List ℕ × Unit {0})))). ‵ (lasts carrying.ended (κ-store, (κ-plots, (κ-answer, tt))) (ref_store, (x-s, (ref_plots, (ref_answer, tt)))) zs) ⊛ raw (fact 𝓤 (CarryingSays x-store x-s x-plots x-answer r zs.0 zs.1.1.1.0)))) (id⊢ 𝓤 _) $ pick ! (λ zs. split ! $ move ! (1 ∷ []) $ heard ! (CarryingSays x-store x-s x-plots x-answer r zs.0 zs.1.1.1.0) (λ e. fsplit ! $ fsplit ! $ move ! (1 ∷ []) $ feq_l ! (λ l-store. move ! (1 ∷ []) $ fsplit ! $ move ! (1 ∷ []) $ fsplit ! $ move ! (1 ∷ []) $ fsplit ! $ fsplit ! $ move ! (1 ∷ []) $ feq_l ! (λ l-answer. move ! (1 ∷ []) $ drop ! $ move ! (2 ∷ []) $ drop ! $ move ! (1 ∷ []) $ drop ! $ move ! (2 ∷ []) $ split ! $ move ! (1 ∷ []) $ peeks ! T-JointLeft.the_row (Is T-JointLeft.the_row) (shows 𝓛 T-JointLeft.the_row) r (w ∷ []) (λ is.
-        -- [result; btoks; fin:answer; fin:store; own:plots; held:s; cell:s; obor:s; obs:s; auth:s; 10: _22; 12: _21; 14: _20; 16: _19; 18: _18; 20: _17; 22: _16; 24: _15; 26: _14; 28: _13; 30: _12; 32: _11; 34: _10; 36: _9; 38: _8; 40: _7; 42: _6; 44: _5; 46: _4; 48: _3; 50: _2; 52: _1; 54: _0]
-        land ! (from ! (stop !)) (init ! 42 refl ((LL.lawful T-JointLeft.the_type T-JointLeft'.the_laws 𝓛).typed r _ is).0) $ rewrite ! 42 (λ (u : Val). ‵ (fat full_share T-JointLeft'.mir l-6 0 u)) (ap only (LL.tells T-JointLeft.the_type T-JointLeft'.the_laws r _ is)) refl $
-        assigns ! (of_opd ! (load ! (from ! (fld ! refl (stop !))) (look_in ! 42 (sub ! 4 refl (whole !))))) (from ! (stop !)) (store ! 38 refl (tt, tt)) $
-        first ! $ branches ! {y = r.moved} (load ! (from ! (stop !)) (look ! 38 refl))
-        -- some move
-        (λ moves. assigns ! (of_opd ! (load ! (from ! (hop ! (look ! 50 refl) (stop !))) (look_raw ! 6 refl))) (from ! (stop !)) (init ! 10 refl ((LL.lawful T-Session.the_type T-Session'.the_laws 𝓛).typed x-s _ g-s).0) $ nothing ! $ use1 𝓛 (raw ((Moved 𝓛 at_mem run).pre (to_moved r))) (goes_moved r w g-s is (e.0 (is_true r.moved moves))) $
-        calls_at ! fm (Moved 𝓛 at_mem run) known-moved (to_moved r) (and_then ! (load ! (from ! (stop !)) (look ! 11 refl)) (and_then ! (load ! (from ! (fld ! refl (stop !))) (look_in ! 43 (sub ! 1 refl (whole !)))) (and_then ! (load ! (from ! (fld ! refl (stop !))) (look_in ! 43 (sub ! 2 refl (whole !)))) (and_then ! (load ! (from ! (fld ! refl (stop !))) (look_in ! 43 (sub ! 3 refl (whole !)))) (and_then ! (load ! (from ! (fld ! refl (stop !))) (look_in ! 43 (sub ! 5 refl (whole !)))) (no_more !)))))) (λ v.
-        use1 𝓛 (later (some (λ (t : Session). (‵ ftrue ⊛ ‵ ((T-Session.the_row).own_val t (v ∷ []))) ⊛ raw (ensured 𝓛 moved.ended (moved.clauses 𝓛 at_mem run) tt (x-s, (r.clock, (r.read, (r.count, (r.gone, tt))))) tt t)))) (id⊢ 𝓤 _) $ await ! tt $ pick ! (λ t. split ! $ move ! (1 ∷ []) $ use1 𝓛 (some (λ (ys : Unit {0} × (Unit {0} × (Unit {0} × (Unit {0} × (Unit {0} × Unit {0}))))). ‵ (lasts moved.ended tt (x-s, (r.clock, (r.read, (r.count, (r.gone, tt))))) ys) ⊛ raw (fact 𝓤 (MovedSays x-s r t)))) (id⊢ 𝓤 _) $ pick ! (λ ys. split ! $ move ! (1 ∷ []) $ heard ! (MovedSays x-s r t) (λ m. drop ! $ split ! $ drop ! $ peeks ! T-Session.the_row (Is T-Session.the_row) (shows 𝓛 T-Session.the_row) t (v ∷ []) (λ is-t.
-        -- [mresult; result; btoks; fin:answer; fin:store; own:plots; held:s; cell:s; obor:s; obs:s; auth:s; 11: _22; 13: _21; 15: _20; 17: _19; 19: _18; 21: _17; 23: _16; 25: _15; 27: _14; 29: _13; 31: _12; 33: _11; 35: _10; 37: _9; 39: _8; 41: _7; 43: _6; 45: _5; 47: _4; 49: _3; 51: _2; 53: _1; 55: _0]
-        land ! (from ! (stop !)) (init ! 13 refl ((LL.lawful T-Session.the_type T-Session'.the_laws 𝓛).typed t _ is-t).0) $ rewrite ! 13 (λ (u : Val). ‵ (fat full_share T-Session'.mir l-21 0 u)) (ap only (LL.tells T-Session.the_type T-Session'.the_laws t _ is-t)) refl $
-        assigns ! (of_opd ! (load ! (from ! (stop !)) (look ! 13 refl))) (from ! (hop ! (look ! 51 refl) (stop !))) (store_raw ! 7 refl ((LL.lawful T-Session.the_type T-Session'.the_laws 𝓛).typed t _ (session_is t v is-t)).0) $
-        assigns ! (of_opd ! (load ! (from ! (fld ! refl (stop !))) (look_in ! 43 (sub ! 0 refl (whole !))))) (from ! (stop !)) (init ! 55 refl ((uint_Lawful 𝓛 w32).typed r.refusal _ (left_answer_is r w is)).0) $ drop ! $ move ! (5 ∷ []) $ drop ! $ owned ! T-Session.the_row (Is T-Session.the_row) (LL.makes T-Session.the_type T-Session'.the_plain 𝓛) t _ (session_is t v is-t) $ move ! (6 ∷ 0 ∷ 7 ∷ 8 ∷ 9 ∷ []) $ closes ! tt T-Session.the_row t (LL.val T-Session.the_type T-Session'.the_laws t ∷ []) b_s o-s $ move ! (4 ∷ []) $ split ! $ move ! (1 ∷ []) $ split ! $ move ! (1 ∷ []) $ split ! $ move ! (1 ∷ []) $ drop ! $ move ! (6 ∷ []) $ drop ! $
-        -- [tok:answer; tok:plots; tok:store; obs:s; bor:s; tok:s; fin:answer; fin:store; own:plots; 9: _22; 11: _21; 13: _20; 15: _19; 17: _18; 19: _17; 21: _16; 23: _15; 25: _14; 27: _13; 29: _12; 31: _11; 33: _10; 35: _9; 37: _8; 39: _7; 41: _6; 43: _5; 45: _4; 47: _3; 49: _2; 51: _1; 53: _0]
-        returns_within ! Post refl (look ! 53 refl) $ forget ! 9 refl $ forget ! 11 refl $ forget ! 13 refl $ forget ! 15 refl $ forget ! 17 refl $ forget ! 19 refl $ forget ! 21 refl $ forget ! 37 refl $ forget ! 39 refl $ forget ! 41 refl $ forget ! 45 refl $ forget ! 47 refl $ forget ! 49 refl $ forget ! 51 refl $ forget ! 53 refl $ move ! (53 ∷ 54 ∷ []) $ free1 ! $ move ! (51 ∷ 52 ∷ []) $ free1 ! $ move ! (49 ∷ 50 ∷ []) $ free1 ! $ move ! (47 ∷ 48 ∷ []) $ free1 ! $ move ! (45 ∷ 46 ∷ []) $ free1 ! $ move ! (43 ∷ 44 ∷ []) $ free1 ! $ move ! (41 ∷ 42 ∷ []) $ free1 ! $ move ! (39 ∷ 40 ∷ []) $ free1 ! $ move ! (37 ∷ 38 ∷ []) $ free1 ! $ move ! (35 ∷ 36 ∷ []) $ free1 ! $ move ! (33 ∷ 34 ∷ []) $ free1 ! $ move ! (31 ∷ 32 ∷ []) $ free1 ! $ move ! (29 ∷ 30 ∷ []) $ free1 ! $ move ! (27 ∷ 28 ∷ []) $ free1 ! $ move ! (25 ∷ 26 ∷ []) $ free1 ! $ move ! (23 ∷ 24 ∷ []) $ free1 ! $ move ! (21 ∷ 22 ∷ []) $ free1 ! $ move ! (19 ∷ 20 ∷ []) $ free1 ! $ move ! (17 ∷ 18 ∷ []) $ free1 ! $ move ! (15 ∷ 16 ∷ []) $ free1 ! $ move ! (13 ∷ 14 ∷ []) $ free1 ! $ move ! (11 ∷ 12 ∷ []) $ free1 ! $ move ! (9 ∷ 10 ∷ []) $ free1 ! $ free0 ! $ keep ! (7 ∷ 3 ∷ 4 ∷ 8 ∷ 6 ∷ 2 ∷ 5 ∷ 1 ∷ 0 ∷ []) $ by ! (exits r.refusal t zs.0 zs.1.1.1.0 (left_answer_is r w is) (said_moved x-store x-s x-plots x-answer r t zs.0 zs.1.1.1.0 (is_true r.moved moves) m e) l-store l-answer)))))))
-        -- none moves
-        (λ stays. skips ! $ exec ! C Λ En pieces.t-12 (at_ret En Post) $
-        assigns ! (of_opd ! (load ! (from ! (fld ! refl (stop !))) (look_in ! 42 (sub ! 1 refl (whole !))))) (from ! (hop ! (look ! 50 refl) (fld ! refl (stop !)))) (store_in ! 6 (sub ! 1 refl (whole !)) (((T-JointLeft'.the_laws).1.0.lawful 𝓛).typed ((T-JointLeft.the_type).to r).1.0 _ (LL.owed T-JointLeft.the_type T-JointLeft'.the_laws r (w ∷ []) is).1.0).0) $
-        assigns ! (of_opd ! (load ! (from ! (fld ! refl (stop !))) (look_in ! 42 (sub ! 2 refl (whole !))))) (from ! (hop ! (look ! 50 refl) (fld ! refl (stop !)))) (store_in ! 6 (sub ! 2 refl (whole !)) (((T-JointLeft'.the_laws).1.1.0.lawful 𝓛).typed ((T-JointLeft.the_type).to r).1.1.0 _ (LL.owed T-JointLeft.the_type T-JointLeft'.the_laws r (w ∷ []) is).1.1.0).0) $
-        assigns ! (of_opd ! (load ! (from ! (fld ! refl (stop !))) (look_in ! 42 (sub ! 3 refl (whole !))))) (from ! (hop ! (look ! 50 refl) (fld ! refl (stop !)))) (store_in ! 6 (sub ! 3 refl (whole !)) (((T-JointLeft'.the_laws).1.1.1.0.lawful 𝓛).typed ((T-JointLeft.the_type).to r).1.1.1.0 _ (LL.owed T-JointLeft.the_type T-JointLeft'.the_laws r (w ∷ []) is).1.1.1.0).0) $
-        assigns ! (of_opd ! (load ! (from ! (fld ! refl (stop !))) (look_in ! 42 (sub ! 0 refl (whole !))))) (from ! (stop !)) (init ! 54 refl ((uint_Lawful 𝓛 w32).typed r.refusal _ (left_answer_is r w is)).0) $ move ! (5 ∷ []) $ drop ! $ owned ! T-Session.the_row (Is T-Session.the_row) (LL.makes T-Session.the_type T-Session'.the_plain 𝓛) (next_s x-s r) _ (next_s_is x-s r w g-s is) $ move ! (6 ∷ 0 ∷ 7 ∷ 8 ∷ 9 ∷ []) $ closes ! tt T-Session.the_row (next_s x-s r) (LL.val T-Session.the_type T-Session'.the_laws (next_s x-s r) ∷ []) b_s o-s $ move ! (4 ∷ []) $ split ! $ move ! (1 ∷ []) $ split ! $ move ! (1 ∷ []) $ split ! $ move ! (1 ∷ []) $ drop ! $ move ! (6 ∷ []) $ drop ! $
-        -- [tok:answer; tok:plots; tok:store; obs:s; bor:s; tok:s; fin:answer; fin:store; own:plots; 9: _22; 11: _21; 13: _20; 15: _19; 17: _18; 19: _17; 21: _16; 23: _15; 25: _14; 27: _13; 29: _12; 31: _11; 33: _10; 35: _9; 37: _8; 39: _7; 41: _6; 43: _5; 45: _4; 47: _3; 49: _2; 51: _1; 53: _0]
-        returns ! (look ! 53 refl) $ forget ! 13 refl $ forget ! 15 refl $ forget ! 17 refl $ forget ! 19 refl $ forget ! 21 refl $ forget ! 37 refl $ forget ! 39 refl $ forget ! 41 refl $ forget ! 45 refl $ forget ! 47 refl $ forget ! 49 refl $ forget ! 51 refl $ forget ! 53 refl $ move ! (53 ∷ 54 ∷ []) $ free1 ! $ move ! (51 ∷ 52 ∷ []) $ free1 ! $ move ! (49 ∷ 50 ∷ []) $ free1 ! $ move ! (47 ∷ 48 ∷ []) $ free1 ! $ move ! (45 ∷ 46 ∷ []) $ free1 ! $ move ! (43 ∷ 44 ∷ []) $ free1 ! $ move ! (41 ∷ 42 ∷ []) $ free1 ! $ move ! (39 ∷ 40 ∷ []) $ free1 ! $ move ! (37 ∷ 38 ∷ []) $ free1 ! $ move ! (35 ∷ 36 ∷ []) $ free1 ! $ move ! (33 ∷ 34 ∷ []) $ free1 ! $ move ! (31 ∷ 32 ∷ []) $ free1 ! $ move ! (29 ∷ 30 ∷ []) $ free1 ! $ move ! (27 ∷ 28 ∷ []) $ free1 ! $ move ! (25 ∷ 26 ∷ []) $ free1 ! $ move ! (23 ∷ 24 ∷ []) $ free1 ! $ move ! (21 ∷ 22 ∷ []) $ free1 ! $ move ! (19 ∷ 20 ∷ []) $ free1 ! $ move ! (17 ∷ 18 ∷ []) $ free1 ! $ move ! (15 ∷ 16 ∷ []) $ free1 ! $ move ! (13 ∷ 14 ∷ []) $ free1 ! $ move ! (11 ∷ 12 ∷ []) $ free1 ! $ move ! (9 ∷ 10 ∷ []) $ free1 ! $ free0 ! $ keep ! (7 ∷ 3 ∷ 4 ∷ 8 ∷ 6 ∷ 2 ∷ 5 ∷ 1 ∷ 0 ∷ []) $ by ! (exits r.refusal (next_s x-s r) zs.0 zs.1.1.1.0 (left_answer_is r w is) (said_next x-store x-s x-plots x-answer r zs.0 zs.1.1.1.0 (is_false r.moved stays) e) l-store l-answer)))))))))))))))))))))))))))))))))))
+        -- [result:; btoks; fin:answer; fin:store; own:plots; held:s; cell:s; obor:s; obs:s; auth:s; 10: _20; 12: _19; 14: _18; 16: _17; 18: _16; 20: _15; 22: _14; 24: _13; 26: _12; 28: _11; 30: _10; 32: _9; 34: _8; 36: _7; 38: _6; 40: _5; 42: _4; 44: _3; 46: _2; 48: _1; 50: _0]
+        land_last ! (from ! (stop !)) (init ! 34 refl ((LL.lawful T-JointDone.the_type T-JointDone'.the_laws 𝓛).typed r _ is).0) $ exec ! C Λ ((_, l-0) ∷ (_, l-1) ∷ (_, l-2) ∷ (_, l-3) ∷ (_, l-4) ∷ (_, l-5) ∷ (_, l-6) ∷ (_, l-7) ∷ (_, l-8) ∷ (_, l-9) ∷ (_, l-10) ∷ (_, l-11) ∷ (_, l-12) ∷ (_, l-13) ∷ (_, l-14) ∷ (_, l-15) ∷ (_, l-16) ∷ (_, l-17) ∷ (_, l-18) ∷ (_, l-19) ∷ (_, l-20) ∷ []) pieces.t-4 (at_ret _ Post) $
+        assigns ! (of_opd ! (load ! (from ! (stop !)) (look ! 34 refl))) (from ! (stop !)) (init ! 40 refl ((LL.lawful T-JointDone.the_type T-JointDone'.the_laws 𝓛).typed r _ is).0) $ rewrite ! 40 (λ (u : Val). ‵ (fat full_share T-JointDone'.mir l-5 0 u)) (ap only (LL.tells T-JointDone.the_type T-JointDone'.the_laws r _ is)) refl $
+        assigns ! (of_opd ! (load ! (from ! (fld ! refl (stop !))) (look_in ! 40 (sub ! 1 refl (whole !))))) (from ! (hop ! (look ! 46 refl) (fld ! refl (stop !)))) (store_in ! 6 (sub ! 1 refl (whole !)) (((T-JointDone'.the_laws).1.0.lawful 𝓛).typed ((T-JointDone.the_type).to r).1.0 _ (LL.owed T-JointDone.the_type T-JointDone'.the_laws r (w ∷ []) is).1.0).0) $
+        assigns ! (of_opd ! (load ! (from ! (fld ! refl (stop !))) (look_in ! 40 (sub ! 2 refl (whole !))))) (from ! (hop ! (look ! 46 refl) (fld ! refl (stop !)))) (store_in ! 6 (sub ! 2 refl (whole !)) (((T-JointDone'.the_laws).1.1.0.lawful 𝓛).typed ((T-JointDone.the_type).to r).1.1.0 _ (LL.owed T-JointDone.the_type T-JointDone'.the_laws r (w ∷ []) is).1.1.0).0) $
+        assigns ! (of_opd ! (load ! (from ! (fld ! refl (stop !))) (look_in ! 40 (sub ! 0 refl (whole !))))) (from ! (stop !)) (init ! 50 refl ((uint_Lawful 𝓛 w32).typed r.refusal _ (result_is r w is)).0) $ move ! (5 ∷ []) $ drop ! $ owned ! T-Session.the_row (Is T-Session.the_row) (LL.makes T-Session.the_type T-Session'.the_plain 𝓛) (next_s x-s r) _ (next_s_is x-s r w g-s is) $ move ! (6 ∷ 0 ∷ 7 ∷ 8 ∷ 9 ∷ []) $ closes ! tt T-Session.the_row (next_s x-s r) (LL.val T-Session.the_type T-Session'.the_laws (next_s x-s r) ∷ []) b_s o-s $ move ! (4 ∷ []) $ split ! $ move ! (1 ∷ []) $ split ! $ move ! (1 ∷ []) $ split ! $ move ! (1 ∷ []) $ drop ! $ move ! (6 ∷ []) $ drop ! $
+        -- [tok:answer; tok:plots; tok:store; obs:s; bor:s; tok:s; fin:answer; fin:store; own:plots; 9: _20; 11: _19; 13: _18; 15: _17; 17: _16; 19: _15; 21: _14; 23: _13; 25: _12; 27: _11; 29: _10; 31: _9; 33: _8; 35: _7; 37: _6; 39: _5; 41: _4; 43: _3; 45: _2; 47: _1; 49: _0]
+        returns ! (look ! 49 refl) $ forget ! 19 refl $ forget ! 21 refl $ forget ! 23 refl $ forget ! 25 refl $ forget ! 27 refl $ forget ! 29 refl $ forget ! 31 refl $ forget ! 33 refl $ forget ! 35 refl $ forget ! 37 refl $ forget ! 39 refl $ forget ! 41 refl $ forget ! 43 refl $ forget ! 45 refl $ forget ! 47 refl $ forget ! 49 refl $ move ! (49 ∷ 50 ∷ []) $ free1 ! $ move ! (47 ∷ 48 ∷ []) $ free1 ! $ move ! (45 ∷ 46 ∷ []) $ free1 ! $ move ! (43 ∷ 44 ∷ []) $ free1 ! $ move ! (41 ∷ 42 ∷ []) $ free1 ! $ move ! (39 ∷ 40 ∷ []) $ free1 ! $ move ! (37 ∷ 38 ∷ []) $ free1 ! $ move ! (35 ∷ 36 ∷ []) $ free1 ! $ move ! (33 ∷ 34 ∷ []) $ free1 ! $ move ! (31 ∷ 32 ∷ []) $ free1 ! $ move ! (29 ∷ 30 ∷ []) $ free1 ! $ move ! (27 ∷ 28 ∷ []) $ free1 ! $ move ! (25 ∷ 26 ∷ []) $ free1 ! $ move ! (23 ∷ 24 ∷ []) $ free1 ! $ move ! (21 ∷ 22 ∷ []) $ free1 ! $ move ! (19 ∷ 20 ∷ []) $ free1 ! $ move ! (17 ∷ 18 ∷ []) $ free1 ! $ move ! (15 ∷ 16 ∷ []) $ free1 ! $ move ! (13 ∷ 14 ∷ []) $ free1 ! $ move ! (11 ∷ 12 ∷ []) $ free1 ! $ move ! (9 ∷ 10 ∷ []) $ free1 ! $ free0 ! $ keep ! (7 ∷ 3 ∷ 4 ∷ 8 ∷ 6 ∷ 2 ∷ 5 ∷ 1 ∷ 0 ∷ []) $ by ! (exits r w zs.0 zs.1.1.1.1.1.0 g-s (said_alone x-store x-s x-plots x-answer r zs.0 zs.1.1.1.1.1.0 (eqb-true x-s.count 0 (is_true (eqb x-s.count 0) on)) e) l-store l-answer is)))))))))
+        -- carrying
+        (λ past. assigns ! (addr ! (from ! (fld ! refl (hop ! (look_in ! 50 (sub ! 0 refl (whole !))) (stop !))))) (from ! (stop !)) (init ! 20 refl (tt, tt)) $ assigns ! (agg ! (and_then ! (load ! (from ! (stop !)) (look ! 20 refl)) (and_then ! (load ! (from ! (fld ! refl (stop !))) (look_in ! 50 (sub ! 1 refl (whole !)))) (no_more !)))) (from ! (stop !)) (init ! 18 refl (tt, (tt, (record { fits = room_store.0 }, tt)))) $ assigns ! (of_opd ! (load ! (from ! (hop ! (look ! 48 refl) (stop !))) (look_raw ! 3 refl))) (from ! (stop !)) (init ! 16 refl ((LL.lawful T-Session.the_type T-Session'.the_laws 𝓛).typed x-s _ g-s).0) $ assigns ! (addr ! (from ! (fld ! refl (hop ! (look_in ! 44 (sub ! 0 refl (whole !))) (stop !))))) (from ! (stop !)) (init ! 14 refl (tt, tt)) $ assigns ! (agg ! (and_then ! (load ! (from ! (stop !)) (look ! 14 refl)) (and_then ! (load ! (from ! (fld ! refl (stop !))) (look_in ! 44 (sub ! 1 refl (whole !)))) (no_more !)))) (from ! (stop !)) (init ! 12 refl (tt, (tt, (record { fits = room-answer.0 }, tt)))) $ move ! (9 ∷ 8 ∷ 7 ∷ 11 ∷ 0 ∷ 10 ∷ []) $ move ! (4 ∷ 5 ∷ []) $ join ! $ move ! (1 ∷ 2 ∷ 3 ∷ 4 ∷ 0 ∷ []) $ move ! (3 ∷ 4 ∷ []) $ join ! $ move ! (1 ∷ 2 ∷ 3 ∷ 0 ∷ []) $ move ! (2 ∷ 3 ∷ []) $ join ! $ move ! (1 ∷ 2 ∷ 0 ∷ []) $ move ! (1 ∷ 2 ∷ []) $ join ! $ move ! (1 ∷ 0 ∷ []) $ move ! (0 ∷ 1 ∷ []) $ join ! $ move ! (0 ∷ []) $ use1 𝓛 (raw ((Carrying 𝓛 at_mem run).pre to_carrying)) (goes_carrying g-s) $
+        calls_at_last ! fm (Carrying 𝓛 at_mem run) known-carrying to_carrying (and_then ! (load ! (from ! (stop !)) (look ! 13 refl)) (and_then ! (load ! (from ! (stop !)) (look ! 11 refl)) (and_then ! (load ! (from ! (stop !)) (look ! 41 refl)) (and_then ! (load ! (from ! (stop !)) (look ! 7 refl)) (no_more !))))) (λ w.
+        use1 𝓛 (later (some (λ (r : JointDone). ((‵ (flft κ-store q-store) ⊛ (‵ (flft κ-plots q-plots) ⊛ (‵ (flft κ-answer q-answer) ⊛ ‵ ftrue))) ⊛ ‵ ((T-JointDone.the_row).own_val r (w ∷ []))) ⊛ raw (ensured 𝓛 carrying.ended (carrying.clauses 𝓛 at_mem run) (κ-store, (κ-plots, (κ-answer, tt))) (ref_store, (x-s, (ref_plots, (ref_answer, tt)))) tt r)))) (id⊢ 𝓤 _) $ await ! tt $ pick ! (λ r. split ! $ move ! (1 ∷ []) $ use1 𝓛 (some (λ (zs : List ℕ × (Unit {0} × (Unit {0} × (List ℕ × Unit {0})))). ‵ (lasts carrying.ended (κ-store, (κ-plots, (κ-answer, tt))) (ref_store, (x-s, (ref_plots, (ref_answer, tt)))) zs) ⊛ raw (fact 𝓤 (CarryingSays x-store x-s x-plots x-answer r zs.0 zs.1.1.1.0)))) (id⊢ 𝓤 _) $ pick ! (λ zs. split ! $ move ! (1 ∷ []) $ heard ! (CarryingSays x-store x-s x-plots x-answer r zs.0 zs.1.1.1.0) (λ e. fsplit ! $ fsplit ! $ move ! (1 ∷ []) $ feq_l ! (λ l-store. move ! (1 ∷ []) $ fsplit ! $ move ! (1 ∷ []) $ fsplit ! $ move ! (1 ∷ []) $ fsplit ! $ fsplit ! $ move ! (1 ∷ []) $ feq_l ! (λ l-answer. move ! (1 ∷ []) $ drop ! $ move ! (2 ∷ []) $ drop ! $ move ! (1 ∷ []) $ drop ! $ move ! (2 ∷ []) $ split ! $ move ! (1 ∷ []) $ peeks ! T-JointDone.the_row (Is T-JointDone.the_row) (shows 𝓛 T-JointDone.the_row) r (w ∷ []) (λ is.
+        -- [result:; btoks; fin:answer; fin:store; own:plots; held:s; cell:s; obor:s; obs:s; auth:s; 10: _20; 12: _19; 14: _18; 16: _17; 18: _16; 20: _15; 22: _14; 24: _13; 26: _12; 28: _11; 30: _10; 32: _9; 34: _8; 36: _7; 38: _6; 40: _5; 42: _4; 44: _3; 46: _2; 48: _1; 50: _0]
+        land_last ! (from ! (stop !)) (init ! 34 refl ((LL.lawful T-JointDone.the_type T-JointDone'.the_laws 𝓛).typed r _ is).0) $ exec ! C Λ ((_, l-0) ∷ (_, l-1) ∷ (_, l-2) ∷ (_, l-3) ∷ (_, l-4) ∷ (_, l-5) ∷ (_, l-6) ∷ (_, l-7) ∷ (_, l-8) ∷ (_, l-9) ∷ (_, l-10) ∷ (_, l-11) ∷ (_, l-12) ∷ (_, l-13) ∷ (_, l-14) ∷ (_, l-15) ∷ (_, l-16) ∷ (_, l-17) ∷ (_, l-18) ∷ (_, l-19) ∷ (_, l-20) ∷ []) pieces.t-4 (at_ret _ Post) $
+        assigns ! (of_opd ! (load ! (from ! (stop !)) (look ! 34 refl))) (from ! (stop !)) (init ! 40 refl ((LL.lawful T-JointDone.the_type T-JointDone'.the_laws 𝓛).typed r _ is).0) $ rewrite ! 40 (λ (u : Val). ‵ (fat full_share T-JointDone'.mir l-5 0 u)) (ap only (LL.tells T-JointDone.the_type T-JointDone'.the_laws r _ is)) refl $
+        assigns ! (of_opd ! (load ! (from ! (fld ! refl (stop !))) (look_in ! 40 (sub ! 1 refl (whole !))))) (from ! (hop ! (look ! 46 refl) (fld ! refl (stop !)))) (store_in ! 6 (sub ! 1 refl (whole !)) (((T-JointDone'.the_laws).1.0.lawful 𝓛).typed ((T-JointDone.the_type).to r).1.0 _ (LL.owed T-JointDone.the_type T-JointDone'.the_laws r (w ∷ []) is).1.0).0) $
+        assigns ! (of_opd ! (load ! (from ! (fld ! refl (stop !))) (look_in ! 40 (sub ! 2 refl (whole !))))) (from ! (hop ! (look ! 46 refl) (fld ! refl (stop !)))) (store_in ! 6 (sub ! 2 refl (whole !)) (((T-JointDone'.the_laws).1.1.0.lawful 𝓛).typed ((T-JointDone.the_type).to r).1.1.0 _ (LL.owed T-JointDone.the_type T-JointDone'.the_laws r (w ∷ []) is).1.1.0).0) $
+        assigns ! (of_opd ! (load ! (from ! (fld ! refl (stop !))) (look_in ! 40 (sub ! 0 refl (whole !))))) (from ! (stop !)) (init ! 50 refl ((uint_Lawful 𝓛 w32).typed r.refusal _ (result_is r w is)).0) $ move ! (5 ∷ []) $ drop ! $ owned ! T-Session.the_row (Is T-Session.the_row) (LL.makes T-Session.the_type T-Session'.the_plain 𝓛) (next_s x-s r) _ (next_s_is x-s r w g-s is) $ move ! (6 ∷ 0 ∷ 7 ∷ 8 ∷ 9 ∷ []) $ closes ! tt T-Session.the_row (next_s x-s r) (LL.val T-Session.the_type T-Session'.the_laws (next_s x-s r) ∷ []) b_s o-s $ move ! (4 ∷ []) $ split ! $ move ! (1 ∷ []) $ split ! $ move ! (1 ∷ []) $ split ! $ move ! (1 ∷ []) $ drop ! $ move ! (6 ∷ []) $ drop ! $
+        -- [tok:answer; tok:plots; tok:store; obs:s; bor:s; tok:s; fin:answer; fin:store; own:plots; 9: _20; 11: _19; 13: _18; 15: _17; 17: _16; 19: _15; 21: _14; 23: _13; 25: _12; 27: _11; 29: _10; 31: _9; 33: _8; 35: _7; 37: _6; 39: _5; 41: _4; 43: _3; 45: _2; 47: _1; 49: _0]
+        returns ! (look ! 49 refl) $ forget ! 9 refl $ forget ! 11 refl $ forget ! 13 refl $ forget ! 15 refl $ forget ! 17 refl $ forget ! 33 refl $ forget ! 35 refl $ forget ! 37 refl $ forget ! 39 refl $ forget ! 41 refl $ forget ! 43 refl $ forget ! 45 refl $ forget ! 47 refl $ forget ! 49 refl $ move ! (49 ∷ 50 ∷ []) $ free1 ! $ move ! (47 ∷ 48 ∷ []) $ free1 ! $ move ! (45 ∷ 46 ∷ []) $ free1 ! $ move ! (43 ∷ 44 ∷ []) $ free1 ! $ move ! (41 ∷ 42 ∷ []) $ free1 ! $ move ! (39 ∷ 40 ∷ []) $ free1 ! $ move ! (37 ∷ 38 ∷ []) $ free1 ! $ move ! (35 ∷ 36 ∷ []) $ free1 ! $ move ! (33 ∷ 34 ∷ []) $ free1 ! $ move ! (31 ∷ 32 ∷ []) $ free1 ! $ move ! (29 ∷ 30 ∷ []) $ free1 ! $ move ! (27 ∷ 28 ∷ []) $ free1 ! $ move ! (25 ∷ 26 ∷ []) $ free1 ! $ move ! (23 ∷ 24 ∷ []) $ free1 ! $ move ! (21 ∷ 22 ∷ []) $ free1 ! $ move ! (19 ∷ 20 ∷ []) $ free1 ! $ move ! (17 ∷ 18 ∷ []) $ free1 ! $ move ! (15 ∷ 16 ∷ []) $ free1 ! $ move ! (13 ∷ 14 ∷ []) $ free1 ! $ move ! (11 ∷ 12 ∷ []) $ free1 ! $ move ! (9 ∷ 10 ∷ []) $ free1 ! $ free0 ! $ keep ! (7 ∷ 3 ∷ 4 ∷ 8 ∷ 6 ∷ 2 ∷ 5 ∷ 1 ∷ 0 ∷ []) $ by ! (exits r w zs.0 zs.1.1.1.0 g-s e l-store l-answer is))))))))))))))))))))))))))))))))
 
 module _ {M : Type 1} {𝓤 : Ura M} (𝓛 : Logic 𝓤) (at_mem : Memory → SProp 𝓤) (run : Routine → Fun 𝓤) where
   open 𝓛 use {H}
 
-  walks : (C : Calls 𝓤 H) (Λ : Loops 𝓤 H) → FmC 𝓤 H 𝓛.laws C → Triple 𝓤 (C #host·joint-alone) (Alone 𝓛 at_mem run) → Triple 𝓤 (C #host·joint-by-value) (Carrying 𝓛 at_mem run) → Triple 𝓤 (C #host·moved-session) (Moved 𝓛 at_mem run) → Walks 𝓛 f.ended stayed (WpFn 𝓤 H C Λ code.function) (f.clauses 𝓛 at_mem run)
-  walks C Λ fm Known-alone known-carrying known-moved = walked 𝓛 f.ended stayed (f.clauses 𝓛 at_mem run) (WpFn 𝓤 H C Λ code.function) (λ κs. (mut_slice_vals, (mut_vals, (shr_slice_vals, (mut_slice_vals, tt))))) (λ κs. (mut_slice_Tells (named 0) κs.0 u32, (mut_Tells (named 1) κs.1.0 T-Session.the_row, (shr_slice_Tells (named 2) κs.1.1.0 u32, (mut_slice_Tells (named 3) κs.1.1.1.0 u32, tt)))))
-      (λ κs qs bounds a g are. via 𝓤 _ (fst∗ 𝓤 _ (emp 𝓤)) (walk 𝓛 at_mem run κs.0 qs.0 a.0.ref_ptr.0 a.0.ref_ptr.1 a.0.ghost_name a.0.now are.0.0.1 κs.1.0 qs.1.0 a.1.0.ref_ptr.0 a.1.0.ref_ptr.1 a.1.0.ghost_name a.1.0.now κs.1.1.0 qs.1.1.0 a.1.1.0.ref_ptr.0 a.1.1.0.ref_ptr.1 a.1.1.0.ghost_name a.1.1.0.now are.1.1.0.0.1 κs.1.1.1.0 qs.1.1.1.0 a.1.1.1.0.ref_ptr.0 a.1.1.1.0.ref_ptr.1 a.1.1.1.0.ghost_name a.1.1.1.0.now are.1.1.1.0.0.1 C Λ fm Known-alone known-carrying known-moved))
+  walks : (C : Calls 𝓤 H) (Λ : Loops 𝓤 H) → FmC 𝓤 H 𝓛.laws C → Triple 𝓤 (C #host·joint-alone) (Alone 𝓛 at_mem run) → Triple 𝓤 (C #host·joint-by-value) (Carrying 𝓛 at_mem run) → Walks 𝓛 f.ended stayed (WpFn 𝓤 H C Λ code.function) (f.clauses 𝓛 at_mem run)
+  walks C Λ fm Known-alone known-carrying = walked 𝓛 f.ended stayed (f.clauses 𝓛 at_mem run) (WpFn 𝓤 H C Λ code.function) (λ κs. (mut_slice_vals, (mut_vals, (shr_slice_vals, (mut_slice_vals, tt))))) (λ κs. (mut_slice_Tells (named 0) κs.0 u32, (mut_Tells (named 1) κs.1.0 T-Session.the_row, (shr_slice_Tells (named 2) κs.1.1.0 u32, (mut_slice_Tells (named 3) κs.1.1.1.0 u32, tt)))))
+      (λ κs qs bounds a g are. via 𝓤 _ (fst∗ 𝓤 _ (emp 𝓤)) (walk 𝓛 at_mem run κs.0 qs.0 a.0.ref_ptr.0 a.0.ref_ptr.1 a.0.ghost_name a.0.now are.0.0.1 κs.1.0 qs.1.0 a.1.0.ref_ptr.0 a.1.0.ref_ptr.1 a.1.0.ghost_name a.1.0.now κs.1.1.0 qs.1.1.0 a.1.1.0.ref_ptr.0 a.1.1.0.ref_ptr.1 a.1.1.0.ghost_name a.1.1.0.now are.1.1.0.0.1 κs.1.1.1.0 qs.1.1.1.0 a.1.1.1.0.ref_ptr.0 a.1.1.1.0.ref_ptr.1 a.1.1.1.0.ghost_name a.1.1.1.0.now are.1.1.1.0.0.1 C Λ fm Known-alone known-carrying))
 
   all_go : AllGo 𝓛 4 (f.signature).params (f.ended).kept stayed
   all_go = (Goes-gave_slice 𝓛 4 0 tt (plain (λ _. u32)), (Goes-ref 𝓛 4 1 tt (plain (λ _. T-Session.the_row)), (Goes-none_slice 𝓛 4 (2 ∷ []) tt (plain (λ _. u32)) yes, (Goes-gave_slice 𝓛 4 3 tt (plain (λ _. u32)), tt))))
 
-meets : {M : Type 1} {𝓤 : Ura M} (𝓛 : Logic 𝓤) → (at_mem : Memory → SProp 𝓤) (run : Routine → Fun 𝓤) (𝓣 : Tables 𝓤 𝓛.H) → Triple 𝓤 (𝓣.C #host·joint-alone) (Alone 𝓛 at_mem run) → Triple 𝓤 (𝓣.C #host·joint-by-value) (Carrying 𝓛 at_mem run) → Triple 𝓤 (𝓣.C #host·moved-session) (Moved 𝓛 at_mem run)
+meets : {M : Type 1} {𝓤 : Ura M} (𝓛 : Logic 𝓤) → (at_mem : Memory → SProp 𝓤) (run : Routine → Fun 𝓤) (𝓣 : Tables 𝓤 𝓛.H) → Triple 𝓤 (𝓣.C #host·joint-alone) (Alone 𝓛 at_mem run) → Triple 𝓤 (𝓣.C #host·joint-by-value) (Carrying 𝓛 at_mem run)
     → Meets 𝓛 f.signature (WpFn 𝓤 𝓛.H 𝓣.C 𝓣.Λ code.function) (f.spec 𝓛 at_mem run)
-meets {𝓤 = 𝓤} 𝓛 at_mem run 𝓣 Known-alone known-carrying known-moved =
+meets {𝓤 = 𝓤} 𝓛 at_mem run 𝓣 Known-alone known-carrying =
     walk_Meets 𝓛 f.ended stayed (all_go 𝓛 at_mem run) (f.clauses 𝓛 at_mem run)
-    (WpFn 𝓤 𝓛.H 𝓣.C 𝓣.Λ code.function) (WpFn-mono 𝓤 𝓛.H 𝓛.laws 𝓣 code.function) (walks 𝓛 at_mem run 𝓣.C 𝓣.Λ (fm_of 𝓤 𝓛.H 𝓛.laws 𝓣) Known-alone known-carrying known-moved)
+    (WpFn 𝓤 𝓛.H 𝓣.C 𝓣.Λ code.function) (WpFn-mono 𝓤 𝓛.H 𝓛.laws 𝓣 code.function) (walks 𝓛 at_mem run 𝓣.C 𝓣.Λ (fm_of 𝓤 𝓛.H 𝓛.laws 𝓣) Known-alone known-carrying)
 
 pub burial-lent-read-joint-spec : {M : Type 1} → stated.statement M
 unfolding code.routine tables_of
@@ -297,5 +209,4 @@ burial-lent-read-joint-spec 𝓤 𝓛 𝓜 𝓡 =
     (tables 𝓤 𝓛.H 𝓜 𝓡 code.env).C (tables 𝓤 𝓛.H 𝓜 𝓡 code.env).Λ #host·burial-lent-read-joint code.function (code.unfolded 𝓤 𝓛.H 𝓜 𝓡)
     (meets 𝓛 𝓜.mem 𝓡.run (tables_of 𝓤 𝓛.H 𝓜 (tables 𝓤 𝓛.H 𝓜 𝓡 code.env))
     (cited 𝓤 𝓛.H (Alone 𝓛 𝓜.mem 𝓡.run) 𝓜 𝓡 code.env #host·joint-alone alone-def.routine code.calls-host::lent::joint-alone (alone-thm.met 𝓤 𝓛 𝓜 𝓡))
-    (cited 𝓤 𝓛.H (Carrying 𝓛 𝓜.mem 𝓡.run) 𝓜 𝓡 code.env #host·joint-by-value carrying-def.routine code.calls-host::lent::joint-by-value (carrying-thm.met 𝓤 𝓛 𝓜 𝓡))
-    (cited 𝓤 𝓛.H (Moved 𝓛 𝓜.mem 𝓡.run) 𝓜 𝓡 code.env #host·moved-session moved-def.routine code.calls-host::lent::moved-session (moved-thm.met 𝓤 𝓛 𝓜 𝓡)))
+    (cited 𝓤 𝓛.H (Carrying 𝓛 𝓜.mem 𝓡.run) 𝓜 𝓡 code.env #host·joint-by-value carrying-def.routine code.calls-host::lent::joint-by-value (carrying-thm.met 𝓤 𝓛 𝓜 𝓡)))

@@ -1,6 +1,5 @@
 use mathlib.Core.Path.{ap, ◌∙◌}
-use Rattle.office.specs.declared.note.Seen.{Seen}
-use Rattle.reading.specs.Releases.{with_rest}
+use Rattle.office.specs.Decide.{with_seen}
 use borrow.Author.Rules.{rules}
 use Rattle.host.proofs.lent.joint_by_value.Statement.{statement}
 use Rattle.host.proofs.lent.joint_by_value.Tie as tie
@@ -18,12 +17,10 @@ same-length-2 : tie.Need-same-length-2
 same-length-2 c = search rules
 
 returns : tie.Need-returns
-returns c =
-    let d = c.before.before.before.before.joint-done.ensures in
-    let a = c.before.before.before.before.before.before.before.before.before.before.see-joint in
-    let e = a.ensures.1 in
-    let s = c.before.before.before.before.before.before.before.before.before.before.before.before.before.before.before.before.args.s in
-    (a.ensures.0, (d.0 ∙ e.0, ap (λ (x : Seen). with_rest s x a.result.rest) d.1 ∙ e.1, e.2, e.3))
+returns c = let d = c.joint-done.ensures in
+    let e = c.before.before.before.before.before.see-joint.ensures in
+    (d.0 ∙ e.0, ap (with_seen c.before.before.before.before.before.before.before.before.before.before.before.args.s) d.1 ∙ e.1, e.2, e.3)
 
 pub joint-by-value-spec : {M : Type 1} → statement M
-joint-by-value-spec = tie.close (tie.spec see-joint-requires joint-done-requires same_length same-length-2 returns)
+joint-by-value-spec =
+    tie.close (tie.spec see-joint-requires joint-done-requires same_length same-length-2 returns)

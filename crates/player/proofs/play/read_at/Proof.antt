@@ -1,10 +1,8 @@
-use Prim.Native.Nat.{◌*◌, ◌≤◌}
-use mathlib.Core.Bool.{true}
-use mathlib.Core.Path.{◌≡◌}
+use Prim.Native.Nat.{◌*◌}
 use native.Mathlib.Omega.{arith}
 use Rattle.frame.specs.Refusals.{code_of}
+use Rattle.office.specs.Decide.{with_seen}
 use Rattle.office.specs.Promises.{ReadPromise}
-use Rattle.reading.specs.Releases.{with_rest}
 use Rattle.player.proofs.Delivery as dl
 use borrow.Author.Rules.{rules}
 use Rattle.player.proofs.play.read_at.Statement.{statement}
@@ -40,7 +38,7 @@ returns c =
     let a = 1747 * z.args.office in
     let q = c.before.before.see-plot in
     dl.lent_at z.args.stores.now _ q.new.0 a (dl.lent_part z.args.stores.now a 1747)
-    (λ W X. (q.result.rest.moved ≡ true → z.args.s.count ≤ 16) × ReadPromise W z.args.s z.args.plot (code_of q.result.done.status) q.result.done.found q.result.done.entry (with_rest z.args.s q.result.done.seen q.result.rest) X)
+    (λ W X. ReadPromise W z.args.s z.args.plot (code_of q.result.status) q.result.found q.result.entry (with_seen z.args.s q.result.seen) X)
     q.ensures (omega (arith, z.requires.0, z.requires.1)) q.auto.0
 
 pub read-at-spec : {M : Type 1} → statement M

@@ -1,4 +1,4 @@
-use Rattle.reading.specs.Releases.{with_rest}
+use Rattle.office.specs.Decide.{with_seen}
 use Rattle.player.specs.Desks.{desk}
 use Rattle.player.proofs.LineRead as rd
 use borrow.Author.Rules.{rules}
@@ -33,29 +33,19 @@ same_length : tie.Need-same-length
 same_length c = search rules
 
 returns : tie.Need-returns
-returns c =
-    let z = c.before.before.before.before.before.before.before.before.before.before.before.before.before in
-    let q = c.before.before.before.before.before.before.before.before.before.read_at in
-    let d = q.result.done in (
-      q.ensures.0.0,
-      λ ss row lines g own S.
-          rd.line_refused g (desk ss z.args.board) z.args.stores.now lines S z.args.i z.requires.0 z.args.s own z.args.plot row d.status d.found d.entry
-          (with_rest z.args.s d.seen q.result.rest) q.new.0 q.ensures.0.1 q.ensures.1 c.before.before.status.given.0.0 c.number_of_lem.result c.before.before.status.given.1 c.number_of_lem.ensures,
-    )
+returns c = λ ss row lines g own S.
+    let z = c.before.before.before.before.before.before.before.before.before.before.before in
+    let q = c.before.before.before.before.before.before.before.read_at in
+    rd.line_refused g (desk ss z.args.board) z.args.stores.now lines S z.args.i z.requires.0 z.args.s own z.args.plot row q.result.status q.result.found q.result.entry (with_seen z.args.s q.result.seen) q.new.0 q.ensures.0 q.ensures.1 c.before.before.status.given.0.0 c.number_of_lem.result c.before.before.status.given.1 c.number_of_lem.ensures
 
 same-length-2 : tie.Need-same-length-2
 same-length-2 c = search rules
 
 returns-2 : tie.Need-returns-2
-returns-2 c =
-    let z = c.before.before.before.before.before.before.before.before.before.before.before.before.before in
-    let q = c.before.before.before.before.before.before.before.before.before.read_at in
-    let d = q.result.done in (
-      q.ensures.0.0,
-      λ ss row lines g own S.
-          rd.line_done g (desk ss z.args.board) z.args.stores.now lines S z.args.i z.requires.0 z.args.s own z.args.plot row d.status d.found d.entry
-          (with_rest z.args.s d.seen q.result.rest) q.new.0 q.ensures.0.1 q.ensures.1 c.reply-of.result c.before.before.enum_told.given.1 c.reply-of.ensures,
-    )
+returns-2 c = λ ss row lines g own S.
+    let z = c.before.before.before.before.before.before.before.before.before.before.before in
+    let q = c.before.before.before.before.before.before.before.read_at in
+    rd.line_done g (desk ss z.args.board) z.args.stores.now lines S z.args.i z.requires.0 z.args.s own z.args.plot row q.result.status q.result.found q.result.entry (with_seen z.args.s q.result.seen) q.new.0 q.ensures.0 q.ensures.1 c.reply-of.result c.before.before.enum_told.given.1 c.reply-of.ensures
 
 pub read-line-spec : {M : Type 1} → statement M
 read-line-spec =

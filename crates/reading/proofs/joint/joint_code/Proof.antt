@@ -15,47 +15,40 @@ is-sound-requires c κs = search rules
 alone-code-requires : tie.Need-alone-code-requires
 alone-code-requires c κs = c.is-sound.ensures
 
-start-of-requires : tie.Need-start-of-requires
-start-of-requires c κs = c.alone-code.ensures
+start-code-requires : tie.Need-start-code-requires
+start-code-requires c κs = c.alone-code.ensures
 
 returns : tie.Need-returns
 unfolding joint_refusal content_of
 returns c = search (codes, arith) depth 9
 
 shared-slice-read-plots-ok : tie.Need-shared-slice-read-plots-ok
-shared-slice-read-plots-ok c =
-    let a = c.before.before.before.before in
-    let z = a.before.before.before.before.before.before.before in
-    omega (arith, (laid z.args.store.now (start_facts _ _ (sym a.start_of_lem.ensures.0 ∙ c.before.if1.false)).0).long)
+shared-slice-read-plots-ok c = omega (arith, (laid c.before.before.before.before.before.before.before.before.before.args.store.now (start_facts _ _ (sym c.before.before.start-code.ensures ∙ c.before.if1.false)).0).long)
 
 plots-ok-requires : tie.Need-plots-ok-requires
 plots-ok-requires c κs = search rules
 
 returns-2 : tie.Need-returns-2
 unfolding joint_refusal content_of
-returns-2 c = (search (codes, arith) depth 9, λ h. absurd (omega (arith, h)))
+returns-2 c = search (codes, arith) depth 9
 
 mul-if3 : tie.Need-overflow-mul-if3
 mul-if3 c = search rules
 
 returns-3 : tie.Need-returns-3
 unfolding joint_refusal content_of
-returns-3 c = (search (codes, arith) depth 9, λ h. absurd (omega (arith, h)))
+returns-3 c = search (codes, arith) depth 9
 
 held-all-requires : tie.Need-held-all-requires
-held-all-requires c κs =
-    let t = c.before.before.before.before in
-    (start_facts _ _ (sym t.before.before.before.start_of_lem.ensures.0 ∙ t.if1.false)).0
+held-all-requires c κs = (start_facts _ _ (sym c.before.before.before.before.before.start-code.ensures ∙ c.before.before.before.before.if1.false)).0
 
 returns-4 : tie.Need-returns-4
 unfolding joint_refusal content_of
-returns-4 c = (search (codes, arith) depth 9, λ h. absurd (omega (arith, h)))
+returns-4 c = search (codes, arith) depth 9
 
 returns-5 : tie.Need-returns-5
 unfolding joint_refusal content_of
-returns-5 c =
-    let t = c.before.before.before.before.before.before in
-    (search (codes, arith) depth 9, λ h. t.before.before.before.start_of_lem.ensures.1 t.if1.false)
+returns-5 c = search (codes, arith) depth 9
 
 pub joint-code-spec : {M : Type 1} → statement M
 joint-code-spec =
@@ -63,7 +56,7 @@ joint-code-spec =
     (tie.spec
     is-sound-requires
     alone-code-requires
-    start-of-requires
+    start-code-requires
     returns
     shared-slice-read-plots-ok
     plots-ok-requires

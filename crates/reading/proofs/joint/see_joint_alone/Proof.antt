@@ -1,6 +1,6 @@
 use Prim.Native.Nat.{ℕ, ◌^◌, ◌<◌}
 use native.Mathlib.Omega.{arith}
-use mathlib.Core.Path.{ap, refl, sym, ◌∙◌}
+use mathlib.Core.Path.{refl, sym, ◌∙◌}
 use mathlib.Core.List.{[]}
 use lib.ListN.{length, get_or}
 use Rattle.causal.specs.Lists.{tab}
@@ -10,9 +10,8 @@ use Rattle.frame.specs.Refusals.{code_of}
 use Rattle.frame.specs.Sessions.{content_of}
 use Rattle.store.proofs.Rules.{laid}
 use Rattle.store.proofs.SoundChanges.{reveal_held}
-use Rattle.office.specs.Decide.{alone, with_seen}
-use Rattle.office.proofs.Numbers.{with_own}
-use Rattle.reading.proofs.JointReads.{joint_accepted, joint_refused, joint_small, left_alone, show_sighted, sighted, stands_alone, starts}
+use Rattle.office.specs.Decide.{alone}
+use Rattle.reading.proofs.JointReads.{joint_accepted, joint_refused, joint_small, show_sighted, sighted, stands_alone, starts}
 use borrow.Author.Rules.{rules}
 use Rattle.reading.proofs.joint.see_joint_alone.Statement.{statement}
 use Rattle.reading.proofs.joint.see_joint_alone.Tie as tie
@@ -42,7 +41,7 @@ returns c =
     let row = z.args.answer.now in
     λ own.
     let s = alone z.args.offices z.args.clock z.args.read own in
-    joint_refused ws s plots row _ _ _ k.alone-code.ensures c.before.if1.true c.unseen.ensures.0 (ap (with_seen s) c.unseen.ensures.1 ∙ with_own s)
+    joint_refused ws s plots row _ _ _ k.alone-code.ensures c.before.if1.true c.unseen.ensures.0 c.unseen.ensures.1
 
 revealed-by-requires : tie.Need-revealed-by-requires
 unfolding content_of tab
@@ -154,7 +153,7 @@ returns-2 c =
     let left = c.before.before.show.ensures ∙ show_sighted ws fit q.sound s.read ids q.held plots _ _ L in
     λ own.
     let s = alone z.args.offices z.args.clock z.args.read own in
-    joint_accepted ws s plots row _ _ _ Accepted _ _ _ none L (stands_alone ws s plots _ _ L refl) refl (left_alone ws s plots _ _ L refl _ n.note-all.ensures) left a.put_alone.ensures
+    joint_accepted ws s plots row _ _ _ Accepted _ _ _ none L (stands_alone ws s plots _ _ L refl) refl n.note-all.ensures left a.put_alone.ensures
 
 pub see-joint-alone-spec : {M : Type 1} → statement M
 see-joint-alone-spec =

@@ -15,35 +15,30 @@ is-sound-requires c κs = search rules
 alone-code-requires : tie.Need-alone-code-requires
 alone-code-requires c κs = c.is-sound.ensures
 
-start-of-requires : tie.Need-start-of-requires
-start-of-requires c κs = c.alone-code.ensures
+start-code-requires : tie.Need-start-code-requires
+start-code-requires c κs = c.alone-code.ensures
 
 returns : tie.Need-returns
 unfolding read_refusal
 returns c = search (codes, arith) depth 9
 
 shared-slice-read-if2 : tie.Need-shared-slice-read-if2
-shared-slice-read-if2 c =
-    let a = c.before.before.before.before in
-    let z = a.before.before.before.before.before.before in
-    omega (arith, (laid z.args.store.now (start_facts _ _ (sym a.start_of_lem.ensures.0 ∙ c.before.if1.false)).0).long)
+shared-slice-read-if2 c = omega (arith, (laid c.before.before.before.before.before.before.before.before.args.store.now (start_facts _ _ (sym c.before.before.start-code.ensures ∙ c.before.if1.false)).0).long)
 
 returns-2 : tie.Need-returns-2
 unfolding read_refusal content_of
-returns-2 c = (search (codes, arith) depth 9, λ h. absurd (omega (arith, h)))
+returns-2 c = search (codes, arith) depth 9
 
 held-all-requires : tie.Need-held-all-requires
-held-all-requires c κs = (start_facts _ _ (sym c.before.before.before.before.before.start_of_lem.ensures.0 ∙ c.before.before.if1.false)).0
+held-all-requires c κs = (start_facts _ _ (sym c.before.before.before.start-code.ensures ∙ c.before.before.if1.false)).0
 
 returns-3 : tie.Need-returns-3
 unfolding read_refusal content_of
-returns-3 c = (search (codes, arith) depth 9, λ h. absurd (omega (arith, h)))
+returns-3 c = search (codes, arith) depth 9
 
 returns-4 : tie.Need-returns-4
 unfolding read_refusal content_of
-returns-4 c =
-    let t = c.before.before.before.before in
-    (search (codes, arith) depth 9, λ h. t.before.before.before.start_of_lem.ensures.1 t.if1.false)
+returns-4 c = search (codes, arith) depth 9
 
 pub read-code-spec : {M : Type 1} → statement M
 read-code-spec =
@@ -51,7 +46,7 @@ read-code-spec =
     (tie.spec
     is-sound-requires
     alone-code-requires
-    start-of-requires
+    start-code-requires
     returns
     shared-slice-read-if2
     returns-2

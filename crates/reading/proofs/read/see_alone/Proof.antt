@@ -9,8 +9,7 @@ use Rattle.frame.specs.Sessions.{content_of}
 use Rattle.store.proofs.Rules.{laid}
 use Rattle.office.specs.Decide.{alone, found_in, place_number}
 use Rattle.reading.specs.Readings.{best_from}
-use Rattle.office.proofs.Numbers.{with_own}
-use Rattle.reading.proofs.Readings.{answer_is, left_alone, read_accepted, read_refused, read_small, reads, sees_held, sees_number, sees_store, with_none}
+use Rattle.reading.proofs.Readings.{answer_is, read_accepted, read_refused, read_small, reads, sees_held, sees_number, sees_store, with_none}
 use borrow.Author.Rules.{rules}
 use Rattle.reading.proofs.read.see_alone.Statement.{statement}
 use Rattle.reading.proofs.read.see_alone.Tie as tie
@@ -35,8 +34,8 @@ returns c =
     let k = c.before.before.before in
     let z = k.before.before.before in
     λ own.
-    read_refused z.args.store.now (alone z.args.offices z.args.clock z.args.read own) z.args.plot k.alone-code.result _ _ _ _ k.alone-code.ensures c.before.before.if1.true
-    c.before.status-of.ensures refl c.blank-entry.ensures (with_own (alone z.args.offices z.args.clock z.args.read own))
+    read_refused z.args.store.now (alone z.args.offices z.args.clock z.args.read own) z.args.plot k.alone-code.result _ _ k.alone-code.ensures c.before.before.if1.true
+    c.before.status-of.ensures c.blank-entry.ensures
 
 revealed-by-requires : tie.Need-revealed-by-requires
 unfolding content_of tab
@@ -143,11 +142,10 @@ returns-2 c =
     let f = found_in ws p.place-number.result in
     λ own.
     let said =
-    answer_is ws (alone z.args.offices z.args.clock z.args.read own) z.args.plot p.place-number.result _ _ _
+    answer_is ws (alone z.args.offices z.args.clock z.args.read own) z.args.plot p.place-number.result _ _
     (with_none own z.args.plot (best_from f) 0 _ refl c.before.before.before.before.before.before.before.best_at.ensures) c.before.before.before.before.note.ensures
     in
-    read_accepted ws (alone z.args.offices z.args.clock z.args.read own) z.args.plot f _ _ _ _ _ none n.1 said.0 said.1 said.2
-    (left_alone ws (alone z.args.offices z.args.clock z.args.read own) z.args.plot refl f _ said.3) left
+    read_accepted ws (alone z.args.offices z.args.clock z.args.read own) z.args.plot f _ _ _ _ _ none n.1 said.0 said.1 said.2 said.3 left
 
 pub see-alone-spec : {M : Type 1} → statement M
 see-alone-spec =

@@ -157,22 +157,22 @@ read-line-requires c κs =
     (low, (L.sessions, L.lines, refl, (_, X.shows)))
 
 mul-mine-2 : tie.Need-overflow-mul-mine-2 invariant-loop decreases-loop
-mul-mine-2 c = let low = subst Named c.before.before.before.before.before.before.before.before.line2.given.1 c.before.before.before.before.before.before.before.before.before.before.parse.ensures.1 in omega arith
+mul-mine-2 c = let low = subst Named c.before.before.before.before.before.before.before.line2.given.1 c.before.before.before.before.before.before.before.before.before.parse.ensures.1 in omega arith
 
 array-copy-out-mine-2 : tie.Need-array-copy-out-mine-2 invariant-loop decreases-loop
-array-copy-out-mine-2 c = let low = subst Named c.before.before.before.before.before.before.before.before.line2.given.1 c.before.before.before.before.before.before.before.before.before.before.parse.ensures.1 in omega arith
+array-copy-out-mine-2 c = let low = subst Named c.before.before.before.before.before.before.before.line2.given.1 c.before.before.before.before.before.before.before.before.before.parse.ensures.1 in omega arith
 
-with-rest-requires : tie.Need-with-rest-requires invariant-loop decreases-loop
-with-rest-requires c κs = c.before.before.before.before.before.read-line.ensures.0
+with-seen-requires : tie.Need-with-seen-requires invariant-loop decreases-loop
+with-seen-requires c κs = search rules
 
 mul-sessions-2 : tie.Need-overflow-mul-sessions-2 invariant-loop decreases-loop
-mul-sessions-2 c = let low = subst Named c.before.before.before.before.before.before.before.before.before.before.line2.given.1 c.before.before.before.before.before.before.before.before.before.before.before.before.parse.ensures.1 in omega arith
+mul-sessions-2 c = let low = subst Named c.before.before.before.before.before.before.before.before.before.line2.given.1 c.before.before.before.before.before.before.before.before.before.before.before.parse.ensures.1 in omega arith
 
 array-set-from-sessions-2 : tie.Need-array-set-from-sessions-2 invariant-loop decreases-loop
-array-set-from-sessions-2 c = let low = subst Named c.before.before.before.before.before.before.before.before.before.before.line2.given.1 c.before.before.before.before.before.before.before.before.before.before.before.before.parse.ensures.1 in omega arith
+array-set-from-sessions-2 c = let low = subst Named c.before.before.before.before.before.before.before.before.before.line2.given.1 c.before.before.before.before.before.before.before.before.before.before.before.parse.ensures.1 in omega arith
 
 put-reply-requires-2 : tie.Need-put-reply-requires-2 invariant-loop decreases-loop
-put-reply-requires-2 c κs = let L = c.before.before.before.before.before.before.before.before.before.before.before.before.before.before.before.before.before.before.before.before.loop in omega (arith, c.before.before.before.before.before.before.before.before.before.before.before.before.before.before.before.before.before.before.if1.false, L.invariant.6)
+put-reply-requires-2 c κs = let L = c.before.before.before.before.before.before.before.before.before.before.before.before.before.before.before.before.before.before.before.loop in omega (arith, c.before.before.before.before.before.before.before.before.before.before.before.before.before.before.before.before.before.if1.false, L.invariant.6)
 
 play-other-requires : tie.Need-play-other-requires invariant-loop decreases-loop
 play-other-requires c κs =
@@ -211,10 +211,10 @@ loop-again c =
     ⊎_elim
     (λ w.
     let q = w.5 in
-    let y = w.13 in
+    let y = w.12 in
     fd.turn_of _ _ _ _ _ _ _ _ q.result.reply _ L.board y.result _ _ _ _ q.kept.1.1.1.1.0 refl refl y.kept.1.0
-    (λ g S. rw w.1.given.1 (q.ensures.1 L.sessions L.out L.lines g refl S)) y.ensures _ _ _ _ _ _ _
-    (w.20 ∙ ap (set L.sessions _) w.11.ensures) w.21 w.22 w.16 w.17 w.18 w.19)
+    (λ g S. rw w.1.given.1 (q.ensures L.sessions L.out L.lines g refl S)) y.ensures _ _ _ _ _ _ _
+    (w.19 ∙ ap (set L.sessions _) w.10.ensures) w.20 w.21 w.15 w.16 w.17 w.18)
     (λ w.
     let q = w.4 in
     let y = w.13 in
@@ -296,7 +296,7 @@ feed-some-spec =
     read-line-requires
     mul-mine-2
     array-copy-out-mine-2
-    with-rest-requires
+    with-seen-requires
     mul-sessions-2
     array-set-from-sessions-2
     put-reply-requires-2

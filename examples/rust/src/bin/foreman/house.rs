@@ -48,14 +48,4 @@ impl House {
         self.lines[self.ring.next(own) as usize].extend(onward);
         Ok(Some((id, self.lines[at].len())))
     }
-
-    /// All frames come to the end of their journeys.
-    pub fn hear_all(&mut self) -> Result<(), Refusal> {
-        while self.lines.iter().any(|line| !line.is_empty()) {
-            for own in 0..self.ring.offices {
-                self.hear(own)?;
-            }
-        }
-        Ok(())
-    }
 }

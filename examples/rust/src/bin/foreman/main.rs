@@ -1,8 +1,7 @@
 //! The foreman's story. In a ring of three offices he writes at one, goes to the next with a token
 //! in his pocket while the line is slow, and writes again. A visitor who reads the second entry is
 //! shown the first one too, wherever she goes. The calls are in the order of scripts/foreman.txt;
-//! his look at both entries, newcomers who look in, refusals, a night, a family and a gardener are
-//! added.
+//! his look at both entries, newcomers who look in, refusals, a night and a family are added.
 
 mod house;
 
@@ -153,24 +152,6 @@ fn two_people(house: &mut House) -> Told<()> {
     Ok(())
 }
 
-/// The gardener's errand lasts for a week. Each day he writes at the next office; when that has
-/// come round he reads where it is shown, and carries it no more.
-fn a_week(house: &mut House) -> Told<()> {
-    let mut gardener = Session::fresh(RING)?;
-    for day in 0..6 {
-        let (own, last) = (day % RING.offices, (day + 2) % RING.offices);
-        for plot in 40..45 {
-            house.write(own, &mut gardener, plot, 100 * day + plot)?;
-        }
-        let carried = gardener.carried();
-        house.hear_all()?;
-        house.office(last).read(&mut gardener, 40)?;
-        assert_eq!((carried, gardener.carried()), (5, 0));
-    }
-    println!("in 6 days the gardener writes 30 entries, and carries {}", gardener.carried());
-    Ok(())
-}
-
 fn story() -> Told<()> {
     check_version()?;
     let mut house = House::open(RING)?;
@@ -183,8 +164,7 @@ fn story() -> Told<()> {
     refusals(&mut house, &token)?;
     overnight(&mut house)?;
     the_slow_line(&mut house)?;
-    two_people(&mut house)?;
-    a_week(&mut house)
+    two_people(&mut house)
 }
 
 fn main() -> ExitCode {
