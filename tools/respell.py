@@ -125,7 +125,7 @@ def turn(f, to, fields):
         for m in TOKEN.finditer(code):
             n = m[0]
             new = to.get(n)
-            if not new or n in f.taken:
+            if not new or n in f.taken or f.path.endswith(".rt") and re.fullmatch(r"[a-z0-9_]+", n):
                 continue
             before = code[: m.start()]
             if before.endswith("."):

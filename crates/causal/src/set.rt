@@ -2,7 +2,7 @@
 ghost use Rattle.std.specs.Prelude.{◌≡◌, cond, eqb};
 ghost use Rattle.causal.specs.Sets.{is_in, inserted, unite, minus, is_empty, subset_of, size_of, lowest_of};
 
-#[derive(Drop)]
+#[derive(Clone, Copy)]
 pub enum Lowest {
     At(usize),
     Empty,

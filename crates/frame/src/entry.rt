@@ -6,7 +6,7 @@ ghost use Rattle.frame.specs.Entries.{id_of, clock_ok, under_ok, ids_ok, bounds_
 ghost use Rattle.frame.specs.Frames.{ring_ok, frame_ok};
 
 #[repr(C)]
-#[derive(Drop)]
+#[derive(Clone, Copy)]
 pub struct Entry {
     pub office: u32,
     pub serial: u32,
@@ -17,7 +17,7 @@ pub struct Entry {
 }
 
 #[repr(C)]
-#[derive(Drop)]
+#[derive(Clone, Copy)]
 pub struct Frame {
     pub offices: u32,
     pub hops: u32, // 01: offices still to hear after the receiver

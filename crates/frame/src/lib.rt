@@ -1,4 +1,6 @@
 // Entries, sessions, frames and tokens; frames and tokens as rows of words.
+#![tactic(auto)]
+
 pub mod entry;
 pub mod reader;
 pub mod refusal;

@@ -13,7 +13,7 @@ ghost use Rattle.frame.specs.Promises.{ReadFramePromise};
 use crate::entry::{Entry, Frame};
 use crate::refusal::{Refusal, Status};
 
-#[derive(Drop)]
+#[derive(Clone, Copy)]
 pub struct FrameRead {
     pub status: Status,
     pub frame: Frame, // all zeros on a refusal

@@ -2,7 +2,7 @@
 ghost use Rattle.std.specs.Prelude.{◌≡◌, ◌≤◌};
 ghost use Rattle.frame.specs.Refusals.{number_of, code_of};
 
-#[derive(Drop)]
+#[derive(Clone, Copy)]
 pub enum Refusal {
     Settings, // 1: settings out of range
     Store, // 2: store unsound, or too short
@@ -18,14 +18,14 @@ pub enum Refusal {
     Missing, // 12: a dependency or a read id is not held
 }
 
-#[derive(Drop)]
+#[derive(Clone, Copy)]
 pub enum Status {
     Accepted,
     Refused(Refusal),
 }
 
 // Of a call that writes words, how many; of the one that gives a store's need, the need.
-#[derive(Drop)]
+#[derive(Clone, Copy)]
 pub enum Written {
     Words(usize),
     NotWritten(Refusal),

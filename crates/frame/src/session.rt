@@ -9,7 +9,7 @@ ghost use Rattle.frame.specs.Sessions.{nobody, content_of, session_of, ids_of, o
 use crate::entry::Entry;
 
 #[repr(C)]
-#[derive(Drop)]
+#[derive(Clone, Copy)]
 pub struct Session {
     pub offices: u32,
     pub clock: [u32; 8],

@@ -150,20 +150,20 @@ pub fn write_token(s: Session, out: &mut [u32]) -> Written
 
 // ---- reading
 
-#[derive(Drop)]
+#[derive(Clone, Copy)]
 pub struct TokenRead {
     pub status: Status,
     pub session: Session, // all zeros on a refusal
 }
 
-#[derive(Drop)]
+#[derive(Clone, Copy)]
 struct OwnRead {
     entry: Entry,
     words: usize,
     ok: bool,
 }
 
-#[derive(Drop)]
+#[derive(Clone, Copy)]
 struct OwnsRead {
     own: [Entry; 16],
     ok: bool,

@@ -40,7 +40,7 @@ pub fn check_sum(ws: &[u32]) -> u32
 // ---- writing
 
 // The place behind words that were put, and their sum modulo 2^32: what a check needs of it is the rest modulo 2^28.
-#[derive(Drop)]
+#[derive(Clone, Copy)]
 pub struct Put {
     pub to: usize,
     pub sum: u32,

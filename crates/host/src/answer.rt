@@ -3,21 +3,21 @@ ghost use Rattle.std.specs.Prelude.{◌≡◌};
 ghost use Rattle.frame.specs.Refusals.{reply_of};
 
 #[repr(C)]
-#[derive(Drop)]
+#[derive(Clone, Copy)]
 pub struct FrameAnswer {
     pub refusal: u32,
     pub frame: frame::entry::Frame,
 }
 
 #[repr(C)]
-#[derive(Drop)]
+#[derive(Clone, Copy)]
 pub struct WordsAnswer {
     pub refusal: u32,
     pub words: usize,
 }
 
 #[repr(C)]
-#[derive(Drop)]
+#[derive(Clone, Copy)]
 pub struct PlotAnswer {
     pub refusal: u32,
     pub found: u32,
@@ -26,7 +26,7 @@ pub struct PlotAnswer {
 }
 
 #[repr(C)]
-#[derive(Drop)]
+#[derive(Clone, Copy)]
 pub struct WroteAnswer {
     pub refusal: u32,
     pub words: usize,
@@ -34,14 +34,14 @@ pub struct WroteAnswer {
 }
 
 #[repr(C)]
-#[derive(Drop)]
+#[derive(Clone, Copy)]
 pub struct SessionAnswer {
     pub refusal: u32,
     pub session: frame::session::Session,
 }
 
 #[repr(C)]
-#[derive(Drop)]
+#[derive(Clone, Copy)]
 pub struct SettingsAnswer {
     pub refusal: u32,
     pub offices: u32,

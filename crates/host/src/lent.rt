@@ -20,21 +20,21 @@ use frame::session::Session;
 
 // What a reading of one plot answers, without the session.
 #[repr(C)]
-#[derive(Drop)]
+#[derive(Clone, Copy)]
 pub struct PlotFound {
     pub refusal: u32,
     pub found: u32,
     pub entry: Entry,
 }
 
-#[derive(Drop)]
+#[derive(Clone, Copy)]
 struct PlotDone {
     pub answer: PlotFound,
     pub clock: [u32; 8],
     pub read: [u32; 8],
 }
 
-#[derive(Drop)]
+#[derive(Clone, Copy)]
 struct JointDone {
     pub refusal: u32,
     pub clock: [u32; 8],
@@ -42,7 +42,7 @@ struct JointDone {
 }
 
 // What a write answers, the session's clock and count then, and what stands at one place of its row: on a refusal all as it was.
-#[derive(Drop)]
+#[derive(Clone, Copy)]
 struct WriteDone {
     pub answer: WordsAnswer,
     pub clock: [u32; 8],

@@ -116,7 +116,7 @@ fn alike_known(e: Entry, ids: [u32; 8], own: [Entry; 16], count: usize) -> bool
 }
 
 // Has each name that both carry one content? `ids` are those of the first; the front of the second is known to be alike.
-pub fn all_alike_lem(
+pub fn all_alike(
     second: [Entry; 16],
     front: usize,
     m: usize,

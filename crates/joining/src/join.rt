@@ -14,14 +14,14 @@ use frame::entry::Entry;
 use frame::refusal::{Refusal, Status};
 use frame::session::Session;
 
-#[derive(Drop)]
+#[derive(Clone, Copy)]
 pub struct SessionsJoined {
     pub status: Status,
     pub session: Session, // all zeros on a refusal
 }
 
 // The own writes of both sessions, each once.
-#[derive(Drop)]
+#[derive(Clone, Copy)]
 struct OwnOfBoth {
     count: usize,
     own: [Entry; 16],

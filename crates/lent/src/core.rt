@@ -7,14 +7,14 @@ use frame::refusal::Status;
 use frame::session::Session;
 
 // What a reading of one plot answers.
-#[derive(Drop)]
+#[derive(Clone, Copy)]
 pub struct PlotAnswer {
     pub status: Status,
     pub found: bool,
     pub entry: Entry, // a blank where none is found
 }
 
-#[derive(Drop)]
+#[derive(Clone, Copy)]
 pub struct PlotDone {
     pub answer: PlotAnswer,
     pub session: Session,

@@ -28,7 +28,7 @@ pub fn entry_code(store: &[u32], held: [u32; 8], office: u32, e: Entry) -> u32
 }
 
 // The first refusal of the own writes, in order.
-pub fn own_code_lem(store: &[u32], held: [u32; 8], office: u32, own: [Entry; 16], count: usize) -> u32
+pub fn own_code(store: &[u32], held: [u32; 8], office: u32, own: [Entry; 16], count: usize) -> u32
     requires { (held ≡ part store.now 3 8) × (office ≡ get_or store.now 1 0) × (count ≤ 16) × Slots own count (length store.now) }
     ensures { result ≡ own_code (office_of store.now) (own_to own count) }
 {

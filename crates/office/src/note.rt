@@ -6,7 +6,7 @@ use frame::session::Session;
 use store::current::Place;
 
 // The part of a session that a reading changes.
-#[derive(Drop)]
+#[derive(Clone, Copy)]
 pub struct Seen {
     pub clock: [u32; 8],
     pub read: [u32; 8],

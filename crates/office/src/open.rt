@@ -21,7 +21,7 @@ pub fn open_office(offices: u32, own: u32, plots: u32, store: &mut [u32]) -> Sta
     Status::Accepted
 }
 
-#[derive(Drop)]
+#[derive(Clone, Copy)]
 pub struct Fresh {
     pub status: Status,
     pub session: Session,

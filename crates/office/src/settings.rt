@@ -4,7 +4,7 @@ ghost use Rattle.frame.specs.Refusals.{code_of};
 
 use frame::refusal::{Refusal, Status};
 
-#[derive(Drop)]
+#[derive(Clone, Copy)]
 pub struct Settings {
     pub status: Status,
     pub offices: u32,

@@ -11,7 +11,7 @@ ghost use Rattle.player.specs.Steps.{Foretells};
 use crate::queue::hops_at;
 use frame::session::Session;
 
-#[derive(Drop)]
+#[derive(Clone, Copy)]
 pub enum Ahead {
     Goes, // it leaves no more than 32 frames waiting, or is refused
     Full, // it is not refused, and leaves more

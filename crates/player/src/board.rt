@@ -8,7 +8,7 @@ use frame::entry::Entry;
 use office::note::Seen;
 use script::reply::Reply;
 
-#[derive(Drop)]
+#[derive(Clone, Copy)]
 pub struct Board {
     pub place: [u32; 4], // the office of each session's next call
     pub first: [usize; 3], // for each office, the slot of its oldest waiting frame
@@ -16,21 +16,21 @@ pub struct Board {
 }
 
 // What a line that leaves the sessions alone did.
-#[derive(Drop)]
+#[derive(Clone, Copy)]
 pub struct BoardTurn {
     pub board: Board,
     pub reply: Reply,
 }
 
 // What a reading did: what its session has seen then.
-#[derive(Drop)]
+#[derive(Clone, Copy)]
 pub struct ReadTurn {
     pub seen: Seen,
     pub reply: Reply,
 }
 
 // What a write did: the entry that its session has then, if it was done.
-#[derive(Drop)]
+#[derive(Clone, Copy)]
 pub struct WriteTurn {
     pub board: Board,
     pub entry: Entry,

@@ -1,4 +1,6 @@
 // The player of a script: one line over lent buffers.
+#![tactic(auto)]
+
 pub mod ahead;
 pub mod board;
 pub mod opening;

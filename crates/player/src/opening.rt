@@ -20,7 +20,7 @@ fn open_at(stores: &mut [u32], office: u32)
     office::open::open_office(3, office, 64, &mut stores[from..end]);
 }
 
-#[derive(Drop)]
+#[derive(Clone, Copy)]
 pub struct Opened {
     pub sessions: [Session; 4],
     pub board: Board,

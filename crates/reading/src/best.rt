@@ -7,7 +7,7 @@ use frame::entry::Entry;
 use frame::session::Session;
 
 // An entry, or a blank where none is found.
-#[derive(Drop)]
+#[derive(Clone, Copy)]
 pub struct Best {
     pub found: bool,
     pub entry: Entry,

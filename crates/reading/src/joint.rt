@@ -16,14 +16,14 @@ use frame::refusal::Status;
 use frame::session::Session;
 use office::note::Seen;
 
-#[derive(Drop)]
+#[derive(Clone, Copy)]
 pub struct JointRead {
     pub status: Status,
     pub session: Session,
 }
 
 // What a joint reading answers, and what the session has seen then; on a refusal what it had seen.
-#[derive(Drop)]
+#[derive(Clone, Copy)]
 pub struct JointSeen {
     pub status: Status,
     pub seen: Seen,

@@ -13,7 +13,7 @@ use frame::refusal::Status;
 use frame::session::Session;
 use office::note::Seen;
 
-#[derive(Drop)]
+#[derive(Clone, Copy)]
 pub struct PlotRead {
     pub status: Status,
     pub found: bool,
@@ -22,7 +22,7 @@ pub struct PlotRead {
 }
 
 // What a reading of one plot answers, and what the session has seen then; on a refusal what it had seen.
-#[derive(Drop)]
+#[derive(Clone, Copy)]
 pub struct PlotSeen {
     pub status: Status,
     pub found: bool,

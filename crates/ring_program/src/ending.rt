@@ -9,7 +9,7 @@ ghost use Rattle.ring_program.specs.Promises.{Closes};
 use crate::feed::{Stage, finish};
 use crate::input::Chunk;
 
-#[derive(Drop)]
+#[derive(Clone, Copy)]
 pub enum Ending {
     Done, // at the input's end
     ReadFailed,
@@ -17,7 +17,7 @@ pub enum Ending {
     TooLong, // after more bytes than a number of 64 bits counts
 }
 
-#[derive(Drop)]
+#[derive(Clone, Copy)]
 pub struct Closed {
     pub ending: Ending,
     pub stage: Stage,

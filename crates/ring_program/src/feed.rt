@@ -17,7 +17,7 @@ use writing::write::extended;
 
 // Between two bytes: the sessions and the board, the line whose end has not come, how many bytes of text there are, and whether every write so far
 // took its text: no line is played after a write that did not.
-#[derive(Drop)]
+#[derive(Clone, Copy)]
 pub struct Stage {
     pub sessions: [Session; 4],
     pub board: Board,
@@ -26,7 +26,7 @@ pub struct Stage {
     pub wrote: bool,
 }
 
-#[derive(Drop)]
+#[derive(Clone, Copy)]
 pub struct Reached {
     pub stage: Stage,
     pub next: usize,

@@ -4,7 +4,7 @@ ghost use Rattle.std.specs.Int.Signed.{lt_z};
 ghost use Rattle.io.specs.Counts.{clamp_len};
 
 // What a read brought: bytes, none at the input's end or where it failed; and how many may still come.
-#[derive(Drop)]
+#[derive(Clone, Copy)]
 pub struct Chunk {
     pub got: isize, // what the read answered
     pub n: usize,

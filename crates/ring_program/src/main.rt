@@ -1,4 +1,6 @@
 // The ring program: a script on standard input, a reply to each line on standard output.
+#![tactic(auto)]
+
 ghost use Rattle.std.specs.Prelude.{◌≡◌, length};
 ghost use Rattle.ring_program.specs.Promises.{RunPromise};
 
@@ -13,7 +15,7 @@ use player::opening::open_ring;
 use script::pending::nothing;
 
 // `brought` and `failed` are what the last read said.
-#[derive(Drop)]
+#[derive(Clone, Copy)]
 pub struct Outcome {
     pub ending: Ending,
     pub left: u64, // u64::MAX less the bytes read

@@ -6,7 +6,7 @@ ghost use Rattle.script.specs.Steps.{turned, capped, field_of, first_field, Fiel
 pub const NONE: u64 = 4294967296;
 
 // A field: its number, and where it ends.
-#[derive(Drop)]
+#[derive(Clone, Copy)]
 pub struct Field {
     pub value: u64,
     pub end: usize,

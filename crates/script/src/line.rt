@@ -9,7 +9,7 @@ const SESSIONS: u64 = 4;
 
 const OFFICES: u64 = 3;
 
-#[derive(Drop)]
+#[derive(Clone, Copy)]
 pub enum Line {
     // W session plot value
     Write(u32, u32, u32),

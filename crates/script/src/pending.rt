@@ -5,7 +5,7 @@ ghost use Rattle.script.specs.Pendings.{Takes, pending_of, parsed, is_empty};
 
 use crate::line::{Line, parse_line};
 
-#[derive(Drop)]
+#[derive(Clone, Copy)]
 pub struct Pending {
     pub bytes: [u8; 32],
     pub len: usize,
@@ -38,7 +38,7 @@ pub fn is_empty(p: Pending) -> bool
     p.len == 0
 }
 
-#[derive(Drop)]
+#[derive(Clone, Copy)]
 pub struct Taken {
     pub pending: Pending,
     pub next: usize,

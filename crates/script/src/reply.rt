@@ -6,7 +6,7 @@ ghost use Rattle.script.specs.Puts.{Put};
 
 use crate::put::{put_decimal, put_text};
 
-#[derive(Drop)]
+#[derive(Clone, Copy)]
 pub enum Reply {
     // W office.serial
     Wrote(u32, u32),

@@ -8,7 +8,7 @@ ghost use Rattle.store.specs.Current.{WordReaches, InSlots, weighed, place_in, c
 
 use crate::layout;
 
-#[derive(Drop)]
+#[derive(Clone, Copy)]
 pub enum Place {
     At(usize),
     Nowhere,

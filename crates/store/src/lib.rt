@@ -1,4 +1,6 @@
 // The lent store of an office: reading it, whether it is sound, and the changes that the calls make.
+#![tactic(auto)]
+
 pub mod clock;
 pub mod current;
 pub mod empty;

@@ -8,7 +8,7 @@ ghost use Rattle.store.specs.Offices.{office_of, sound_store};
 
 use crate::layout;
 
-#[derive(Drop)]
+#[derive(Clone, Copy)]
 pub struct Revealed {
     pub visible: [u32; 8],
     pub steps: usize,

@@ -10,7 +10,7 @@ ghost use Rattle.store.specs.Deps.{Looks, LooksAll, ids_fine, lone_ok};
 use crate::layout;
 
 // Are the bits of w that are set the lowest ones?
-fn no_gap_lem(w: u32) -> bool
+fn no_gap(w: u32) -> bool
     ensures { result ≡ no_gap w }
 {
     w & std::num::wrapping_add_u32(w, 1) == 0
@@ -36,7 +36,7 @@ fn slot_ok(store: &[u32], p: u32, i: usize, b: u32) -> bool
 
 // What the slots of some ids say: whether single words keep the rules; then what is wrong with their clocks, and their deps, each of all
 // together, to be asked once.
-#[derive(Drop)]
+#[derive(Clone, Copy)]
 struct Looked {
     ok: bool,
     bad: [u32; 8],
@@ -148,7 +148,7 @@ fn content_ok(store: &[u32]) -> bool
         return false;
     }
     let own = store[1] as usize;
-    no_gap_lem(held[own])
+    no_gap(held[own])
 }
 
 // Long enough, settings in range, and the content sound.

@@ -12,7 +12,7 @@ ghost use Rattle.writing.specs.Writes.{early_code, outside};
 use frame::entry::Entry;
 use frame::session::Session;
 
-#[derive(Drop)]
+#[derive(Clone, Copy)]
 pub struct WriteForecast {
     pub code: u32, // the refusal but for the room, 0 for none
     pub frames: usize,

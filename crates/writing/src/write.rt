@@ -19,14 +19,14 @@ use frame::entry::Entry;
 use frame::refusal::{Refusal, Written};
 use frame::session::Session;
 
-#[derive(Drop)]
+#[derive(Clone, Copy)]
 pub struct Wrote {
     pub written: Written,
     pub session: Session,
 }
 
 // What a write answers, and the entry that it made.
-#[derive(Drop)]
+#[derive(Clone, Copy)]
 pub struct Made {
     pub written: Written,
     pub entry: Entry, // a blank on a refusal
