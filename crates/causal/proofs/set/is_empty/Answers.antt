@@ -1,0 +1,6 @@
+use Rattle.causal.proofs.Sets.{or_eight}
+use borrow.Author.Rules.{rules}
+use Rattle.causal.proofs.set.is_empty.Goals as goal
+
+pub returns : goal.returns
+returns c = or_eight _

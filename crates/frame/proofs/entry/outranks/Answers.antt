@@ -1,0 +1,7 @@
+use Rattle.frame.specs.Entries.{outranks}
+use Rattle.std.proofs.Common.{rules}
+use Rattle.frame.proofs.entry.outranks.Goals as goal
+
+pub returns : goal.returns
+unfolding outranks
+returns c = c.outranks.ensures

@@ -1,0 +1,12 @@
+use Rattle.std.proofs.Common.{◌≡◌, ℕ, ◌+◌, ◌-◌, ◌≤◌, List, length, sym, refl, ap, ◌∙◌, add-zero, arith, rules}
+use lib.Seq.{sets, length-sets}
+use Rattle.frame.specs.Frames.{framed, frame_words, frame_ok}
+use Rattle.frame.specs.Tokens.{own_rows}
+use Rattle.frame.proofs.TokenTurns as T
+use Rattle.causal.specs.Lists.{tab}
+use Rattle.frame.proofs.OwnTurns.{owns_of}
+use Rattle.frame.specs.declared.entry.Frame.{Frame}
+use Rattle.frame.proofs.token.put_owns.Given as goal
+
+abbrev pub invariant-loop-i : goal.invariant-loop-i
+invariant-loop-i l = (l.i ≤ l.count) × (length l.out ≡ length l.at) × (l.to ≡ l.own + length (own_rows l.n (tab l.i (owns_of l.initial.out)))) × (l.out ≡ sets l.at l.own (own_rows l.n (tab l.i (owns_of l.initial.out))))

@@ -1,0 +1,15 @@
+use Rattle.std.proofs.Common.{◌≡◌, ℕ, ◌+◌, ◌*◌, ◌%◌, List, [], ◌∷◌, length, set, sym, refl, ap, ◌∙◌, add-zero, arith, length-append, length-set, rules}
+use lib.Seq.{sets}
+use lib.Count.{count_trailing_zeros}
+use Rattle.causal.proofs.Lists.{sets_append}
+use Rattle.frame.proofs.Turns.{ids_step, ids_room, ids_end}
+use Rattle.causal.proofs.Walk.{Passed, next, passed_none}
+use Rattle.frame.specs.Words.{id_words_in, total}
+use Rattle.frame.proofs.Words.{sum_more}
+use Rattle.frame.proofs.word.put_each.Given as goal
+
+abbrev pub invariant-loop-rest : goal.invariant-loop-rest
+invariant-loop-rest l = (l.initial.out ≡ 1610612737 + 256 * l.j) × (length l.out ≡ length l.at) × ((b : ℕ) × (Passed l.w b l.rest) × (l.to ≡ l.first + length (id_words_in l.j l.w b)) × (l.out ≡ sets l.at l.first (id_words_in l.j l.w b)) × (l.sum % 268435456 ≡ total (id_words_in l.j l.w b) % 268435456))
+
+abbrev pub decreases-loop-rest : goal.decreases-loop-rest
+decreases-loop-rest l = l.rest

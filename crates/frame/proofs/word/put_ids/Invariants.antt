@@ -1,0 +1,10 @@
+use Rattle.std.proofs.Common.{◌≡◌, ℕ, ◌+◌, ◌-◌, ◌*◌, ◌%◌, ◌≤◌, List, length, get_or, sym, refl, ap, ◌∙◌, add-zero, arith, length-append, rules}
+use Rattle.causal.proofs.Lists.{sets_append}
+use Rattle.frame.proofs.Turns.{ids_word, words_room}
+use lib.Seq.{sets, length-sets}
+use Rattle.frame.specs.Words.{id_words_to, id_words, id_words_in, total}
+use Rattle.frame.proofs.Words.{sum_added}
+use Rattle.frame.proofs.word.put_ids.Given as goal
+
+abbrev pub invariant-loop-j : goal.invariant-loop-j
+invariant-loop-j l = (l.j ≤ 8) × (length l.out ≡ length l.at) × (l.to ≡ l.ids + length (id_words_to l.initial.out (32 * l.j))) × (l.out ≡ sets l.at l.ids (id_words_to l.initial.out (32 * l.j))) × (l.sum % 268435456 ≡ total (id_words_to l.initial.out (32 * l.j)) % 268435456)

@@ -1,0 +1,10 @@
+use Rattle.std.proofs.Common.{◌≡◌, ℕ, ◌+◌, ◌-◌, ◌%◌, ◌≤◌, List, length, set, sym, refl, ap, ◌∙◌, arith, length-set, rules}
+use lib.Seq.{sets}
+use Rattle.causal.specs.Lists.{tab}
+use Rattle.causal.proofs.Lists.{sets_tab, tab_more}
+use Rattle.frame.specs.Words.{total}
+use Rattle.frame.proofs.Words.{sum_more}
+use Rattle.frame.proofs.word.put_run.Given as goal
+
+abbrev pub invariant-loop-i : goal.invariant-loop-i
+invariant-loop-i l = (l.i ≤ l.count) × (length l.out ≡ length l.at) × (l.out ≡ sets l.at l.initial.out (tab l.i (λ (k : ℕ). l.first + k))) × (l.sum % 268435456 ≡ total (tab l.i (λ (k : ℕ). l.first + k)) % 268435456)

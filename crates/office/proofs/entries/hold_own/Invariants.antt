@@ -1,0 +1,11 @@
+use Prim.Native.Nat.{ℕ, ◌-◌, ◌≤◌}
+use mathlib.Core.Path.{◌≡◌, refl, ap, ◌∙◌}
+use native.Mathlib.Omega.{arith}
+use lib.ListN.{length}
+use Rattle.office.specs.Steps.{own_to, holds_in}
+use Rattle.office.proofs.Holds.{holds_start, holds_more}
+use borrow.Author.Rules.{rules}
+use Rattle.office.proofs.entries.hold_own.Given as goal
+
+abbrev pub invariant-loop-i : goal.invariant-loop-i
+invariant-loop-i l = (l.i ≤ l.own) × (length l.store ≡ length l.held) × (l.store ≡ holds_in l.count l.held (own_to l.initial.store l.i))

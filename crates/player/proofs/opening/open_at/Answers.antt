@@ -1,0 +1,10 @@
+use Prim.Native.Nat.{◌*◌}
+use native.Mathlib.Omega.{arith}
+use Rattle.player.proofs.Delivery as dl
+use Rattle.player.proofs.Started as st
+use borrow.Author.Rules.{rules}
+use Rattle.player.proofs.opening.open_at.Goals as goal
+
+pub returns : goal.returns
+returns c = let q = c.open_office in
+    st.opens_at c.args.stores.now _ q.new.1.1.1.0 c.args.office (dl.lent_part c.args.stores.now (1747 * c.args.office) 1747) q.ensures.1 (omega (arith, c.requires.0, c.requires.1)) q.auto.1.1.1.0

@@ -1,0 +1,12 @@
+use native.Mathlib.Omega.{arith}
+use mathlib.Core.Path.{◌≡◌, refl, ap, ◌∙◌}
+use Prim.Native.Nat.{ℕ, ◌+◌, ◌-◌, ◌*◌, ◌≤◌}
+use lib.ListN.{length}
+use Rattle.reading.specs.Readings.{found_among, words_to}
+use Rattle.reading.proofs.JointReads.{words_more}
+use lib.Seq.{sets}
+use borrow.Author.Rules.{rules}
+use Rattle.reading.proofs.answer.put_alone.Given as goal
+
+abbrev pub invariant-loop-i : goal.invariant-loop-i
+invariant-loop-i l = (l.i ≤ l.n) × (length l.answer ≡ length l.places) × (l.answer ≡ sets l.places 0 (words_to (found_among l.store l.initial.answer) l.i))

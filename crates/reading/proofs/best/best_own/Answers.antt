@@ -1,0 +1,19 @@
+use mathlib.Core.Logic.{⊎_elim}
+use Rattle.reading.proofs.Readings.{best_skip, best_more}
+use native.Mathlib.Omega.{arith}
+use mathlib.Core.Path.{◌≡◌, refl, ap, ◌∙◌}
+use Prim.Native.Nat.{◌-◌, ◌≤◌}
+use Rattle.reading.specs.Readings.{best_to}
+use borrow.Author.Rules.{rules}
+use Rattle.reading.proofs.best.best_own.Goals as goal
+
+pub loop-i-init : goal.loop-i-init
+unfolding best_to
+loop-i-init c = (omega arith, refl)
+
+pub loop-i-preserved : goal.loop-i-preserved
+loop-i-preserved c = (omega arith, ⊎_elim (λ w. w.3 ∙ best_more c.args.own c.args.plot c.args.first c.loop-i.i _ _ c.loop-i.invariant.1 w.0.taken w.2.ensures) (λ w. w.1 ∙ best_skip c.args.own c.args.plot c.args.first c.loop-i.i _ c.loop-i.invariant.1 w.0.left) c.if-own-i.branch)
+
+pub returns : goal.returns
+returns c = let q : c.loop-i.i ≡ c.args.count = omega arith in
+    c.loop-i.invariant.1 ∙ ap (best_to c.args.own c.args.plot c.args.first) q

@@ -1,0 +1,6 @@
+use borrow.Author.Rules.{rules}
+use mathlib.Core.Path.{refl}
+use Rattle.reading.proofs.joint.unseen.Goals as goal
+
+pub returns : goal.returns
+returns c = (c.status_of-status.ensures, refl)

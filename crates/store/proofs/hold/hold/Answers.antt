@@ -1,0 +1,6 @@
+use Rattle.store.proofs.Alike.{hold_is}
+use Rattle.std.proofs.Common.{rules}
+use Rattle.store.proofs.hold.hold.Goals as goal
+
+pub returns : goal.returns
+returns c = hold_is c.args.store.now c.args.e c.id_of-k.result c.set_at-held.result c.insert-more.result c.put_entry.new.0 c.put.new.0 c.id_of-k.ensures c.set_at-held.ensures c.insert-more.ensures c.put_entry.ensures.0 c.put.ensures.0

@@ -1,0 +1,27 @@
+use Rattle.std.proofs.Common.{◌≡◌, ℕ, ◌+◌, List, length, ap, ◌∙◌, arith, length-set, rules}
+use lib.Seq.{sets}
+use Rattle.store.proofs.Eights.{entry_run, entry_eighteen}
+use Rattle.store.proofs.hold.put_entry.Goals as goal
+
+-- the slice keeps its length
+len1 : (c : goal.After-put) → length c.put.new.0 ≡ length c.args.store.now
+len1 c = c.put.auto.0 ∙ simp length-set
+
+len2 : (c : goal.After-put-2) → length c.put-2.new.0 ≡ length c.args.store.now
+len2 c = c.put-2.auto.0 ∙ len1 c
+
+pub bounds-store-at-2 : goal.bounds-store-at-2
+bounds-store-at-2 c = simp length-set (omega arith)
+
+pub put-requires : goal.put-requires
+put-requires c = simp length-set (omega arith)
+
+pub put-requires-2 : goal.put-requires-2
+put-requires-2 c = omega (arith, len1 (goal.at.put-requires-2 c).After-put)
+
+pub shape_of-store : goal.shape_of-store
+shape_of-store c = len2 (goal.at.shape_of-store c).After-put-2
+
+pub returns : goal.returns
+returns c = let at = c.args.at in
+    (c.put-2.ensures.0 ∙ ap (λ (l : List ℕ). sets l (at + 10) c.args.e.deps) c.put.ensures.0 ∙ entry_run c.args.store.now at c.args.e c.put.ensures.1, entry_eighteen c.args.e c.put.ensures.1 c.put-2.ensures.1)

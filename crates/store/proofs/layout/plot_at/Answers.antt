@@ -1,0 +1,7 @@
+use Rattle.std.proofs.Common.{refl, rules}
+use Rattle.store.specs.Offices.{entry_at}
+use Rattle.store.proofs.layout.plot_at.Goals as goal
+
+pub returns : goal.returns
+unfolding entry_at
+returns c = refl

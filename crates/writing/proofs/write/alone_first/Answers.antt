@@ -1,0 +1,40 @@
+use native.Mathlib.Omega.{arith}
+use mathlib.Core.Path.{refl, sym, ◌∙◌}
+use lib.ListN.{get_or}
+use Rattle.causal.proofs.Codes.{lt_code_fails, lt_code_passes}
+use Rattle.store.proofs.Rules.{laid}
+use Rattle.office.specs.Decide.{bare}
+use Rattle.office.proofs.Numbers.{start_facts}
+use Rattle.writing.proofs.EarlyCodes.{first_stops, first_goes}
+use borrow.Author.Rules.{rules}
+use Rattle.writing.proofs.write.alone_first.Goals as goal
+
+-- k: the number of alone_code is known; z: at the start
+
+pub alone_code-start-requires : goal.alone_code-start-requires
+alone_code-start-requires c = c.is_sound-sound.ensures
+
+pub returns-then-start-ne0 : goal.returns-then-start-ne0
+returns-then-start-ne0 c = first_stops c.args.store.now (bare c.args.offices c.args.clock c.args.read) c.args.plot c.args.value _ c.alone_code-start.ensures c.if-start-ne0.true
+
+pub bounds-store-2 : goal.bounds-store-2
+bounds-store-2 c = let ws = c.args.store.now in
+    let f = start_facts ws (bare c.args.offices c.args.clock c.args.read) (sym c.alone_code-start.ensures ∙ c.if-start-ne0.false) in
+    omega (arith, (laid ws f.0).long)
+
+pub returns-then-plot-store : goal.returns-then-plot-store
+returns-then-plot-store c = let ws = c.args.store.now in
+    let four = lt_code_fails c.args.plot (get_or ws 2 0) 4 _ c.if-plot-store.true in
+    first_goes ws (bare c.args.offices c.args.clock c.args.read) c.args.plot c.args.value _ c.alone_code-start.ensures 4 c.if-start-ne0.false four
+
+pub returns-then-value-ge268435456 : goal.returns-then-value-ge268435456
+returns-then-value-ge268435456 c = let ws = c.args.store.now in
+    let five = lt_code_fails c.args.value 268435456 5 0 c.if-value-ge268435456.true in
+    first_goes ws (bare c.args.offices c.args.clock c.args.read) c.args.plot c.args.value _ c.alone_code-start.ensures 5 c.if-start-ne0.false
+    (lt_code_passes 5 c.args.plot (get_or ws 2 0) 4 _ c.if-plot-store.false five)
+
+pub returns : goal.returns
+returns c = let ws = c.args.store.now in
+    let none = lt_code_passes 0 c.args.value 268435456 5 0 c.if-value-ge268435456.false refl in
+    first_goes ws (bare c.args.offices c.args.clock c.args.read) c.args.plot c.args.value _ c.alone_code-start.ensures 0 c.if-start-ne0.false
+    (lt_code_passes 0 c.args.plot (get_or ws 2 0) 4 _ c.if-plot-store.false none)
