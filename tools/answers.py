@@ -208,12 +208,10 @@ def turn_file(crate, folder, f, kinds):
                 looks.append(f"no loop {typed[1]}")
                 continue
             new, names, flags = got
-            same = [n for n, c in zip(names, flags) if not c]
-            changed = [n for n, c in zip(names, flags) if c]
-            to = ["l." + n for n in same] + ["l.initial." + n for n in changed] + ["l." + n for n in changed]
+            to = [("l.initial." if c else "l.") + n for n, c in zip(names, flags)] + ["l." + n for n, c in zip(names, flags) if c]
             given = body[2].split()
             if len(given) != len(to):
-                looks.append(f"{typed[1]}: {given} for {same} {changed}")
+                looks.append(f"{typed[1]}: {given} for {to}")
             table = dict(zip(given, to))
             text = re.sub(rf"(?<![.\w'-]){NAME}", lambda n: table.get(n[0], n[0]), body[3])
             if what == "decreases" and kinds.get(new, "for") == "for":

@@ -11,4 +11,4 @@ use borrow.Author.Rules.{rules}
 use Rattle.causal.proofs.row.copy_words.Given as goal
 
 abbrev pub invariant-loop-j : goal.invariant-loop-j
-invariant-loop-j l = (l.j ≤ l.initial.to) × (length l.to ≡ length l.b) × (l.to ≡ sets l.b l.n (part l.from l.a l.j))
+invariant-loop-j l = (l.j ≤ l.n) × (length l.to ≡ length l.initial.to) × (l.to ≡ sets l.initial.to l.b (part l.from l.a l.j))

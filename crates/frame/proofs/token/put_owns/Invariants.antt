@@ -9,4 +9,4 @@ use Rattle.frame.specs.declared.entry.Frame.{Frame}
 use Rattle.frame.proofs.token.put_owns.Given as goal
 
 abbrev pub invariant-loop-i : goal.invariant-loop-i
-invariant-loop-i l = (l.i ≤ l.count) × (length l.out ≡ length l.at) × (l.to ≡ l.own + length (own_rows l.n (tab l.i (owns_of l.initial.out)))) × (l.out ≡ sets l.at l.own (own_rows l.n (tab l.i (owns_of l.initial.out))))
+invariant-loop-i l = (l.i ≤ l.count) × (length l.out ≡ length l.initial.out) × (l.to ≡ l.at + length (own_rows l.n (tab l.i (owns_of l.own)))) × (l.out ≡ sets l.initial.out l.at (own_rows l.n (tab l.i (owns_of l.own))))

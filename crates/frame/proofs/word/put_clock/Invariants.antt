@@ -7,4 +7,4 @@ use Rattle.frame.proofs.Words.{sum_more}
 use Rattle.frame.proofs.word.put_clock.Given as goal
 
 abbrev pub invariant-loop-j : goal.invariant-loop-j
-invariant-loop-j l = (l.j ≤ l.n) × (length l.out ≡ length l.at) × (l.out ≡ sets l.at l.clock (tab l.j (clock_word l.initial.out))) × (l.sum % 268435456 ≡ total (tab l.j (clock_word l.initial.out)) % 268435456)
+invariant-loop-j l = (l.j ≤ l.n) × (length l.out ≡ length l.initial.out) × (l.out ≡ sets l.initial.out l.at (tab l.j (clock_word l.clock))) × (l.sum % 268435456 ≡ total (tab l.j (clock_word l.clock)) % 268435456)

@@ -7,4 +7,4 @@ use Rattle.frame.proofs.Words.{sum_more}
 use Rattle.frame.proofs.word.put_run.Given as goal
 
 abbrev pub invariant-loop-i : goal.invariant-loop-i
-invariant-loop-i l = (l.i ≤ l.count) × (length l.out ≡ length l.at) × (l.out ≡ sets l.at l.initial.out (tab l.i (λ (k : ℕ). l.first + k))) × (l.sum % 268435456 ≡ total (tab l.i (λ (k : ℕ). l.first + k)) % 268435456)
+invariant-loop-i l = (l.i ≤ l.count) × (length l.out ≡ length l.initial.out) × (l.out ≡ sets l.initial.out l.at (tab l.i (λ (k : ℕ). l.first + k))) × (l.sum % 268435456 ≡ total (tab l.i (λ (k : ℕ). l.first + k)) % 268435456)

@@ -8,4 +8,4 @@ use borrow.Author.Rules.{rules}
 use Rattle.office.proofs.entries.hold_own.Given as goal
 
 abbrev pub invariant-loop-i : goal.invariant-loop-i
-invariant-loop-i l = (l.i ≤ l.own) × (length l.store ≡ length l.held) × (l.store ≡ holds_in l.count l.held (own_to l.initial.store l.i))
+invariant-loop-i l = (l.i ≤ l.count) × (length l.store ≡ length l.initial.store) × (l.store ≡ holds_in l.held l.initial.store (own_to l.own l.i))

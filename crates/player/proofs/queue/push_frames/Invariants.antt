@@ -11,4 +11,4 @@ use borrow.Author.Rules.{rules}
 use Rattle.player.proofs.queue.push_frames.Given as goal
 
 abbrev pub invariant-loop-k : goal.invariant-loop-k
-invariant-loop-k l = (l.k ≤ l.initial.lines) × (l.at ≡ start_of l.n l.k) × (length l.lines ≡ 9984) × (l.lines ≡ pushed l.office l.q l.row l.n l.k)
+invariant-loop-k l = (l.k ≤ l.n) × (l.at ≡ start_of l.row l.k) × (length l.lines ≡ 9984) × (l.lines ≡ pushed l.initial.lines l.office l.q l.row l.k)

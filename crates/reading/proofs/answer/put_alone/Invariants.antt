@@ -9,4 +9,4 @@ use borrow.Author.Rules.{rules}
 use Rattle.reading.proofs.answer.put_alone.Given as goal
 
 abbrev pub invariant-loop-i : goal.invariant-loop-i
-invariant-loop-i l = (l.i ≤ l.n) × (length l.answer ≡ length l.places) × (l.answer ≡ sets l.places 0 (words_to (found_among l.store l.initial.answer) l.i))
+invariant-loop-i l = (l.i ≤ l.n) × (length l.answer ≡ length l.initial.answer) × (l.answer ≡ sets l.initial.answer 0 (words_to (found_among l.store l.places) l.i))

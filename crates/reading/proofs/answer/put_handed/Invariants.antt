@@ -12,4 +12,4 @@ use borrow.Author.Rules.{rules}
 use Rattle.reading.proofs.answer.put_handed.Given as goal
 
 abbrev pub invariant-loop-i : goal.invariant-loop-i
-invariant-loop-i l = (l.i ≤ length l.plots) × (length l.answer ≡ length l.places) × (l.answer ≡ sets l.places 0 (words_to (handed_among l.store l.s.own l.s.count l.plots l.own) l.i))
+invariant-loop-i l = (l.i ≤ length l.plots) × (length l.answer ≡ length l.initial.answer) × (l.answer ≡ sets l.initial.answer 0 (words_to (handed_among l.store l.s.own l.s.count l.plots l.places) l.i))

@@ -8,4 +8,4 @@ use borrow.Author.Rules.{rules}
 use Rattle.script.proofs.field.value.Given as goal
 
 abbrev pub invariant-loop-i : goal.invariant-loop-i
-invariant-loop-i l = (l.i ≤ length l.part) × (l.initial.i ≡ length l.part) × (l.v ≤ 4294967296) × (l.v ≡ capped (take l.i l.part))
+invariant-loop-i l = (l.i ≤ length l.part) × (l.i-end ≡ length l.part) × (l.v ≤ 4294967296) × (l.v ≡ capped (take l.i l.part))

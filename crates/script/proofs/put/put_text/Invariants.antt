@@ -9,4 +9,4 @@ use borrow.Author.Rules.{rules}
 use Rattle.script.proofs.put.put_text.Given as goal
 
 abbrev pub invariant-loop-j : goal.invariant-loop-j
-invariant-loop-j l = (l.j ≤ length l.text) × (l.initial.j ≡ length l.text) × (length l.out ≡ length l.at) × (l.out ≡ sets l.at l.j-end (take l.j l.text))
+invariant-loop-j l = (l.j ≤ length l.text) × (l.j-end ≡ length l.text) × (length l.out ≡ length l.initial.out) × (l.out ≡ sets l.initial.out l.at (take l.j l.text))

@@ -4,4 +4,4 @@ use Rattle.causal.proofs.Lists.{sets_more}
 use Rattle.store.proofs.layout.put.Given as goal
 
 abbrev pub invariant-loop-j : goal.invariant-loop-j
-invariant-loop-j l = (l.j ≤ 8) × (length l.store ≡ length l.at) × (length l.initial.store ≡ 8) × (l.store ≡ sets l.at l.xs (take l.j l.initial.store))
+invariant-loop-j l = (l.j ≤ 8) × (length l.store ≡ length l.initial.store) × (length l.xs ≡ 8) × (l.store ≡ sets l.initial.store l.at (take l.j l.xs))

@@ -13,4 +13,4 @@ use borrow.Author.Rules.{rules}
 use Rattle.writing.proofs.send.put_own.Given as goal
 
 abbrev pub invariant-loop-i : goal.invariant-loop-i
-invariant-loop-i l = (l.i ≤ l.count) × (l.at ≡ length (frames_in l.held l.n (own_to l.initial.out l.i))) × (l.out ≡ sets l.own 0 (frames_in l.held l.n (own_to l.initial.out l.i)))
+invariant-loop-i l = (l.i ≤ l.count) × (l.at ≡ length (frames_in l.held l.n (own_to l.own l.i))) × (l.out ≡ sets l.initial.out 0 (frames_in l.held l.n (own_to l.own l.i)))
