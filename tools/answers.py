@@ -61,6 +61,7 @@ class Turn:
         self.f, self.looks, self.goal, self.helpers = f, looks, goal, helpers or {}
         self.place = place
         self.names = names
+        self.used = []
         self.env = {names: ("state", place)}
 
     def ancestors(self):
@@ -78,9 +79,10 @@ class Turn:
                 return ("state", back or "Start"), None
             if name in ("args", "ranges"):
                 return (name, None), [self.names, name]
-            for place in self.ancestors():
-                if norm(place[2][0]) == norm(name):
-                    return ("step", place[0]), [self.names, place[2][1]]
+            for word in (name, re.sub(r"_lem$", "", name)):
+                for place in self.ancestors():
+                    if norm(place[2][0]) == norm(word):
+                        return ("step", place[0]), [self.names, place[2][1]]
             mapped = f.args.get("." + norm(name))
             if mapped:
                 return ("plain", None), [self.names, mapped[1:]]
@@ -96,23 +98,39 @@ class Turn:
         return ("plain", None), [name]
 
     def whole(self, at, before):
-        """A whole state, as an argument of a helper."""
+        """A whole state, as the argument of a helper, which becomes a `let` of the answer: '' stands for it."""
         m = re.search(rf"(?<![.\w'-])({NAME}) \(?$", before)
-        helper = self.helpers.get(m[1]) if m else None
-        if helper is None:
+        if not m or m[1] not in self.helpers:
             self.looks.append(f"a whole state, at {at}: ..{before[-40:]}")
             return self.names
-        if helper == self.place:
-            return self.names
-        if self.goal is None:
-            self.looks.append(f"a whole state in a helper: {m[1]}")
-            return self.names
-        return f"(goal.at.{self.goal} {self.names}).{self.f.new_place(helper)}"
+        self.used.append(m[1])
+        return "\0"
 
     def path(self, root, fields):
         kind, at = self.env[root]
         out = None if kind == "state" else [root]
-        for name in fields:
+        fields = list(fields)
+        while fields:
+            name = fields.pop(0)
+            if kind == "step" and name in ("new", "auto"):
+                names = self.f.data["params"].get(self.f.places[at][3])
+                n = 0
+                while fields and fields[0] == "1":
+                    fields.pop(0)
+                    n += 1
+                if names and fields and fields[0] == "0":
+                    fields.pop(0)
+                if names and n < len(names):
+                    out += [name, names[n]]
+                    kind, at = "plain", None
+                    continue
+                out += [name] + ["1"] * n
+                kind, at = "plain", None
+                continue
+            if kind == "step" and name == "ensures" and re.search(r"::wrapping_\w+$", self.f.places[at][3] or ""):
+                out += ["ensures", "value"]
+                kind, at = "plain", None
+                continue
             (kind, at), said = self.field(kind, at, name)
             if said:
                 out = said if out is None else out + said
@@ -157,7 +175,53 @@ class Turn:
                 continue
             out.append(body[i])
             i += 1
-        return "".join(out)
+        said = "".join(out)
+        # `helper c` and `helper (c)` are the name alone
+        return re.sub(r" \(\0\)| \0", "", said)
+
+
+class Helper:
+    """A lemma over a place of the walk: `name : (c : tie.PLACE) → TYPE` and `name c = BODY`. Each answer that cites it gets it as a `let`."""
+
+    def __init__(self, f, code, found):
+        self.name, self.given, place = found[1], found[2], f.place_of(found[3])
+        self.place = place
+        rest = code[found.end() :]
+        head, body = re.split(rf"^{re.escape(self.name)} {re.escape(self.given)} =", rest, maxsplit=1, flags=re.M)
+        lines = head.split("\n")
+        self.opened = [w for l in lines if l.startswith("unfolding ") for w in l.split()[1:]]
+        self.typed = " ".join(l.strip() for l in lines if not l.startswith("unfolding ") and l.strip())
+        self.body = body.strip()
+        self.f = f
+
+    def let(self, helpers, looks):
+        a = Turn(self.f, self.place, looks, None, helpers, self.given)
+        typed = a.text(self.typed)
+        b = Turn(self.f, self.place, looks, None, helpers, self.given)
+        body = b.text(self.body)
+        to = lambda t: re.sub(rf"(?<![.\w'-]){re.escape(self.given)}(?=\.)", "c", t)
+        return f"let {self.name} : {to(typed)} = {to(body)} in", a.used + b.used
+
+
+def with_lets(helpers, used, text, looks):
+    """The lets that a text needs, each after those that it cites, and what they unfold."""
+    order, opened = [], []
+
+    def add(name):
+        if name in order:
+            return
+        said, more = helpers[name].let(helpers, looks)
+        for m in more:
+            if m != name:
+                add(m)
+        order.append(name)
+        lets.append(said)
+        opened.extend(helpers[name].opened)
+
+    lets = []
+    for name in used:
+        add(name)
+    return ("\n    " + "\n    ".join(lets) + "\n    " + text if lets else text), opened
 
 
 def blocks(text):
@@ -188,7 +252,12 @@ def turn_file(crate, folder, f, kinds):
     crate_name = os.path.basename(crate)
     keep = [u for u in uses if not re.search(rf"\.proofs\.{re.escape(dotted)}\.(Statement|Tie)\b", u)]
     HELPER = re.compile(rf"^({NAME}) : \(({NAME}) : tie\.({NAME})(?: invariant-{NAME}| decreases-{NAME})*\)\s+→ ", re.M)
-    places = {m[1]: f.place_of(m[3]) for d in decls for m in [HELPER.search(d)] if m}
+    places = {}
+    for d in decls:
+        m = HELPER.search(d)
+        if m and f.place_of(m[3]) and re.search(rf"^{re.escape(m[1])} {re.escape(m[2])} =", d, re.M):
+            places[m[1]] = Helper(f, d, m)
+    last = None
     for d in decls:
         comment = "".join(l + "\n" for l in d.split("\n") if l.startswith("--"))
         code = "\n".join(l for l in d.split("\n") if not l.startswith("--")).strip("\n")
@@ -220,6 +289,12 @@ def turn_file(crate, folder, f, kinds):
             continue
         if typed and typed[1].startswith("Need-"):
             got = f.goals.get(goal_of(typed[1]))
+            part = re.match(r"Need-slice-bounds-(.*)-(start|end)$", typed[1])
+            if got is None and part and last:
+                # the bounds of a part that is lent on, which the walk asked beside the goal before
+                callee = next((k.split("::")[-1] for k in f.data["params"] if norm(k.split("::")[-1]) == part[1]), None)
+                got = (f"slice_bounds-{callee}-{part[2]}", last) if callee else None
+            last = got[1] if got else None
             lines = rest.split("\n")
             opened = [l for l in lines if l.startswith("unfolding ")]
             eq = "\n".join(l for l in lines if not l.startswith("unfolding "))
@@ -234,20 +309,23 @@ def turn_file(crate, folder, f, kinds):
             if not body:
                 looks.append(f"unread answer {typed[1]}: {eq[:100]}")
                 continue
-            if body[3].strip() in ("search rules", "search needs"):
+            if body[3].strip() in ("search rules", "search needs") and not opened:
                 continue
             try:
-                text = Turn(f, place, looks, new, places, body[2]).text(body[3])
+                turn = Turn(f, place, looks, new, places, body[2])
+                text = turn.text(body[3])
+                text, more = with_lets(places, turn.used, text, looks)
+                if more:
+                    had = [w for o in opened for w in o.split()[1:]]
+                    opened = ["unfolding " + " ".join(had + [w for w in dict.fromkeys(more) if w not in had])]
             except (Said, KeyError) as e:
                 looks.append(f"{typed[1]}: {e}")
                 text = "? -- " + body[3].replace("\n", "\n-- ")
             answers.append(f"{comment}pub {new} : goal.{new}\n" + "".join(o + "\n" for o in opened) + f"{new} {body[2]} = {text}")
             continue
         m = HELPER.match(code)
-        if m and f.place_of(m[3]):
-            place = f.place_of(m[3])
-            typed, given, rest = re.sub(r" invariant-\S+| decreases-[^\s)]+", "", m[0]).replace("tie." + m[3], "goal." + f.new_place(place)), m[2], code[m.end() :]
-            code = typed + Turn(f, place, looks, None, places, given).text(rest)
+        if m and m[1] in places:
+            continue
         helpers.append((code, comment))
         if "tie." in code:
             looks.append(f"a helper that names tie: {head[:80]}")

@@ -32,6 +32,7 @@ pub enum Written {
 }
 
 // The refusal of a number.
+#[tactic(auto, unfolding(crate::specs::Refusals::number_of))]
 pub fn refusal_of(code: u32) -> Refusal
     requires { (1 ≤ code) × (code ≤ 12) }
     ensures { number_of result ≡ code }
@@ -53,6 +54,7 @@ pub fn refusal_of(code: u32) -> Refusal
 }
 
 // The number of a refusal.
+#[tactic(auto, unfolding(crate::specs::Refusals::number_of))]
 pub fn number_of(refusal: Refusal) -> u32
     ensures { result ≡ number_of refusal }
 {
@@ -73,6 +75,7 @@ pub fn number_of(refusal: Refusal) -> u32
 }
 
 // The number of an answer: 0 where nothing is refused.
+#[tactic(auto, unfolding(crate::specs::Refusals::code_of))]
 pub fn code_of(status: Status) -> u32
     ensures { result ≡ code_of status }
 {

@@ -11,41 +11,44 @@ use prog.Routine.{Routine}
 use Rattle.frame.specs.Refusals.{code_of, reply_of}
 use Rattle.frame.specs.declared.refusal.Status.{Status}
 use Rattle.frame.specs.declared.refusal.Written.{Written}
-use Rattle.frame.proofs.Contract.{Four, Lent, Row, Three, Two}
+use Rattle.frame.proofs.Contract.{Four, Lent, MutRow, Row, Three, Two}
 use Rattle.office.specs.Promises.{JointPromise, ReadPromise, WritePromise}
 use Rattle.lent.specs.declared.core.PlotAnswer.{PlotAnswer}
-use Rattle.lent.proofs.calls.read_joint as read-joint
-use Rattle.lent.proofs.calls.read_plot as read-plot
-use Rattle.lent.proofs.calls.write as write
+use Rattle.lent.proofs.calls.read_joint as ReadJoint
+use Rattle.lent.specs.contracts.calls.read_joint as ReadJointContract
+use Rattle.lent.proofs.calls.read_plot as ReadPlot
+use Rattle.lent.specs.contracts.calls.read_plot as ReadPlotContract
+use Rattle.lent.proofs.calls.write as Write
+use Rattle.lent.specs.contracts.calls.write as WriteContract
 
 module _ {M : Type 1} {𝓤 : Ura M} (𝓛 : Logic 𝓤) (mem : Memory → SProp 𝓤) (run : Routine → Fun 𝓤) where
   pub record LentContracts : Type 2 where
-    pub read_met : read-plot.Statement.statement M
-    pub read_is : (κs : Two) (ws : Row) (s : Lent) (plot : ℕ) (r : PlotAnswer) (ws' : Row) (s' : Lent)
-        → (read-plot.clauses 𝓛 mem run κs (ws, (s, (plot, tt)))).ensures tt r (ws', (s', (plot, tt)))
+    pub read_met : ReadPlot.Statement.statement M
+    pub read_is : (κs : Two) (ws : MutRow) (s : Lent) (plot : ℕ) (r : PlotAnswer) (ws' : MutRow) (s' : Lent)
+        → (ReadPlotContract.clauses 𝓛 mem run κs (ws, (s, (plot, tt)))).ensures tt r (ws', (s', (plot, tt)))
         ≡ fact 𝓤 (ReadPromise ws.now s.now plot (code_of r.status) r.found r.entry s'.now ws'.now)
-    pub read_asks : (κs : Two) (ws : Row) (s : Lent) (plot : ℕ) → (read-plot.clauses 𝓛 mem run κs (ws, (s, (plot, tt)))).requires tt ≡ emp 𝓤
-    pub joint_met : read-joint.Statement.statement M
-    pub joint_is : (κs : Four) (ws : Row) (s : Lent) (plots row : Row) (r : Status) (ws' : Row) (s' : Lent) (plots' row' : Row)
-        → (read-joint.clauses 𝓛 mem run κs (ws, (s, (plots, (row, tt))))).ensures tt r (ws', (s', (plots', (row', tt))))
+    pub read_asks : (κs : Two) (ws : MutRow) (s : Lent) (plot : ℕ) → (ReadPlotContract.clauses 𝓛 mem run κs (ws, (s, (plot, tt)))).requires tt ≡ emp 𝓤
+    pub joint_met : ReadJoint.Statement.statement M
+    pub joint_is : (κs : Four) (ws : MutRow) (s : Lent) (plots : Row) (row : MutRow) (r : Status) (ws' : MutRow) (s' : Lent) (plots' : Row) (row' : MutRow)
+        → (ReadJointContract.clauses 𝓛 mem run κs (ws, (s, (plots, (row, tt))))).ensures tt r (ws', (s', (plots', (row', tt))))
         ≡ fact 𝓤 (JointPromise ws.now s.now plots.now row.now (code_of r) s'.now ws'.now row'.now)
-    pub joint_asks : (κs : Four) (ws : Row) (s : Lent) (plots row : Row) → (read-joint.clauses 𝓛 mem run κs (ws, (s, (plots, (row, tt))))).requires tt ≡ emp 𝓤
-    pub write_met : write.Statement.statement M
-    pub write_is : (κs : Three) (ws : Row) (s : Lent) (plot value : ℕ) (row : Row) (r : Written) (ws' : Row) (s' : Lent) (row' : Row)
-        → (write.clauses 𝓛 mem run κs (ws, (s, (plot, (value, (row, tt)))))).ensures tt r (ws', (s', (plot, (value, (row', tt)))))
+    pub joint_asks : (κs : Four) (ws : MutRow) (s : Lent) (plots : Row) (row : MutRow) → (ReadJointContract.clauses 𝓛 mem run κs (ws, (s, (plots, (row, tt))))).requires tt ≡ emp 𝓤
+    pub write_met : Write.Statement.statement M
+    pub write_is : (κs : Three) (ws : MutRow) (s : Lent) (plot value : ℕ) (row : MutRow) (r : Written) (ws' : MutRow) (s' : Lent) (row' : MutRow)
+        → (WriteContract.clauses 𝓛 mem run κs (ws, (s, (plot, (value, (row, tt)))))).ensures tt r (ws', (s', (plot, (value, (row', tt)))))
         ≡ fact 𝓤 (WritePromise ws.now s.now plot value row.now (reply_of r) s'.now ws'.now row'.now)
-    pub write_asks : (κs : Three) (ws : Row) (s : Lent) (plot value : ℕ) (row : Row) → (write.clauses 𝓛 mem run κs (ws, (s, (plot, (value, (row, tt)))))).requires tt ≡ emp 𝓤
+    pub write_asks : (κs : Three) (ws : MutRow) (s : Lent) (plot value : ℕ) (row : MutRow) → (WriteContract.clauses 𝓛 mem run κs (ws, (s, (plot, (value, (row, tt)))))).requires tt ≡ emp 𝓤
 
   pub lent_contracts : LentContracts
   lent_contracts =
       record {
-        read_met = read-plot.Met.met;
+        read_met = ReadPlot.Met.met;
         read_is = λ κs ws s plot r ws' s'. refl;
         read_asks = λ κs ws s plot. refl;
-        joint_met = read-joint.Met.met;
+        joint_met = ReadJoint.Met.met;
         joint_is = λ κs ws s plots row r ws' s' plots' row'. refl;
         joint_asks = λ κs ws s plots row. refl;
-        write_met = write.Met.met;
+        write_met = Write.Met.met;
         write_is = λ κs ws s plot value row r ws' s' row'. refl;
         write_asks = λ κs ws s plot value row. refl;
       }

@@ -13,6 +13,9 @@ loop-i-init c = let z = c.args in T.turn_first z.ws.now z.n z.p z.count _ c.blan
 pub slice_bounds-own_from-count : goal.slice_bounds-own_from-count
 slice_bounds-own_from-count c = let h = c.loop-i.invariant.within in search rules
 
+pub slice_bounds-own_from-start : goal.slice_bounds-own_from-start
+slice_bounds-own_from-start c = let h = c.loop-i.invariant.within in search rules
+
 pub own_from-read-requires : goal.own_from-read-requires
 own_from-read-requires c = c.requires.0
 

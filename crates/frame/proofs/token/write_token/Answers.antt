@@ -25,4 +25,4 @@ fill-requires c = let x = c.args.s in let o = c.args.out.now in ((sym c.ring_ok.
 
 pub returns : goal.returns
 unfolding reply_of content_of
-returns c = let x = c.args.s in let o = c.args.out.now in T.write_accepted (content_of x) o c.words_of-words.result c.fill.new.1.0 (T.write_may (content_of x) o (sym c.ring_ok.ensures ∙ not-false _ c.if-not-ring_ok.false-raw) (sym c.session_ok.ensures ∙ not-false _ c.if-not-session_ok.false-raw) (omega (arith, c.words_of-words.ensures))) c.words_of-words.ensures c.fill.ensures
+returns c = let x = c.args.s in let o = c.args.out.now in T.write_accepted (content_of x) o c.words_of-words.result c.fill.new.out (T.write_may (content_of x) o (sym c.ring_ok.ensures ∙ not-false _ c.if-not-ring_ok.false-raw) (sym c.session_ok.ensures ∙ not-false _ c.if-not-session_ok.false-raw) (omega (arith, c.words_of-words.ensures))) c.words_of-words.ensures c.fill.ensures

@@ -12,7 +12,7 @@ loop-i-preserved c = let l = c.loop-i in
     let ws = c.args.ws.now in (
       omega arith,
       refl,
-      ap (λ (x : ℕ). x % 268435456) c.wrapping_add_u32-sum.ensures ∙ wrapped l.sum (get_or ws l.i 0) (total (take l.i ws)) l.invariant.2 ∙ ap (λ (x : ℕ). x % 268435456) (sym (total_take ws l.i (omega arith))),
+      ap (λ (x : ℕ). x % 268435456) c.wrapping_add_u32-sum.ensures.value ∙ wrapped l.sum (get_or ws l.i 0) (total (take l.i ws)) l.invariant.2 ∙ ap (λ (x : ℕ). x % 268435456) (sym (total_take ws l.i (omega arith))),
     )
 
 pub returns : goal.returns

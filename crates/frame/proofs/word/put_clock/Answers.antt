@@ -21,7 +21,7 @@ loop-j-preserved c = let z = c.args in let l = c.loop-j in (
       omega arith,
       simp length-set l.invariant.1,
       ap (λ (o : List ℕ). set o (z.at + l.j) (clock_word z.clock l.j)) l.invariant.2 ∙ sets_tab z.out.now z.at (clock_word z.clock) l.j,
-      ap (λ (x : ℕ). x % 268435456) c.wrapping_add_u32-sum.ensures ∙ sum_more l.sum (clock_word z.clock l.j) (tab l.j (clock_word z.clock)) l.invariant.3 ∙ ap (λ (o : List ℕ). total o % 268435456) (sym (tab_more l.j (clock_word z.clock))),
+      ap (λ (x : ℕ). x % 268435456) c.wrapping_add_u32-sum.ensures.value ∙ sum_more l.sum (clock_word z.clock l.j) (tab l.j (clock_word z.clock)) l.invariant.3 ∙ ap (λ (o : List ℕ). total o % 268435456) (sym (tab_more l.j (clock_word z.clock))),
     )
 
 pub shape_of-out : goal.shape_of-out

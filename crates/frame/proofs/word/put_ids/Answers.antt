@@ -27,7 +27,7 @@ loop-j-preserved c = let z = c.args in
           ∙ ap (λ (k : ℕ). sets (sets z.out.now z.at (id_words_to z.ids (32 * l.j))) k I) l.invariant.2
           ∙ sym (sets_append z.out.now z.at (id_words_to z.ids (32 * l.j)) I)
           ∙ ap (sets z.out.now z.at) (sym w),
-      ap (λ (x : ℕ). x % 268435456) c.wrapping_add_u32-sum.ensures ∙ sum_added l.sum c.put_ids_of-put.result.sum (id_words_to z.ids (32 * l.j)) I l.invariant.4 e.1 ∙ ap (λ (o : List ℕ). total o % 268435456) (sym w),
+      ap (λ (x : ℕ). x % 268435456) c.wrapping_add_u32-sum.ensures.value ∙ sum_added l.sum c.put_ids_of-put.result.sum (id_words_to z.ids (32 * l.j)) I l.invariant.4 e.1 ∙ ap (λ (o : List ℕ). total o % 268435456) (sym w),
     )
 
 pub shape_of-out : goal.shape_of-out

@@ -18,7 +18,7 @@ loop-i-preserved c = let z = c.args in let l = c.loop-i in (
       omega arith,
       simp length-set l.invariant.1,
       ap (λ (o : List ℕ). set o (z.at + l.i) (z.first + l.i)) l.invariant.2 ∙ sets_tab z.out.now z.at (λ (k : ℕ). z.first + k) l.i,
-      ap (λ (x : ℕ). x % 268435456) c.wrapping_add_u32-sum.ensures ∙ sum_more l.sum (z.first + l.i) (tab l.i (λ (k : ℕ). z.first + k)) l.invariant.3 ∙ ap (λ (o : List ℕ). total o % 268435456) (sym (tab_more l.i (λ (k : ℕ). z.first + k))),
+      ap (λ (x : ℕ). x % 268435456) c.wrapping_add_u32-sum.ensures.value ∙ sum_more l.sum (z.first + l.i) (tab l.i (λ (k : ℕ). z.first + k)) l.invariant.3 ∙ ap (λ (o : List ℕ). total o % 268435456) (sym (tab_more l.i (λ (k : ℕ). z.first + k))),
     )
 
 pub shape_of-out : goal.shape_of-out

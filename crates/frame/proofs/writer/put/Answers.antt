@@ -6,20 +6,14 @@ use Rattle.frame.proofs.Frames.{HeadFits, head_fits, length_frame}
 use Rattle.frame.proofs.Turns.{head_last, body_sum, frame_most}
 use Rattle.frame.proofs.writer.put.Goals as goal
 
-facts : (c : goal.Start) → FrameFacts c.args.f.offices 64 c.args.f
-facts c = frame_facts c.args.f.offices 64 c.args.f c.requires.0
-
-rules : (c : goal.Start) → EntryFacts c.args.f.offices 64 c.args.f.entry
-rules c = entry_facts c.args.f.offices 64 c.args.f.entry (facts c).entry
-
-fits : (c : goal.Start) → HeadFits c.args.f.entry.office c.args.f.entry.serial c.args.f.hops c.args.f.offices (length (id_words c.args.f.entry.deps))
-fits c = head_fits c.args.f.offices 64 c.args.f c.requires.0
-
 pub put_clock-clocks-requires : goal.put_clock-clocks-requires
-put_clock-clocks-requires c = let f = c.args.f in ((facts (goal.at.put_clock-clocks-requires c).Start).high, omega (arith, c.requires.1, length_frame f), λ j k. (clock_facts f.offices f.entry.clock (rules (goal.at.put_clock-clocks-requires c).Start).clock j k).small)
+put_clock-clocks-requires c = 
+    let facts : FrameFacts c.args.f.offices 64 c.args.f = frame_facts c.args.f.offices 64 c.args.f c.requires.0 in
+    let rules : EntryFacts c.args.f.offices 64 c.args.f.entry = entry_facts c.args.f.offices 64 c.args.f.entry (facts).entry in
+    let f = c.args.f in ((facts).high, omega (arith, c.requires.1, length_frame f), λ j k. (clock_facts f.offices f.entry.clock (rules).clock j k).small)
 
 pub put_ids-put-requires : goal.put_ids-put-requires
-put_ids-put-requires c = let f = c.args.f in omega (arith, c.requires.1, length_frame f, c.put_clock-clocks.auto.1.1.0)
+put_ids-put-requires c = let f = c.args.f in omega (arith, c.requires.1, length_frame f, c.put_clock-clocks.auto.out)
 
 pub overflow_sub-count : goal.overflow_sub-count
 overflow_sub-count c = omega (arith, c.put_ids-put.ensures.0)
@@ -28,25 +22,37 @@ pub overflow_sub-count-2 : goal.overflow_sub-count-2
 overflow_sub-count-2 c = omega (arith, c.put_ids-put.ensures.0)
 
 pub overflow_cast-count-2 : goal.overflow_cast-count-2
-overflow_cast-count-2 c = let f = c.args.f in omega (arith, c.put_ids-put.ensures.0, (fits (goal.at.overflow_cast-count-2 c).Start).count)
+overflow_cast-count-2 c = 
+    let fits : HeadFits c.args.f.entry.office c.args.f.entry.serial c.args.f.hops c.args.f.offices (length (id_words c.args.f.entry.deps)) = head_fits c.args.f.offices 64 c.args.f c.requires.0 in
+    let f = c.args.f in omega (arith, c.put_ids-put.ensures.0, (fits).count)
 
 pub head_word-head-requires : goal.head_word-head-requires
-head_word-head-requires c = let f = c.args.f in let h = fits (goal.at.head_word-head-requires c).Start in (h.office, h.serial, h.hops, h.offices, omega (arith, c.put_ids-put.ensures.0, h.count))
+head_word-head-requires c = 
+    let fits : HeadFits c.args.f.entry.office c.args.f.entry.serial c.args.f.hops c.args.f.offices (length (id_words c.args.f.entry.deps)) = head_fits c.args.f.offices 64 c.args.f c.requires.0 in
+    let f = c.args.f in let h = fits in (h.office, h.serial, h.hops, h.offices, omega (arith, c.put_ids-put.ensures.0, h.count))
 
 pub put_head-requires : goal.put_head-requires
-put_head-requires c = let f = c.args.f in (omega (arith, c.requires.1, length_frame f, c.put_ids-put.auto.1.0, c.put_clock-clocks.auto.1.1.0), omega (arith, (rules (goal.at.put_head-requires c).Start).bounds), (rules (goal.at.put_head-requires c).Start).bounds.value_ok)
+put_head-requires c = 
+    let facts : FrameFacts c.args.f.offices 64 c.args.f = frame_facts c.args.f.offices 64 c.args.f c.requires.0 in
+    let rules : EntryFacts c.args.f.offices 64 c.args.f.entry = entry_facts c.args.f.offices 64 c.args.f.entry (facts).entry in
+    let f = c.args.f in (omega (arith, c.requires.1, length_frame f, c.put_ids-put.auto.out, c.put_clock-clocks.auto.out), omega (arith, (rules).bounds), (rules).bounds.value_ok)
 
 pub overflow_add-e : goal.overflow_add-e
-overflow_add-e c = let f = c.args.f in omega (arith, (rules (goal.at.overflow_add-e c).Start).bounds)
+overflow_add-e c = 
+    let facts : FrameFacts c.args.f.offices 64 c.args.f = frame_facts c.args.f.offices 64 c.args.f c.requires.0 in
+    let rules : EntryFacts c.args.f.offices 64 c.args.f.entry = entry_facts c.args.f.offices 64 c.args.f.entry (facts).entry in
+    let f = c.args.f in omega (arith, (rules).bounds)
 
 pub bounds-out-end : goal.bounds-out-end
-bounds-out-end c = let f = c.args.f in omega (arith, c.requires.1, length_frame f, c.put_ids-put.ensures.0, c.put_head.auto.0, c.put_ids-put.auto.1.0, c.put_clock-clocks.auto.1.1.0)
+bounds-out-end c = let f = c.args.f in omega (arith, c.requires.1, length_frame f, c.put_ids-put.ensures.0, c.put_head.auto.out, c.put_ids-put.auto.out, c.put_clock-clocks.auto.out)
 
 pub overflow_add-result : goal.overflow_add-result
-overflow_add-result c = let f = c.args.f in omega (arith, c.put_ids-put.ensures.0, length_frame f, frame_most f (facts (goal.at.overflow_add-result c).Start).high)
+overflow_add-result c = 
+    let facts : FrameFacts c.args.f.offices 64 c.args.f = frame_facts c.args.f.offices 64 c.args.f c.requires.0 in
+    let f = c.args.f in omega (arith, c.put_ids-put.ensures.0, length_frame f, frame_most f (facts).high)
 
 pub shape_of-out : goal.shape_of-out
-shape_of-out c = length-set c.put_head.new.0 c.put_ids-put.result.to c.check_word.result ∙ c.put_head.auto.0 ∙ c.put_ids-put.auto.1.0 ∙ c.put_clock-clocks.auto.1.1.0
+shape_of-out c = length-set c.put_head.new.out c.put_ids-put.result.to c.check_word.result ∙ c.put_head.auto.out ∙ c.put_ids-put.auto.out ∙ c.put_clock-clocks.auto.out
 
 pub returns : goal.returns
 returns c = let f = c.args.f in
@@ -56,5 +62,5 @@ returns c = let f = c.args.f in
     let h = c.head_word-head.ensures ∙ ap (head_word f.entry.office f.entry.serial f.hops f.offices) e in
     let s = c.check_word.ensures ∙ body_sum f c.head_word-head.result c.put_clock-clocks.result c.put_ids-put.result.sum h k.0 i.1 in (
       omega (arith, i.0, length_frame f),
-      head_last f c.args.out.now _ _ _ _ _ _ h k.1 i.2 c.put_head.ensures i.0 (ap (set c.put_head.new.0 c.put_ids-put.result.to) s) c.requires.1,
+      head_last f c.args.out.now _ _ _ _ _ _ h k.1 i.2 c.put_head.ensures i.0 (ap (set c.put_head.new.out c.put_ids-put.result.to) s) c.requires.1,
     )

@@ -35,7 +35,7 @@ overflow_sub-out-2 c = let fr = c.args.frame.now in
 pub bounds-out-end : goal.bounds-out-end
 bounds-out-end c = let fr = c.args.frame.now in
     let l = long fr c.requires.0 in
-    simp length-set (omega (arith, l, c.requires.2, c.copy_words.auto.1.1.0))
+    simp length-set (omega (arith, l, c.requires.2, c.copy_words.auto.to))
 
 pub returns : goal.returns
 returns c = let fr = c.args.frame.now in

@@ -10,4 +10,4 @@ returns-in-Words c = let e = c.written-1.given.1 in ap reply_of (sym e)
 
 pub returns-in-NotWritten : goal.returns-in-NotWritten
 unfolding reply_of
-returns-in-NotWritten c = let e = c.written-in-NotWritten-1.given.1 in ap (λ (x : ℕ). record { code = x; words = 0 }) c.number_of_lem.ensures ∙ ap reply_of (sym e)
+returns-in-NotWritten c = let e = c.written-in-NotWritten-1.given.1 in ap (λ (x : ℕ). record { code = x; words = 0 }) c.number_of.ensures ∙ ap reply_of (sym e)

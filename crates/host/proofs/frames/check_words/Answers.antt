@@ -38,4 +38,4 @@ pub returns : goal.returns
 returns c = let l = c.loop-i in
     let e : l.i ≡ c.args.n = omega arith in
     let f : l.row ≡ sets (replicate 267 0) 0 (tab c.args.n (word_at c.args.bytes.now)) = rw e at l.invariant.2 in
-    c.code_of_lem.ensures ∙ c.read_frame_lem.ensures.0 ∙ ap (read_frame_code c.args.offices c.args.plots) (filled c.args.bytes.now l.row c.args.n c.requires.0 f)
+    c.code_of.ensures ∙ c.read_frame-read.ensures.0 ∙ ap (read_frame_code c.args.offices c.args.plots) (filled c.args.bytes.now l.row c.args.n c.requires.0 f)

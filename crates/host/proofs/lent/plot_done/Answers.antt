@@ -5,4 +5,4 @@ use Rattle.host.proofs.lent.plot_done.Goals as goal
 
 pub returns : goal.returns
 returns c = let q = c.flag-found.ensures in
-    (flag_low _ _ q, c.code_of_lem.ensures, flag_set _ _ q, refl, refl)
+    (flag_low _ _ q, c.code_of-refusal.ensures, flag_set _ _ q, refl, refl)

@@ -15,7 +15,7 @@ hold_new-requires c = let p = c.requires.1 c.loop-i.i (omega arith) in
     omega (arith, p, c.loop-i.invariant.1)
 
 pub loop-i-preserved : goal.loop-i-preserved
-loop-i-preserved c = (search rules, c.hold_new.auto.0 ∙ c.loop-i.invariant.1, holds_more c.args.held c.args.own c.args.store.now _ _ c.loop-i.i c.loop-i.invariant.2 c.hold_new.ensures)
+loop-i-preserved c = (search rules, c.hold_new.auto.store ∙ c.loop-i.invariant.1, holds_more c.args.held c.args.own c.args.store.now _ _ c.loop-i.i c.loop-i.invariant.2 c.hold_new.ensures)
 
 pub returns : goal.returns
 returns c = c.loop-i.invariant.2 ∙ ap (λ (i : ℕ). holds_in c.args.held c.args.store.now (own_to c.args.own i)) (omega arith)

@@ -7,4 +7,4 @@ use Rattle.player.proofs.opening.open_at.Goals as goal
 
 pub returns : goal.returns
 returns c = let q = c.open_office in
-    st.opens_at c.args.stores.now _ q.new.1.1.1.0 c.args.office (dl.lent_part c.args.stores.now (1747 * c.args.office) 1747) q.ensures.1 (omega (arith, c.requires.0, c.requires.1)) q.auto.1.1.1.0
+    st.opens_at c.args.stores.now _ q.new.store c.args.office (dl.lent_part c.args.stores.now (1747 * c.args.office) 1747) q.ensures.1 (omega (arith, c.requires.0, c.requires.1)) q.auto.store

@@ -9,4 +9,4 @@ returns c = let p = c.open_at in
     let r = c.open_at-3 in
     let f = c.fresh_session-fresh in
     λ lines long.
-    st.ring_opened c.args.stores.now p.new.0 q.new.0 r.new.0 _ _ _ c.requires p.ensures.0 q.ensures.0 r.ensures.0 refl refl refl p.ensures.1 q.ensures.1 r.ensures.1 f.result.session (f.ensures.1 ∙ st.fresh_is) lines long
+    st.ring_opened c.args.stores.now p.new.stores q.new.stores r.new.stores _ _ _ c.requires p.ensures.0 q.ensures.0 r.ensures.0 refl refl refl p.ensures.1 q.ensures.1 r.ensures.1 f.result.session (f.ensures.1 ∙ st.fresh_is) lines long

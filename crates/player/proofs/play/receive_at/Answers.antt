@@ -17,6 +17,6 @@ returns c = let a = 1747 * c.args.office in
     let q = c.receive in
     let stores = c.args.stores.now in
     let words = part c.args.lines.now f n in
-    dl.lent_at stores (take (a + 1747 - a) (drop a stores)) q.new.0 a (dl.lent_part stores a 1747) (λ W X. ReceivePromise W words c.args.out.now (reply_of q.result) X q.new.1.1.0)
-    (subst (λ (x : List ℕ). ReceivePromise (take (a + 1747 - a) (drop a stores)) x c.args.out.now (reply_of q.result) q.new.0 q.new.1.1.0) (dl.lent_part c.args.lines.now f n) q.ensures)
-    (omega (arith, c.requires.0, c.requires.1)) q.auto.0
+    dl.lent_at stores (take (a + 1747 - a) (drop a stores)) q.new.store a (dl.lent_part stores a 1747) (λ W X. ReceivePromise W words c.args.out.now (reply_of q.result) X q.new.out)
+    (subst (λ (x : List ℕ). ReceivePromise (take (a + 1747 - a) (drop a stores)) x c.args.out.now (reply_of q.result) q.new.store q.new.out) (dl.lent_part c.args.lines.now f n) q.ensures)
+    (omega (arith, c.requires.0, c.requires.1)) q.auto.store

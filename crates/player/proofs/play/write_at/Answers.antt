@@ -8,6 +8,6 @@ use Rattle.player.proofs.play.write_at.Goals as goal
 pub returns : goal.returns
 returns c = let a = 1747 * c.args.office in
     let q = c.make in
-    dl.lent_at c.args.stores.now _ q.new.0 a (dl.lent_part c.args.stores.now a 1747)
-    (λ W X. MakePromise W c.args.s c.args.plot c.args.value c.args.out.now q.result.written q.result.entry X q.new.1.1.1.1.0)
-    q.ensures (omega (arith, c.requires.0, c.requires.1)) q.auto.0
+    dl.lent_at c.args.stores.now _ q.new.store a (dl.lent_part c.args.stores.now a 1747)
+    (λ W X. MakePromise W c.args.s c.args.plot c.args.value c.args.out.now q.result.written q.result.entry X q.new.out)
+    q.ensures (omega (arith, c.requires.0, c.requires.1)) q.auto.store

@@ -9,7 +9,7 @@ pub copy_words-requires : goal.copy_words-requires
 copy_words-requires c = simp length-set (omega arith)
 
 pub shape_of-lines : goal.shape_of-lines
-shape_of-lines c = c.copy_words.auto.1.1.0 ∙ simp length-set
+shape_of-lines c = c.copy_words.auto.to ∙ simp length-set
 
 pub returns : goal.returns
 returns c = c.copy_words.ensures ∙ cuts.push_one c.args.lines.now c.args.row.now c.args.slot c.args.at c.args.len c.requires.2

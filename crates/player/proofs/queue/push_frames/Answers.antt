@@ -31,7 +31,7 @@ loop-k-preserved c = let L = c.loop-k in
     let e : c.length_at-len.result ≡ frame_len c.args.row.now L.k = c.length_at-len.ensures ∙ ap (length_at c.args.row.now) L.invariant.1 in (
       omega arith,
       omega (arith, L.invariant.1, cuts.start_more c.args.row.now L.k),
-      c.push_frame.auto.0 ∙ L.invariant.2,
+      c.push_frame.auto.lines ∙ L.invariant.2,
       c.push_frame.ensures ∙ (λ i. sets (L.invariant.3 i) (slot_at c.args.office ((c.args.q + L.k) % 32)) (e i ∷ part c.args.row.now (L.invariant.1 i) (e i))) ∙ cuts.pushed_more c.args.lines.now c.args.office c.args.q c.args.row.now L.k,
     )
 

@@ -18,7 +18,7 @@ put_current-requires c = let h : 3 * c.loop-i.i + 3 ≤ length c.loop-i.answer =
 
 pub loop-i-preserved : goal.loop-i-preserved
 unfolding found_among
-loop-i-preserved c = (omega arith, c.put_current.auto.1.1.0 ∙ c.loop-i.invariant.1, words_more (found_among c.args.store.now c.args.places) _ _ _ c.loop-i.i c.loop-i.invariant.2 c.put_current.ensures)
+loop-i-preserved c = (omega arith, c.put_current.auto.answer ∙ c.loop-i.invariant.1, words_more (found_among c.args.store.now c.args.places) _ _ _ c.loop-i.i c.loop-i.invariant.2 c.put_current.ensures)
 
 pub returns : goal.returns
 returns c = let q : c.loop-i.i ≡ c.args.n = omega arith in

@@ -37,7 +37,7 @@ loop-i-preserved c = let i = c.loop-i.i in
     let plots = c.args.plots.now in
     let is = with_own_writes own (get_or plots i 0) (best_from (found_in ws (get_or c.args.places i 0))) count _ _ c.best_at-first.ensures c.best_own-best.ensures in
     let turn = words_turn ws own count plots c.args.places _ _ _ i _ is c.loop-i.invariant.2 c.put_best.ensures in
-    (omega arith, c.put_best.auto.1.0 ∙ c.loop-i.invariant.1, turn)
+    (omega arith, c.put_best.auto.answer ∙ c.loop-i.invariant.1, turn)
 
 pub returns : goal.returns
 returns c = let q : c.loop-i.i ≡ length c.args.plots.now = omega arith in

@@ -4,13 +4,6 @@ use Rattle.causal.specs.Lists.{zeros}
 use Rattle.store.specs.Slots.{empty_words}
 use Rattle.store.proofs.empty.lay_empty.Goals as goal
 
--- the slice keeps its length
-len1 : (c : goal.After-put) → length c.put.new.0 ≡ length c.args.store.now
-len1 c = c.put.auto.0 ∙ simp length-set
-
-len2 : (c : goal.After-put-2) → length c.put-2.new.0 ≡ length c.args.store.now
-len2 c = c.put-2.auto.0 ∙ len1 c
-
 pub bounds-store-1 : goal.bounds-store-1
 bounds-store-1 c = simp length-set (omega arith)
 
@@ -21,10 +14,15 @@ pub put-requires : goal.put-requires
 put-requires c = simp length-set (omega arith)
 
 pub put-requires-2 : goal.put-requires-2
-put-requires-2 c = omega (arith, len1 (goal.at.put-requires-2 c).After-put)
+put-requires-2 c = 
+    let len1 : length c.put.new.store ≡ length c.args.store.now = c.put.auto.store ∙ simp length-set in
+    omega (arith, len1)
 
 pub shape_of-store : goal.shape_of-store
-shape_of-store c = len2 (goal.at.shape_of-store c).After-put-2
+shape_of-store c = 
+    let len1 : length c.put.new.store ≡ length c.args.store.now = c.put.auto.store ∙ simp length-set in
+    let len2 : length c.put-2.new.store ≡ length c.args.store.now = c.put-2.auto.store ∙ len1 in
+    len2
 
 pub returns : goal.returns
 unfolding empty_words

@@ -11,65 +11,67 @@ use Rattle.store.proofs.Reached.{Ready, State, Step, start, step, step_at, step_
 use Rattle.store.proofs.Ready.{deps_in, ready, entry_held}
 use Rattle.store.proofs.reveal.reveal_on.Goals as goal
 
--- what holds at the start
-start_ready : (c : goal.After-shared_slice_known-1) → Ready (deps_in c.args.store.now) (part c.args.store.now 3 8) (part c.args.store.now 11 8) (get_or c.args.store.now 0 0) c.args.seeds
-start_ready c =
-    ready c.args.store.now (λ i. (c.shared_slice_known-1.given i).fits) c.requires.0 c.args.seeds (id_set c.args.seeds c.well_formed.1.0) c.requires.1
-
--- what lowest_of returned, of the loop's two sets
-asked : (c : goal.After-lowest_of-next)
-    → c.lowest_of-next.result ≡ lowest_of (minus c.loop-k.pending c.loop-k.visible)
-asked c = c.lowest_of-next.ensures ∙ ap lowest_of c.without-left.ensures
-
--- what is known where an id was found
-found : (c : goal.In-At)
-    → Step (deps_in c.args.store.now) (part c.args.store.now 3 8) (part c.args.store.now 11 8) (get_or c.args.store.now 0 0) c.args.seeds c.loop-k.pending c.loop-k.visible c.loop-k.steps c.next-1.given.0.0
-found c =
-    step (deps_in c.args.store.now) (part c.args.store.now 3 8) (part c.args.store.now 11 8) (get_or c.args.store.now 0 0) c.args.seeds (start_ready c) c.loop-k.pending c.loop-k.visible c.loop-k.steps c.next-1.given.0.0 c.loop-k.invariant.0
-    (sym (asked c) ∙ c.next-1.given.1)
-
--- it is held, so its deps are those in its slot
-of_slot : (c : goal.In-At)
-    → deps_in c.args.store.now c.next-1.given.0.0 ≡ (entry_at c.args.store.now c.next-1.given.0.0).deps
-of_slot c =
-    let i = c.loop-k.invariant.0 in
-    let q = picked c.loop-k.pending c.loop-k.visible c.next-1.given.0.0 i.wp i.wv (sym (asked c) ∙ c.next-1.given.1) in
-    ap (λ (e : Entry). e.deps) (entry_held c.args.store.now c.next-1.given.0.0 (i.held c.next-1.given.0.0 q.pending))
-
 pub set_at-visible-requires : goal.set_at-visible-requires
 set_at-visible-requires c = let r = rules c.args.store.now c.requires.0 in
     omega (arith, r.laid.long)
 
 pub loop-k-init : goal.loop-k-init
 unfolding revealed
-loop-k-init c = rw (c.set_at-visible.ensures, sub-zero) (start (deps_in c.args.store.now) (part c.args.store.now 3 8) (part c.args.store.now 11 8) (get_or c.args.store.now 0 0) c.args.seeds (start_ready (goal.at.loop-k-init c).After-shared_slice_known-1) (id_set c.args.seeds c.well_formed.1.0), refl)
+loop-k-init c = 
+    let start_ready : Ready (deps_in c.args.store.now) (part c.args.store.now 3 8) (part c.args.store.now 11 8) (get_or c.args.store.now 0 0) c.args.seeds = ready c.args.store.now (λ i. (c.shared_slice_known-1.given i).fits) c.requires.0 c.args.seeds (id_set c.args.seeds c.well_formed.1.0) c.requires.1 in
+    rw (c.set_at-visible.ensures, sub-zero) (start (deps_in c.args.store.now) (part c.args.store.now 3 8) (part c.args.store.now 11 8) (get_or c.args.store.now 0 0) c.args.seeds (start_ready) (id_set c.args.seeds c.well_formed.1.0), refl)
 
 pub returns-in_default : goal.returns-in_default
-returns-in_default c = sym (c.loop-k.invariant.1 ∙ step_end _ _ _ _ _ (sym (asked (goal.at.returns-in_default c).After-lowest_of-next) ∙ c.enum_told-1.given.1))
+returns-in_default c = 
+    let asked : c.lowest_of-next.result ≡ lowest_of (minus c.loop-k.pending c.loop-k.visible) = c.lowest_of-next.ensures ∙ ap lowest_of c.without-left.ensures in
+    sym (c.loop-k.invariant.1 ∙ step_end _ _ _ _ _ (sym (asked) ∙ c.enum_told-1.given.1))
 
 pub deps_at-deps-requires : goal.deps_at-deps-requires
-deps_at-deps-requires c = let r = rules c.args.store.now c.requires.0 in
-    omega (arith, (found c).id, r.laid.long)
+deps_at-deps-requires c = 
+    let start_ready : Ready (deps_in c.args.store.now) (part c.args.store.now 3 8) (part c.args.store.now 11 8) (get_or c.args.store.now 0 0) c.args.seeds = ready c.args.store.now (λ i. (c.shared_slice_known-1.given i).fits) c.requires.0 c.args.seeds (id_set c.args.seeds c.well_formed.1.0) c.requires.1 in
+    let asked : c.lowest_of-next.result ≡ lowest_of (minus c.loop-k.pending c.loop-k.visible) = c.lowest_of-next.ensures ∙ ap lowest_of c.without-left.ensures in
+    let found : Step (deps_in c.args.store.now) (part c.args.store.now 3 8) (part c.args.store.now 11 8) (get_or c.args.store.now 0 0) c.args.seeds c.loop-k.pending c.loop-k.visible c.loop-k.steps c.next-1.given.0.0 = step (deps_in c.args.store.now) (part c.args.store.now 3 8) (part c.args.store.now 11 8) (get_or c.args.store.now 0 0) c.args.seeds (start_ready) c.loop-k.pending c.loop-k.visible c.loop-k.steps c.next-1.given.0.0 c.loop-k.invariant.0
+    (sym (asked) ∙ c.next-1.given.1) in
+    let r = rules c.args.store.now c.requires.0 in
+    omega (arith, (found).id, r.laid.long)
 
 pub overflow_add-steps : goal.overflow_add-steps
-overflow_add-steps c = let r = rules c.args.store.now c.requires.0 in
-    omega (arith, (found (goal.at.overflow_add-steps c).In-At).fresh, r.laid.few)
+overflow_add-steps c = 
+    let start_ready : Ready (deps_in c.args.store.now) (part c.args.store.now 3 8) (part c.args.store.now 11 8) (get_or c.args.store.now 0 0) c.args.seeds = ready c.args.store.now (λ i. (c.shared_slice_known-1.given i).fits) c.requires.0 c.args.seeds (id_set c.args.seeds c.well_formed.1.0) c.requires.1 in
+    let asked : c.lowest_of-next.result ≡ lowest_of (minus c.loop-k.pending c.loop-k.visible) = c.lowest_of-next.ensures ∙ ap lowest_of c.without-left.ensures in
+    let found : Step (deps_in c.args.store.now) (part c.args.store.now 3 8) (part c.args.store.now 11 8) (get_or c.args.store.now 0 0) c.args.seeds c.loop-k.pending c.loop-k.visible c.loop-k.steps c.next-1.given.0.0 = step (deps_in c.args.store.now) (part c.args.store.now 3 8) (part c.args.store.now 11 8) (get_or c.args.store.now 0 0) c.args.seeds (start_ready) c.loop-k.pending c.loop-k.visible c.loop-k.steps c.next-1.given.0.0 c.loop-k.invariant.0
+    (sym (asked) ∙ c.next-1.given.1) in
+    let r = rules c.args.store.now c.requires.0 in
+    omega (arith, (found).fresh, r.laid.few)
 
 pub loop-k-smaller : goal.loop-k-smaller
-loop-k-smaller c = omega (arith, (found (goal.at.loop-k-smaller c).In-At).fresh)
+loop-k-smaller c = 
+    let start_ready : Ready (deps_in c.args.store.now) (part c.args.store.now 3 8) (part c.args.store.now 11 8) (get_or c.args.store.now 0 0) c.args.seeds = ready c.args.store.now (λ i. (c.shared_slice_known-1.given i).fits) c.requires.0 c.args.seeds (id_set c.args.seeds c.well_formed.1.0) c.requires.1 in
+    let asked : c.lowest_of-next.result ≡ lowest_of (minus c.loop-k.pending c.loop-k.visible) = c.lowest_of-next.ensures ∙ ap lowest_of c.without-left.ensures in
+    let found : Step (deps_in c.args.store.now) (part c.args.store.now 3 8) (part c.args.store.now 11 8) (get_or c.args.store.now 0 0) c.args.seeds c.loop-k.pending c.loop-k.visible c.loop-k.steps c.next-1.given.0.0 = step (deps_in c.args.store.now) (part c.args.store.now 3 8) (part c.args.store.now 11 8) (get_or c.args.store.now 0 0) c.args.seeds (start_ready) c.loop-k.pending c.loop-k.visible c.loop-k.steps c.next-1.given.0.0 c.loop-k.invariant.0
+    (sym (asked) ∙ c.next-1.given.1) in
+    omega (arith, (found).fresh)
 
 pub loop-k-preserved : goal.loop-k-preserved
-loop-k-preserved c = let st = c.args.store.now in
+loop-k-preserved c = 
+    let asked : c.lowest_of-next.result ≡ lowest_of (minus c.loop-k.pending c.loop-k.visible) = c.lowest_of-next.ensures ∙ ap lowest_of c.without-left.ensures in
+    let of_slot : deps_in c.args.store.now c.next-1.given.0.0 ≡ (entry_at c.args.store.now c.next-1.given.0.0).deps = let i = c.loop-k.invariant.0 in
+    let q = picked c.loop-k.pending c.loop-k.visible c.next-1.given.0.0 i.wp i.wv (sym (asked) ∙ c.next-1.given.1) in
+    ap (λ (e : Entry). e.deps) (entry_held c.args.store.now c.next-1.given.0.0 (i.held c.next-1.given.0.0 q.pending)) in
+    let start_ready : Ready (deps_in c.args.store.now) (part c.args.store.now 3 8) (part c.args.store.now 11 8) (get_or c.args.store.now 0 0) c.args.seeds = ready c.args.store.now (λ i. (c.shared_slice_known-1.given i).fits) c.requires.0 c.args.seeds (id_set c.args.seeds c.well_formed.1.0) c.requires.1 in
+    let found : Step (deps_in c.args.store.now) (part c.args.store.now 3 8) (part c.args.store.now 11 8) (get_or c.args.store.now 0 0) c.args.seeds c.loop-k.pending c.loop-k.visible c.loop-k.steps c.next-1.given.0.0 = step (deps_in c.args.store.now) (part c.args.store.now 3 8) (part c.args.store.now 11 8) (get_or c.args.store.now 0 0) c.args.seeds (start_ready) c.loop-k.pending c.loop-k.visible c.loop-k.steps c.next-1.given.0.0 c.loop-k.invariant.0
+    (sym (asked) ∙ c.next-1.given.1) in
+    let st = c.args.store.now in
     let n = get_or st 0 0 in
     let k = c.next-1.given.0.0 in
     let p = c.loop-k.pending in
     let v = c.loop-k.visible in
     let s = c.loop-k.steps in
     let ev : c.before.insert.result ≡ inserted v k = c.insert-more.ensures in
-    let ep : c.union-all.result ≡ unite p (deps_in st k) = c.union-all.ensures ∙ ap (unite p) (c.deps_at-deps.ensures ∙ sym (of_slot (goal.at.loop-k-preserved c).In-At)) in
-    let fuel : 32 * n - s ≡ suc (32 * n - (s + 1)) = omega (arith, (found (goal.at.loop-k-preserved c).In-At).fresh) in
+    let ep : c.union-all.result ≡ unite p (deps_in st k) = c.union-all.ensures ∙ ap (unite p) (c.deps_at-deps.ensures ∙ sym (of_slot)) in
+    let fuel : 32 * n - s ≡ suc (32 * n - (s + 1)) = omega (arith, (found).fresh) in
     rw (ep, ev) (
-      (found (goal.at.loop-k-preserved c).In-At).next,
+      (found).next,
       c.loop-k.invariant.1 ∙ ap (λ (f : ℕ). stepsFrom f (deps_in st) p v s) fuel
-          ∙ step_at (32 * n - (s + 1)) (deps_in st) p v s k (sym (asked (goal.at.loop-k-preserved c).After-lowest_of-next) ∙ c.next-1.given.1),
+          ∙ step_at (32 * n - (s + 1)) (deps_in st) p v s k (sym (asked) ∙ c.next-1.given.1),
     )

@@ -41,7 +41,7 @@ put_frame-requires-2 c = let said = c.put_own-at.ensures in
     let fs = frames_in c.args.held c.args.n (own_to c.args.s.own c.args.s.count) in
     let fw = frame_words (started c.args.n c.args.e) in
     let w : length (frame_words c.started-last.result) ≡ length fw = ap (λ (x : Frame). length (frame_words x)) g in
-    let k : length c.put_own-at.new.1.1.1.1.0 ≡ length c.args.out.now = ap length said.1 ∙ simp length-sets in
+    let k : length c.put_own-at.new.out ≡ length c.args.out.now = ap length said.1 ∙ simp length-sets in
     (subst (λ (x : Frame). frame_ok x.offices 64 x ≡ true) (sym g) c.requires.3, omega (arith, said.0, c.requires.4, length-append fs fw))
 
 pub returns : goal.returns
@@ -52,7 +52,7 @@ returns c = let out = c.args.out.now in
     let fs = frames_in c.args.held c.args.n (own_to c.args.s.own c.args.s.count) in
     let fw = frame_words (started c.args.n c.args.e) in
     let w = ap frame_words c.started-last.ensures in
-    let put = y.1 ∙ ap (sets c.put_own-at.new.1.1.1.1.0 c.put_own-at.result) w in (
+    let put = y.1 ∙ ap (sets c.put_own-at.new.out c.put_own-at.result) w in (
       omega (arith, y.0, own.0, ap length w, length-append fs fw),
       turn_sets out _ _ fs fw (fs ++ fw) _ own.0 own.1 put refl ∙ sets_front out (fs ++ fw) c.requires.4,
     )

@@ -75,4 +75,4 @@ returns c = let s = c.args.s in
     let ws = c.args.store.now in
     let none = sym c.first_codes-first.ensures ∙ c.if-first-ne0.false in
     let second = ap (λ (n : ℕ). second_codes (office_of ws) n s.read) (count_is s) ∙ sym c.second_codes-second.ensures ∙ c.if-second-ne0.false in
-    early_own (sound_store ws) (office_of ws) (content_of s) c.args.plot c.args.value _ none second c.own_code_lem.ensures
+    early_own (sound_store ws) (office_of ws) (content_of s) c.args.plot c.args.value _ none second c.own_code.ensures

@@ -14,7 +14,7 @@ returns-then-none c = let none = holds_none c.args.held c.args.store.now c.args.
     c.hold.ensures ∙ ap (λ (x : List ℕ). hold_words x c.args.e) none
 
 pub hold-requires-2 : goal.hold-requires-2
-hold-requires-2 c = let k = c.hold_own.auto.0 in omega (arith, c.requires.3)
+hold-requires-2 c = let k = c.hold_own.auto.store in omega (arith, c.requires.3)
 
 pub returns : goal.returns
 returns c = c.hold-2.ensures ∙ ap (λ (x : List ℕ). hold_words x c.args.e) c.hold_own.ensures
