@@ -32,7 +32,7 @@ module _ (a b s : IdSession) (rest : List ℕ) (T : Joins a b s rest) where
         }
       where
         first : (bef : List ℕ) (d : ℕ) → a.reads d ⊎ Memᴰ d bef → s.reads d ⊎ Memᴰ d bef
-        first bef d (inl i) = inl (T.Reads-first d i)
+        first bef d (inl i) = inl (T.reads_first d i)
         first bef d (inr i) = inr i
 
         second : (bef : List ℕ) (d : ℕ) → Memᴰ d a.own ⊎ Memᴰ d bef → Memᴰ d (a.own ++ bef)
@@ -43,10 +43,10 @@ module _ (a b s : IdSession) (rest : List ℕ) (T : Joins a b s rest) where
         deps bef y aft d m (left aft' p) = first bef d (A.own_deps bef y aft' p d m)
         deps bef y aft d m (right bef' p p') =
             let r = without_split T.left_out bef' y aft p' in
-            rw p (⊎_elim (λ i. inl (T.Reads-second d i)) (λ i. inr (second bef' d (r.3 d i))) (B.own_deps r.0 y r.1 r.2 d m))
+            rw p (⊎_elim (λ i. inl (T.reads_second d i)) (λ i. inr (second bef' d (r.3 d i))) (B.own_deps r.0 y r.1 r.2 d m))
 
         past : (q : ℕ) → a.past q ⊎ b.past q → (x : ℕ) × (s.reads x ⊎ Memᴰ x s.own) × Reach S x q
         past q (inl h) =
-            let t = A.past_from q h in (t.0, ⊎_elim (λ i. inl (T.Reads-first t.0 i)) (λ i. inr (own_first t.0 i)) t.1, t.2)
+            let t = A.past_from q h in (t.0, ⊎_elim (λ i. inl (T.reads_first t.0 i)) (λ i. inr (own_first t.0 i)) t.1, t.2)
         past q (inr h) =
-            let t = B.past_from q h in (t.0, ⊎_elim (λ i. inl (T.Reads-second t.0 i)) (λ i. inr (own_second t.0 i)) t.1, t.2)
+            let t = B.past_from q h in (t.0, ⊎_elim (λ i. inl (T.reads_second t.0 i)) (λ i. inr (own_second t.0 i)) t.1, t.2)

@@ -14,7 +14,7 @@ slot_ok-requires c = let x = next c.args.w c.loop-rest.invariant.0 c.loop-rest.r
 
 pub returns-then-not-slot_ok : goal.returns-then-not-slot_ok
 returns-then-not-slot_ok c = let x = next c.args.w c.loop-rest.invariant.0 c.loop-rest.rest c.loop-rest.invariant.1 c.loop-rest-test.true in
-    look_fails c.args.store.now (under_ok c.args.most) c.args.p c.args.i c.args.w _ _ c.loop-rest.invariant.0 c.loop-rest.rest _ _ _ x _ c.Slot-ok.ensures c.if-not-slot_ok.true-raw
+    look_fails c.args.store.now (under_ok c.args.most) c.args.p c.args.i c.args.w _ _ c.loop-rest.invariant.0 c.loop-rest.rest _ _ _ x _ c.slot_ok.ensures c.if-not-slot_ok.true-raw
 
 pub overflow_cast-k : goal.overflow_cast-k
 overflow_cast-k c = omega (arith, trailing_le 32 c.loop-rest.rest)
@@ -38,7 +38,7 @@ pub loop-rest-preserved : goal.loop-rest-preserved
 loop-rest-preserved c = let x = next c.args.w c.loop-rest.invariant.0 c.loop-rest.rest c.loop-rest.invariant.1 c.loop-rest-test.true in (
       count_trailing_zeros 32 c.loop-rest.rest + 1,
       x.then,
-      look_more c.args.store.now (under_ok c.args.most) c.args.p c.args.i c.args.w _ _ c.loop-rest.invariant.0 c.loop-rest.rest _ _ _ x c.loop-rest.invariant.2 _ c.Slot-ok.ensures c.if-not-slot_ok.false-raw
+      look_more c.args.store.now (under_ok c.args.most) c.args.p c.args.i c.args.w _ _ c.loop-rest.invariant.0 c.loop-rest.rest _ _ _ x c.loop-rest.invariant.2 _ c.slot_ok.ensures c.if-not-slot_ok.false-raw
           _ _ _ c.clock_at.ensures c.overs-over.ensures c.union-worse.ensures
           _ _ c.deps_at.ensures c.union-more.ensures,
     )

@@ -74,7 +74,7 @@ returns-then-all_words-out c = let s = c.args.s in
     let made = c.entry_by-e.ensures (content_of s) refl refl (sym c.own_ids-own.ensures) in
     let r = row_left ws s c.args.plot c.args.value c.set_at-held.result c.entry_by-e.result c.set_at-held.ensures made in
     not_made ws s c.args.plot c.args.value c.args.out.now _ _ Room c.not_made-then-all_words-out.ensures.0 c.not_made-then-all_words-out.ensures.1 (λ (q : 8 ≡ 0). omega arith)
-    (write_late ws s c.args.plot c.args.value c.args.out.now none (omega (arith, ap length r, c.All-words.ensures, c.if-all_words-out.true)))
+    (write_late ws s c.args.plot c.args.value c.args.out.now none (omega (arith, ap length r, c.all_words.ensures, c.if-all_words-out.true)))
 
 pub put_all-words-requires : goal.put_all-words-requires
 unfolding content_of
@@ -88,7 +88,7 @@ put_all-words-requires c = let s = c.args.s in
     let all = none_new ws s R.sound R.session c.own_ids-own.result c.set_at-held.result c.subset-none.result c.own_ids-own.ensures c.subset-none.ensures in
     let new = new_frame ws s c.args.plot c.args.value R fit N c.entry_by-e.result made in
     let count = few ws s c.args.plot c.args.value R in
-    (omega (arith, count), frames ws s R.sound R.session, all, new, omega (arith, c.All-words.ensures, c.if-all_words-out.false))
+    (omega (arith, count), frames ws s R.sound R.session, all, new, omega (arith, c.all_words.ensures, c.if-all_words-out.false))
 
 pub hold_all-requires : goal.hold_all-requires
 unfolding content_of
@@ -117,4 +117,4 @@ returns c = let s = c.args.s in
     let left = c.hold_all.ensures ∙ store_left ws s c.args.plot c.args.value R fit N held.result new.result held.ensures made in
     made_is ws s c.args.plot c.args.value c.args.out.now c.put_all-words.result new.result _ _ made
     (write_done ws s c.args.plot c.args.value c.args.out.now none c.put_all-words.result (extended_by s new.result) _ _ held.result new.result held.ensures made
-    (omega (arith, c.All-words.ensures, c.if-all_words-out.false)) c.put_all-words.ensures.0 refl left c.put_all-words.ensures.1)
+    (omega (arith, c.all_words.ensures, c.if-all_words-out.false)) c.put_all-words.ensures.0 refl left c.put_all-words.ensures.1)
