@@ -17,7 +17,8 @@ DECL = re.compile(rf"^((?:(?:pub|abbrev|unfoldable) )*)({NAME})((?: [({{][^\n]*?
 
 
 def norm(name):
-    return name.replace("_", "-")
+    # port.py gave some labels a capital
+    return name.replace("_", "-").lower()
 
 
 def goal_of(name):
@@ -149,6 +150,7 @@ class Turn:
                         self.env[name] = (kind, at)
                         i = m.end()
                         continue
+                    typed = self.text(typed) if typed else ""
                     out.append(f"let {name}{typed} = {said} in" + body[m.end(3) + 3 : m.end()])
                     self.env[name] = (kind, at)
                     if kind == "plain":

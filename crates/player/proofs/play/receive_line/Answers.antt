@@ -29,7 +29,7 @@ offset_bounds-counts-next c = let a = c.args in
     let S = c.requires.2.1.1 in
     let d = desk c.requires.2.0 a.board in
     let Q = S.line a.office c.requires.0 in
-    let e : c.before.before.next-of.result ≡ next_of 3 a.office = c.next_of-next.ensures in
+    let e : c.next_of-next.result ≡ next_of 3 a.office = c.next_of-next.ensures in
     let N = S.line (next_of 3 a.office) (next_low a.office c.requires.0) in omega (arith, next_low a.office c.requires.0)
 
 pub bounds-counts-next : goal.bounds-counts-next
@@ -37,7 +37,7 @@ bounds-counts-next c = let a = c.args in
     let S = c.requires.2.1.1 in
     let d = desk c.requires.2.0 a.board in
     let Q = S.line a.office c.requires.0 in
-    let e : c.before.before.next-of.result ≡ next_of 3 a.office = c.next_of-next.ensures in
+    let e : c.next_of-next.result ≡ next_of 3 a.office = c.next_of-next.ensures in
     let N = S.line (next_of 3 a.office) (next_low a.office c.requires.0) in omega (arith, next_low a.office c.requires.0)
 
 pub receive_ahead-ahead-requires : goal.receive_ahead-ahead-requires
@@ -46,7 +46,7 @@ receive_ahead-ahead-requires c = let a = c.args in
     let d = desk c.requires.2.0 a.board in
     let Q = S.line a.office c.requires.0 in
     let O = pr.oldest a.lines.now a.office (first_at d a.office) (count_at d a.office) _ S.long_lines c.requires.0 c.if-count-eq0.false Q in
-    let e : c.before.before.next-of.result ≡ next_of 3 a.office = c.next_of-next.ensures in
+    let e : c.next_of-next.result ≡ next_of 3 a.office = c.next_of-next.ensures in
     let N = S.line (next_of 3 a.office) (next_low a.office c.requires.0) in
     (c.requires.0, S.long_stores, omega (arith, Q.start, S.long_lines), O.short, rw e N.few)
 
@@ -64,7 +64,7 @@ deliver-mid-requires c = let a = c.args in
     let d = desk c.requires.2.0 a.board in
     let Q = S.line a.office c.requires.0 in
     let O = pr.oldest a.lines.now a.office (first_at d a.office) (count_at d a.office) _ S.long_lines c.requires.0 c.if-count-eq0.false Q in
-    let e : c.before.before.before.before.before.before.before.before.before.before.before.before.before.before.before.before.before.before.next-of.result ≡ next_of 3 a.office = c.next_of-next.ensures in
+    let e : c.next_of-next.result ≡ next_of 3 a.office = c.next_of-next.ensures in
     let N = S.line (next_of 3 a.office) (next_low a.office c.requires.0) in
     let g = c.requires.2.1.0 in
     let q = c.receive_at-written in (

@@ -24,7 +24,7 @@ offset_bounds-counts-next c = let a = c.args in
     let d = desk c.requires.2.0 a.board in
     let o = place_at d a.i in
     let ol : o < 3 = S.placed a.i c.requires.0 in
-    let e : c.before.before.next-of.result ≡ next_of 3 o = c.next_of-next.ensures in
+    let e : c.next_of-next.result ≡ next_of 3 o = c.next_of-next.ensures in
     let N = S.line (next_of 3 o) (next_low o ol) in omega (arith, next_low o ol)
 
 pub bounds-counts-next : goal.bounds-counts-next
@@ -33,7 +33,7 @@ bounds-counts-next c = let a = c.args in
     let d = desk c.requires.2.0 a.board in
     let o = place_at d a.i in
     let ol : o < 3 = S.placed a.i c.requires.0 in
-    let e : c.before.before.next-of.result ≡ next_of 3 o = c.next_of-next.ensures in
+    let e : c.next_of-next.result ≡ next_of 3 o = c.next_of-next.ensures in
     let N = S.line (next_of 3 o) (next_low o ol) in omega (arith, next_low o ol)
 
 pub write_ahead-ahead-requires : goal.write_ahead-ahead-requires
@@ -42,7 +42,7 @@ write_ahead-ahead-requires c = let a = c.args in
     let d = desk c.requires.2.0 a.board in
     let o = place_at d a.i in
     let ol : o < 3 = S.placed a.i c.requires.0 in
-    let e : c.before.before.next-of.result ≡ next_of 3 o = c.next_of-next.ensures in
+    let e : c.next_of-next.result ≡ next_of 3 o = c.next_of-next.ensures in
     let N = S.line (next_of 3 o) (next_low o ol) in
     (ol, S.long_stores, rw e N.few, ap (λ (l : List ℕ). get_or l 0 0) (S.store o ol) ∙ S.offices o ol)
 
@@ -59,7 +59,7 @@ deliver-after-requires c = let a = c.args in
     let d = desk c.requires.2.0 a.board in
     let o = place_at d a.i in
     let ol : o < 3 = S.placed a.i c.requires.0 in
-    let e : c.before.before.before.before.before.before.before.before.before.before.before.before.before.before.before.before.before.next-of.result ≡ next_of 3 o = c.next_of-next.ensures in
+    let e : c.next_of-next.result ≡ next_of 3 o = c.next_of-next.ensures in
     let N = S.line (next_of 3 o) (next_low o ol) in
     let q = c.write_at-made in (
       omega (arith, next_low o ol),

@@ -67,7 +67,7 @@ loop-k-preserved c =
     let p = c.loop-k.pending in
     let v = c.loop-k.visible in
     let s = c.loop-k.steps in
-    let ev : c.before.insert.result ≡ inserted v k = c.insert-more.ensures in
+    let ev : c.insert-more.result ≡ inserted v k = c.insert-more.ensures in
     let ep : c.union-all.result ≡ unite p (deps_in st k) = c.union-all.ensures ∙ ap (unite p) (c.deps_at-deps.ensures ∙ sym (of_slot)) in
     let fuel : 32 * n - s ≡ suc (32 * n - (s + 1)) = omega (arith, (found).fresh) in
     rw (ep, ev) (

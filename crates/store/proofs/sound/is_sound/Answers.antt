@@ -6,7 +6,7 @@ use Rattle.store.proofs.Rules.{short, settings_laid}
 use Rattle.store.proofs.sound.is_sound.Goals as goal
 
 pub returns-then-store-lt19 : goal.returns-then-store-lt19
-returns-then-store-lt19 c = let h : length z.args.store.now < 19 = c.if-store-lt19.true in
+returns-then-store-lt19 c = let h : length c.args.store.now < 19 = c.if-store-lt19.true in
     short c.args.store.now (omega arith)
 
 pub returns-then-not-settings_ok : goal.returns-then-not-settings_ok

@@ -35,7 +35,7 @@ bounds-clock-office c = let q = laid c.args.store.now c.requires in omega (arith
 pub returns : goal.returns
 unfolding new_entry office_of
 returns c = let ws = c.args.store.now in
-    let m : c.before.before.before.made.result ≡ made (office_of ws) = c.made-serial.ensures in
+    let m : c.made-serial.result ≡ made (office_of ws) = c.made-serial.ensures in
     λ s a b o.
     let k : set c.join-joined.result (get_or ws 1 0) (c.made-serial.result + 1) ≡ set (join (clock_of (office_of ws)) s.clock) (get_or ws 1 0) (made (office_of ws) + 1) =
     ap₂ (λ (x : List ℕ) (y : ℕ). set x (get_or ws 1 0) (y + 1)) (c.join-joined.ensures ∙ ap₂ join c.office_clock-seen.ensures (sym a)) m
