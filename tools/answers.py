@@ -285,7 +285,7 @@ def turn_file(crate, folder, f, kinds):
                 looks.append(f"{typed[1]}: {given} for {to}")
             table = dict(zip(given, to))
             text = re.sub(rf"(?<![.\w'-]){NAME}", lambda n: table.get(n[0], n[0]), body[3])
-            if what == "decreases" and kinds.get(new, "for") == "for":
+            if what == "decreases" and kinds.get(new, "while") == "for":
                 continue
             invariants.append(f"{comment}abbrev pub {what}-{new} : goal.{what}-{new}\n{what}-{new} l = {text}")
             continue

@@ -20,7 +20,7 @@ use Rattle.store.specs.Offices.{entry_at, sound_store, Found, None, Some}
 use Rattle.store.specs.Current.{InSlots, current_at, found_at}
 use Rattle.store.specs.declared.current.Place.{Place}
 use Rattle.store.specs.declared.current.Place.TheVariants.{At, Nowhere}
-use Rattle.store.proofs.Rules.{rules, reaches}
+use Rattle.store.proofs.Rules.{rules_of, reaches}
 use Rattle.store.proofs.Places.{place_in_slots}
 use Rattle.office.specs.Answers.{noted_in}
 use Rattle.office.specs.Decide.{start_code, place_number, found_in, Reaches, noted_seen, seen_of, with_seen}
@@ -53,7 +53,7 @@ number_reaches m Nowhere h l = absurd (omega arith)
 pub current_slots : (ws v : List ℕ) (plot : ℕ) → sound_store ws ≡ true → length v ≡ 8 → subset_of v (part ws 3 8) ≡ true → InSlots (length ws) (current_at ws v plot)
 unfolding current_at
 current_slots ws v plot h e s =
-    place_in_slots ws v plot (length ws) (λ k i. let g = reaches ws v (rules ws h) e s k i in (g.small, g.reach)) (32 * get_or ws 0 0)
+    place_in_slots ws v plot (length ws) (λ k i. let g = reaches ws v (rules_of ws h) e s k i in (g.small, g.reach)) (32 * get_or ws 0 0)
 
 pub found_at_lem : (ws : List ℕ) (k : ℕ) → k < 256 → found_in ws k ≡ Some (entry_at ws k)
 unfolding found_in

@@ -32,7 +32,7 @@ use Rattle.store.specs.Current.{current_at, found_at}
 use Rattle.store.specs.Reveal.{revealed}
 use Rattle.store.specs.declared.reveal.Revealed.{Revealed}
 use Rattle.store.proofs.Changes.{revealed_visible}
-use Rattle.store.proofs.Rules.{rules}
+use Rattle.store.proofs.Rules.{rules_of}
 use Rattle.store.proofs.SoundChanges.{reveal_store, reveal_held, reveal_ids, reveal_current}
 use Rattle.office.specs.Calls.{given, worded, handed, handed_all, plots_ok, joint_code, joint_on, read_all, three_words, answer_words, read_joint}
 use Rattle.office.specs.Answers.{session_if, noted_in, noted_all_in, read_joint_session}
@@ -142,7 +142,7 @@ own_named ws s sound ok i l =
     let p = get_or ws 2 0 in
     let F = session_facts n p (content_of s) ok in
     let G = (entry_facts n p (own_at s.own i) (own_ok_lem n p (content_of s) F (own_at s.own i) (own_each s.own s.count i l))).bounds in
-    let n8 = (rules ws sound).laid.few in
+    let n8 = (rules_of ws sound).laid.few in
     (omega (arith, G.office_ok), G.to)
 
 -- ---- turns of the loops

@@ -90,9 +90,9 @@ pub record Rules (ws : List ℕ) : Type 0 where
   pub visible_held : subset_of (part ws 11 8) (part ws 3 8) ≡ true
   pub slot : (k : ℕ) → k < 256 → slot_ok ws (get_or ws 0 0) (get_or ws 2 0) (part ws 3 8) (part ws 11 8) k ≡ true
 
-pub rules : (ws : List ℕ) → sound_store ws ≡ true → Rules ws
+pub rules_of : (ws : List ℕ) → sound_store ws ≡ true → Rules ws
 unfolding sound_store sound_office office_of
-rules ws h =
+rules_of ws h =
     let a = both_true (settings_ok (get_or ws 0 0) (get_or ws 1 0) (get_or ws 2 0)) (both (leb (need (get_or ws 0 0)) (length ws)) (sound_office (office_of ws))) h in
     let b = both_true (leb (need (get_or ws 0 0)) (length ws)) (sound_office (office_of ws)) a.1 in
     let c = both_true (subset_of (part ws 11 8) (part ws 3 8)) (both (all_below 256 (held_ok (office_of ws))) (all_below 31 (gapless (office_of ws)))) b.1 in
@@ -105,7 +105,7 @@ rules ws h =
     }
 
 pub laid : (ws : List ℕ) → sound_store ws ≡ true → Laid ws
-laid ws h = (rules ws h).laid
+laid ws h = (rules_of ws h).laid
 
 -- of a held id
 pub record Held (ws : List ℕ) (k : ℕ) : Type 0 where

@@ -11,8 +11,8 @@ use frame::entry::Entry;
 // The words of an entry, from `at` on.
 fn put_entry(store: &mut [u32], at: usize, e: Entry)
     requires { at + 18 ≤ length store.old }
-    ensures store_after { store.new ≡ sets store.old at (entry_words e) }
-    ensures e_len { length (entry_words e) ≡ 18 }
+    ensures laid { store.new ≡ sets store.old at (entry_words e) }
+    ensures eighteen { length (entry_words e) ≡ 18 }
 {
     let clock = e.clock;
     let deps = e.deps;

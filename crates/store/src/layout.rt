@@ -83,8 +83,8 @@ pub fn entry_at(store: &[u32], k: usize) -> Entry
 // Stores eight words from `at` on.
 pub fn put(store: &mut [u32], at: usize, xs: [u32; 8])
     requires { at + 8 ≤ length store.old }
-    ensures store_after { store.new ≡ sets store.old at xs }
-    ensures xs_len { length xs ≡ 8 }
+    ensures laid { store.new ≡ sets store.old at xs }
+    ensures eight { length xs ≡ 8 }
 {
     for j in 0..8 {
         store[at + j] = xs[j];

@@ -1,5 +1,5 @@
 use Rattle.std.proofs.Common.{◌≡◌, ℕ, ◌-◌, ◌*◌, ◌≤◌, List, get_or, ap, ◌∙◌, arith, rules}
-use Rattle.store.proofs.Rules.{rules, reach_word}
+use Rattle.store.proofs.Rules.{rules_of, reach_word}
 use Rattle.causal.specs.Lists.{part}
 use Rattle.causal.specs.Sets.{subset_of}
 use Rattle.store.proofs.Joins.{tops_next, tops_none, clock_is}

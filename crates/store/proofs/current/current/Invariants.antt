@@ -1,4 +1,4 @@
-use Rattle.store.proofs.Rules.{rules, reaches, reach_word}
+use Rattle.store.proofs.Rules.{rules_of, reaches, reach_word}
 use Rattle.store.specs.Current.{place_to, current_at}
 use Rattle.std.proofs.Common.{◌≡◌, ℕ, ◌-◌, ◌*◌, ◌≤◌, length, get_or, ap, ◌∙◌, arith, rules}
 use Rattle.causal.proofs.Array.{id_set}

@@ -1,12 +1,12 @@
+use Rattle.std.proofs.Common.{sym}
 use Rattle.store.proofs.Places.{weigh_skip, weigh_first, weigh_new, weigh_old, in_slots_at}
-use Rattle.std.proofs.Common.{rules}
 use Rattle.store.proofs.current.weigh.Goals as goal
 
 pub returns-then-plot_at-plot : goal.returns-then-plot_at-plot
 returns-then-plot_at-plot c = search weigh_skip
 
 pub ranks_above-requires : goal.ranks_above-requires
-ranks_above-requires c = let h = in_slots_at _ _ _ c.requires.2 c.best-1.given.1 in
+ranks_above-requires c = let h = in_slots_at _ _ _ c.requires.2 c.in-At.is in
     (c.requires.0, h.0, c.requires.1, h.1)
 
 pub returns-then-ranks_above : goal.returns-then-ranks_above

@@ -26,4 +26,4 @@ shape_of-store c =
 
 pub returns : goal.returns
 unfolding empty_words
-returns c = c.put-2.ensures.0 ∙ ap (λ (l : List ℕ). sets l 11 zeros) c.put.ensures.0
+returns c = c.put-2.ensures.laid ∙ ap (λ (l : List ℕ). sets l 11 zeros) c.put.ensures.laid

@@ -22,4 +22,4 @@ shape_of-store c =
 
 pub returns : goal.returns
 returns c = let at = c.args.at in
-    (c.put-2.ensures.0 ∙ ap (λ (l : List ℕ). sets l (at + 10) c.args.e.deps) c.put.ensures.0 ∙ entry_run c.args.store.now at c.args.e c.put.ensures.1, entry_eighteen c.args.e c.put.ensures.1 c.put-2.ensures.1)
+    record { laid = c.put-2.ensures.laid ∙ ap (λ (l : List ℕ). sets l (at + 10) c.args.e.deps) c.put.ensures.laid ∙ entry_run c.args.store.now at c.args.e c.put.ensures.eight; eighteen = entry_eighteen c.args.e c.put.ensures.eight c.put-2.ensures.eight }

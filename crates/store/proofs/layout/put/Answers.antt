@@ -15,4 +15,4 @@ pub returns : goal.returns
 returns c = let s = c.args.store.now in
     let at = c.args.at in
     let xs = c.args.xs in
-    (c.loop-j.invariant.3 ∙ ap (λ (vs : List ℕ). sets s at vs) (take_all c.loop-j.j xs (omega arith)), c.loop-j.invariant.2)
+    record { laid = c.loop-j.invariant.3 ∙ ap (λ (vs : List ℕ). sets s at vs) (take_all c.loop-j.j xs (omega arith)); eight = c.loop-j.invariant.2 }

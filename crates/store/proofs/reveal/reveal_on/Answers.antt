@@ -6,13 +6,13 @@ use Rattle.causal.proofs.Array.{id_set}
 use Rattle.frame.specs.declared.entry.Entry.{Entry}
 use Rattle.store.specs.Offices.{entry_at}
 use Rattle.store.specs.Reveal.{revealed, steps as stepsFrom}
-use Rattle.store.proofs.Rules.{rules}
+use Rattle.store.proofs.Rules.{rules_of}
 use Rattle.store.proofs.Reached.{Ready, State, Step, start, step, step_at, step_end, picked}
 use Rattle.store.proofs.Ready.{deps_in, ready, entry_held}
 use Rattle.store.proofs.reveal.reveal_on.Goals as goal
 
 pub set_at-visible-requires : goal.set_at-visible-requires
-set_at-visible-requires c = let r = rules c.args.store.now c.requires.0 in
+set_at-visible-requires c = let r = rules_of c.args.store.now c.requires.0 in
     omega (arith, r.laid.long)
 
 pub loop-k-init : goal.loop-k-init
@@ -24,46 +24,46 @@ loop-k-init c =
 pub returns-in_default : goal.returns-in_default
 returns-in_default c = 
     let asked : c.lowest_of-next.result ≡ lowest_of (minus c.loop-k.pending c.loop-k.visible) = c.lowest_of-next.ensures ∙ ap lowest_of c.without-left.ensures in
-    sym (c.loop-k.invariant.1 ∙ step_end _ _ _ _ _ (sym (asked) ∙ c.enum_told-1.given.1))
+    sym (c.loop-k.invariant.1 ∙ step_end _ _ _ _ _ (sym (asked) ∙ c.in_default.is))
 
 pub deps_at-deps-requires : goal.deps_at-deps-requires
 deps_at-deps-requires c = 
     let start_ready : Ready (deps_in c.args.store.now) (part c.args.store.now 3 8) (part c.args.store.now 11 8) (get_or c.args.store.now 0 0) c.args.seeds = ready c.args.store.now (λ i. (c.shared_slice_known-1.given i).fits) c.requires.0 c.args.seeds (id_set c.args.seeds c.well_formed.1.0) c.requires.1 in
     let asked : c.lowest_of-next.result ≡ lowest_of (minus c.loop-k.pending c.loop-k.visible) = c.lowest_of-next.ensures ∙ ap lowest_of c.without-left.ensures in
-    let found : Step (deps_in c.args.store.now) (part c.args.store.now 3 8) (part c.args.store.now 11 8) (get_or c.args.store.now 0 0) c.args.seeds c.loop-k.pending c.loop-k.visible c.loop-k.steps c.next-1.given.0.0 = step (deps_in c.args.store.now) (part c.args.store.now 3 8) (part c.args.store.now 11 8) (get_or c.args.store.now 0 0) c.args.seeds (start_ready) c.loop-k.pending c.loop-k.visible c.loop-k.steps c.next-1.given.0.0 c.loop-k.invariant.0
-    (sym (asked) ∙ c.next-1.given.1) in
-    let r = rules c.args.store.now c.requires.0 in
+    let found : Step (deps_in c.args.store.now) (part c.args.store.now 3 8) (part c.args.store.now 11 8) (get_or c.args.store.now 0 0) c.args.seeds c.loop-k.pending c.loop-k.visible c.loop-k.steps c.in-At.k = step (deps_in c.args.store.now) (part c.args.store.now 3 8) (part c.args.store.now 11 8) (get_or c.args.store.now 0 0) c.args.seeds (start_ready) c.loop-k.pending c.loop-k.visible c.loop-k.steps c.in-At.k c.loop-k.invariant.0
+    (sym (asked) ∙ c.in-At.is) in
+    let r = rules_of c.args.store.now c.requires.0 in
     omega (arith, (found).id, r.laid.long)
 
 pub overflow_add-steps : goal.overflow_add-steps
 overflow_add-steps c = 
     let start_ready : Ready (deps_in c.args.store.now) (part c.args.store.now 3 8) (part c.args.store.now 11 8) (get_or c.args.store.now 0 0) c.args.seeds = ready c.args.store.now (λ i. (c.shared_slice_known-1.given i).fits) c.requires.0 c.args.seeds (id_set c.args.seeds c.well_formed.1.0) c.requires.1 in
     let asked : c.lowest_of-next.result ≡ lowest_of (minus c.loop-k.pending c.loop-k.visible) = c.lowest_of-next.ensures ∙ ap lowest_of c.without-left.ensures in
-    let found : Step (deps_in c.args.store.now) (part c.args.store.now 3 8) (part c.args.store.now 11 8) (get_or c.args.store.now 0 0) c.args.seeds c.loop-k.pending c.loop-k.visible c.loop-k.steps c.next-1.given.0.0 = step (deps_in c.args.store.now) (part c.args.store.now 3 8) (part c.args.store.now 11 8) (get_or c.args.store.now 0 0) c.args.seeds (start_ready) c.loop-k.pending c.loop-k.visible c.loop-k.steps c.next-1.given.0.0 c.loop-k.invariant.0
-    (sym (asked) ∙ c.next-1.given.1) in
-    let r = rules c.args.store.now c.requires.0 in
+    let found : Step (deps_in c.args.store.now) (part c.args.store.now 3 8) (part c.args.store.now 11 8) (get_or c.args.store.now 0 0) c.args.seeds c.loop-k.pending c.loop-k.visible c.loop-k.steps c.in-At.k = step (deps_in c.args.store.now) (part c.args.store.now 3 8) (part c.args.store.now 11 8) (get_or c.args.store.now 0 0) c.args.seeds (start_ready) c.loop-k.pending c.loop-k.visible c.loop-k.steps c.in-At.k c.loop-k.invariant.0
+    (sym (asked) ∙ c.in-At.is) in
+    let r = rules_of c.args.store.now c.requires.0 in
     omega (arith, (found).fresh, r.laid.few)
 
 pub loop-k-smaller : goal.loop-k-smaller
 loop-k-smaller c = 
     let start_ready : Ready (deps_in c.args.store.now) (part c.args.store.now 3 8) (part c.args.store.now 11 8) (get_or c.args.store.now 0 0) c.args.seeds = ready c.args.store.now (λ i. (c.shared_slice_known-1.given i).fits) c.requires.0 c.args.seeds (id_set c.args.seeds c.well_formed.1.0) c.requires.1 in
     let asked : c.lowest_of-next.result ≡ lowest_of (minus c.loop-k.pending c.loop-k.visible) = c.lowest_of-next.ensures ∙ ap lowest_of c.without-left.ensures in
-    let found : Step (deps_in c.args.store.now) (part c.args.store.now 3 8) (part c.args.store.now 11 8) (get_or c.args.store.now 0 0) c.args.seeds c.loop-k.pending c.loop-k.visible c.loop-k.steps c.next-1.given.0.0 = step (deps_in c.args.store.now) (part c.args.store.now 3 8) (part c.args.store.now 11 8) (get_or c.args.store.now 0 0) c.args.seeds (start_ready) c.loop-k.pending c.loop-k.visible c.loop-k.steps c.next-1.given.0.0 c.loop-k.invariant.0
-    (sym (asked) ∙ c.next-1.given.1) in
+    let found : Step (deps_in c.args.store.now) (part c.args.store.now 3 8) (part c.args.store.now 11 8) (get_or c.args.store.now 0 0) c.args.seeds c.loop-k.pending c.loop-k.visible c.loop-k.steps c.in-At.k = step (deps_in c.args.store.now) (part c.args.store.now 3 8) (part c.args.store.now 11 8) (get_or c.args.store.now 0 0) c.args.seeds (start_ready) c.loop-k.pending c.loop-k.visible c.loop-k.steps c.in-At.k c.loop-k.invariant.0
+    (sym (asked) ∙ c.in-At.is) in
     omega (arith, (found).fresh)
 
 pub loop-k-preserved : goal.loop-k-preserved
 loop-k-preserved c = 
     let asked : c.lowest_of-next.result ≡ lowest_of (minus c.loop-k.pending c.loop-k.visible) = c.lowest_of-next.ensures ∙ ap lowest_of c.without-left.ensures in
-    let of_slot : deps_in c.args.store.now c.next-1.given.0.0 ≡ (entry_at c.args.store.now c.next-1.given.0.0).deps = let i = c.loop-k.invariant.0 in
-    let q = picked c.loop-k.pending c.loop-k.visible c.next-1.given.0.0 i.wp i.wv (sym (asked) ∙ c.next-1.given.1) in
-    ap (λ (e : Entry). e.deps) (entry_held c.args.store.now c.next-1.given.0.0 (i.held c.next-1.given.0.0 q.pending)) in
+    let of_slot : deps_in c.args.store.now c.in-At.k ≡ (entry_at c.args.store.now c.in-At.k).deps = let i = c.loop-k.invariant.0 in
+    let q = picked c.loop-k.pending c.loop-k.visible c.in-At.k i.wp i.wv (sym (asked) ∙ c.in-At.is) in
+    ap (λ (e : Entry). e.deps) (entry_held c.args.store.now c.in-At.k (i.held c.in-At.k q.pending)) in
     let start_ready : Ready (deps_in c.args.store.now) (part c.args.store.now 3 8) (part c.args.store.now 11 8) (get_or c.args.store.now 0 0) c.args.seeds = ready c.args.store.now (λ i. (c.shared_slice_known-1.given i).fits) c.requires.0 c.args.seeds (id_set c.args.seeds c.well_formed.1.0) c.requires.1 in
-    let found : Step (deps_in c.args.store.now) (part c.args.store.now 3 8) (part c.args.store.now 11 8) (get_or c.args.store.now 0 0) c.args.seeds c.loop-k.pending c.loop-k.visible c.loop-k.steps c.next-1.given.0.0 = step (deps_in c.args.store.now) (part c.args.store.now 3 8) (part c.args.store.now 11 8) (get_or c.args.store.now 0 0) c.args.seeds (start_ready) c.loop-k.pending c.loop-k.visible c.loop-k.steps c.next-1.given.0.0 c.loop-k.invariant.0
-    (sym (asked) ∙ c.next-1.given.1) in
+    let found : Step (deps_in c.args.store.now) (part c.args.store.now 3 8) (part c.args.store.now 11 8) (get_or c.args.store.now 0 0) c.args.seeds c.loop-k.pending c.loop-k.visible c.loop-k.steps c.in-At.k = step (deps_in c.args.store.now) (part c.args.store.now 3 8) (part c.args.store.now 11 8) (get_or c.args.store.now 0 0) c.args.seeds (start_ready) c.loop-k.pending c.loop-k.visible c.loop-k.steps c.in-At.k c.loop-k.invariant.0
+    (sym (asked) ∙ c.in-At.is) in
     let st = c.args.store.now in
     let n = get_or st 0 0 in
-    let k = c.next-1.given.0.0 in
+    let k = c.in-At.k in
     let p = c.loop-k.pending in
     let v = c.loop-k.visible in
     let s = c.loop-k.steps in
@@ -73,5 +73,5 @@ loop-k-preserved c =
     rw (ep, ev) (
       (found).next,
       c.loop-k.invariant.1 ∙ ap (λ (f : ℕ). stepsFrom f (deps_in st) p v s) fuel
-          ∙ step_at (32 * n - (s + 1)) (deps_in st) p v s k (sym (asked) ∙ c.next-1.given.1),
+          ∙ step_at (32 * n - (s + 1)) (deps_in st) p v s k (sym (asked) ∙ c.in-At.is),
     )

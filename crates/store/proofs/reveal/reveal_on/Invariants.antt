@@ -6,10 +6,13 @@ use Rattle.causal.proofs.Array.{id_set}
 use Rattle.frame.specs.declared.entry.Entry.{Entry}
 use Rattle.store.specs.Offices.{entry_at}
 use Rattle.store.specs.Reveal.{revealed, steps as stepsFrom}
-use Rattle.store.proofs.Rules.{rules}
+use Rattle.store.proofs.Rules.{rules_of}
 use Rattle.store.proofs.Reached.{Ready, State, Step, start, step, step_at, step_end, picked}
 use Rattle.store.proofs.Ready.{deps_in, ready, entry_held}
 use Rattle.store.proofs.reveal.reveal_on.Given as goal
 
 abbrev pub invariant-loop-k : goal.invariant-loop-k
 invariant-loop-k l = State (deps_in l.store) (part l.store 3 8) (part l.store 11 8) (get_or l.store 0 0) l.initial.pending l.pending l.visible l.steps × (revealed (deps_in l.store) (get_or l.store 0 0) (part l.store 11 8) l.initial.pending ≡ stepsFrom (32 * get_or l.store 0 0 - l.steps) (deps_in l.store) l.pending l.visible l.steps)
+
+abbrev pub decreases-loop-k : goal.decreases-loop-k
+decreases-loop-k l = 32 * get_or l.store 0 0 - l.steps
