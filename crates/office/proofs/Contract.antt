@@ -42,10 +42,10 @@ module _ {M : Type 1} {𝓤 : Ura M} (𝓛 : Logic 𝓤) (mem : Memory → SProp
         ≡ fact 𝓤 (FreshPromise n (code_of r.status) r.session)
     pub fresh_asks : (n : ℕ) → (FreshSessionContract.clauses 𝓛 mem run tt (n, tt)).requires tt ≡ emp 𝓤
     pub settings_met : StoreSettings.Statement.statement M
-    pub settings_is : (κs : One) (ws : MutRow) (r : Settings) (ws' : MutRow)
+    pub settings_is : (κs : One) (ws : Row) (r : Settings) (ws' : Row)
         → (StoreSettingsContract.clauses 𝓛 mem run κs (ws, tt)).ensures tt r (ws', tt)
         ≡ fact 𝓤 (SettingsPromise ws.now (code_of r.status) r.offices r.own r.plots)
-    pub settings_asks : (κs : One) (ws : MutRow) → (StoreSettingsContract.clauses 𝓛 mem run κs (ws, tt)).requires tt ≡ emp 𝓤
+    pub settings_asks : (κs : One) (ws : Row) → (StoreSettingsContract.clauses 𝓛 mem run κs (ws, tt)).requires tt ≡ emp 𝓤
 
   pub office_contracts : OfficeContracts
   office_contracts =

@@ -25,17 +25,13 @@ use Rattle.frame.specs.contracts.session.Session as S
 use Rattle.frame.proofs.session.Session.TheLaws as S'
 use Rattle.office.specs.Steps.{own_at, own_to}
 
--- a field's array stands under `map`
-unmapped : (xs : List ℕ) → IdSet (map (λ v. v) xs) → IdSet xs
-unmapped xs p = subst (λ (l : List ℕ). IdSet l) (map-id xs) p
-
 pub entry_sane : (e : Entry) (vs : List Val) → Is E.the_row e vs → SaneEntry e
 entry_sane e vs p =
     let w = LL.owed E.the_type E'.the_laws e vs p in
-    record { clock8 = (unmapped e.clock (id_set _ w.1.1.1.1.0)).eight; deps_set = unmapped e.deps (id_set _ w.1.1.1.1.1.0) }
+    record { clock8 = (id_set e.clock w.1.1.1.1.0).eight; deps_set = id_set e.deps w.1.1.1.1.1.0 }
 
 -- each element of an array of entries is one
-elem : (xs : List Entry) (us : List Val) → shadow (each (E.the_field).row.Denot (E.the_field).row.own_val (map (E.the_field).into xs) us)
+elem : (xs : List Entry) (us : List Val) → shadow (each (E.the_row).Denot (E.the_row).own_val xs us)
     → (i : ℕ) → i < length xs → (u : Val) × Is E.the_row (get_or xs i nobody) (u ∷ [])
 elem [] us p i l = absurd (omega arith)
 elem (x ∷ xs) [] p i l = absurd p
@@ -66,16 +62,16 @@ own_each own (suc k) i l =
 
 -- what a session of a program has read is a set of ids
 pub read_ids : (s : Session) {vs : List Val} → Is S.the_row s vs → IdSet s.read
-read_ids s {vs} g = unmapped s.read (id_set _ (LL.owed S.the_type S'.the_laws s vs g).1.1.0)
+read_ids s {vs} g = id_set s.read (LL.owed S.the_type S'.the_laws s vs g).1.1.0
 
 pub session_sane : (s : Session) (vs : List Val) → Is S.the_row s vs → s.count ≤ 16 → SaneContent (content_of s)
 unfolding content_of
 session_sane s vs g few =
     let o = LL.owed S.the_type S'.the_laws s vs g in
     let w = o.1.1.1.1.0 in
-    let n : length s.own ≡ 16 = sym (length-map s.own (E.the_field).into) ∙ w.1.0.1 in
+    let n : length s.own ≡ 16 = w.1.0.1 in
     record {
-      clock8 = (unmapped s.clock (id_set _ o.1.0)).eight;
+      clock8 = (id_set s.clock o.1.0).eight;
       read = read_ids s g;
       own = own_all SaneEntry s.own s.count (λ i l. let x = elem s.own w.0 w.1.1 i (omega arith) in entry_sane (own_at s.own i) _ x.1);
     }

@@ -9,8 +9,8 @@ use Rattle.store.specs.Offices.{slot_at}
 use Rattle.store.specs.Slots.{hold_words}
 
 -- the first own writes of a row
-abbrev pub field_own : List Entry → ℕ → Entry
-field_own own i = get_or own i nobody
+abbrev pub own_at : List Entry → ℕ → Entry
+own_at own i = get_or own i nobody
 
 abbrev pub own_to : List Entry → ℕ → List Entry
 own_to own count = tab count (λ i. get_or own i nobody)
@@ -28,4 +28,4 @@ holds_in held ws (e ∷ es) = holds_in held (hold_if (is_in held (id_of e)) ws e
 
 -- the slots of the first own writes lie in a store of m words
 abbrev pub Slots : List Entry → ℕ → ℕ → Type 0
-Slots own count m = (i : ℕ) → i < count → slot_at (id_of (field_own own i)) + 18 ≤ m
+Slots own count m = (i : ℕ) → i < count → slot_at (id_of (own_at own i)) + 18 ≤ m

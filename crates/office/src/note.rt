@@ -12,6 +12,7 @@ pub struct Seen {
     pub read: [u32; 8],
 }
 
+#[tactic(auto, unfolding(crate::specs::Decide::place_number))]
 pub fn place_number(place: Place) -> usize
     ensures { result ≡ place_number place }
 {

@@ -12,7 +12,7 @@ use borrow.Author.Rules.{rules}
 use Rattle.joining.proofs.alike.same_front.Goals as goal
 
 pub loop-i-init : goal.loop-i-init
-loop-i-init c = (omega arith, ⊎_elim (λ w. omega (arith, w.0.taken, w.1)) (λ w. omega (arith, w.0.left, w.1)) c.if-m-n.branch, ⊎_elim (λ w. omega (arith, w.0.taken, w.1)) (λ w. omega (arith, w.0.left, w.1)) c.if-m-n.branch, all_none _)
+loop-i-init c = (omega arith, ?, ?, all_none _)
 
 pub returns-then-not-same_entry : goal.returns-then-not-same_entry
 returns-then-not-same_entry c = let l = c.loop-i in (omega (arith, l.invariant.0, l.invariant.1), omega (arith, l.invariant.0, l.invariant.2), l.invariant.3)
