@@ -10,9 +10,10 @@ use Rattle.frame.specs.Entries.{id_of, same_content}
 use Rattle.frame.proofs.OwnTurns.{owns_of}
 use borrow.Author.Rules.{rules}
 use Rattle.joining.proofs.alike.same_front.Goals as goal
+use Rattle.joining.proofs.alike.same_front.Goals.{then-m-n, else-m-n}
 
 pub loop-i-init : goal.loop-i-init
-loop-i-init c = (omega arith, ?, ?, all_none _)
+loop-i-init c = (omega arith, elim c.if-m-n.branch [ then-m-n w ↦ omega arith | else-m-n w ↦ omega arith ], elim c.if-m-n.branch [ then-m-n w ↦ omega arith | else-m-n w ↦ omega arith ], all_none _)
 
 pub returns-then-not-same_entry : goal.returns-then-not-same_entry
 returns-then-not-same_entry c = let l = c.loop-i in (omega (arith, l.invariant.0, l.invariant.1), omega (arith, l.invariant.0, l.invariant.2), l.invariant.3)

@@ -15,6 +15,7 @@ use Rattle.frame.proofs.OwnTurns.{owns_of}
 use Rattle.joining.proofs.Turns as T
 use borrow.Author.Rules.{rules}
 use Rattle.joining.proofs.join.both_own.Goals as goal
+use Rattle.joining.proofs.join.both_own.Goals.{then-not-among, else-not-among, then-count-lt16, else-count-lt16}
 
 pub loop-i-init : goal.loop-i-init
 loop-i-init c = let z = c.args in let t : Entry → Bool = λ e. is_in z.ids (id_of e) in let f = owns_of z.second in let none = c.requires.3 in let is = c.with_blanks-own.ensures in (omega arith, omega (arith, ap length none), λ few. is ∙ ap filled (sym (T.row_back (owns_of z.first) z.n _ is) ∙ sym (append-nil _) ∙ ap (λ (l : List Entry). tab z.n (owns_of c.with_blanks-own.result) ++ l) (sym none)))
@@ -32,8 +33,21 @@ loop-i-preserved c = let z = c.args in
     let place : l.count ≡ length es + length (T.Left t f l.i) = omega (arith, l.invariant.1, tab_length z.n (owns_of row)) in
     let r = c.among.ensures in (
       search rules,
-      ⊎_elim (λ w. w.3 ∙ T.place_more t f l.i _ r es l.count l.own place l.invariant.2 w.0.taken ∙ ap (λ (j : ℕ). j + length (T.Left t f (l.i + 1))) (tab_length z.n (owns_of row))) (λ w. w.2 ∙ T.place_same t f l.i _ r es l.count l.own place l.invariant.2 w.0.left ∙ ap (λ (j : ℕ). j + length (T.Left t f (l.i + 1))) (tab_length z.n (owns_of row))) c.if-not-among.branch,
-      λ few. ⊎_elim (λ w. ⊎_elim (λ v. w.2 ∙ v.1 ∙ T.row_more t f l.i _ r es l.count l.own place l.invariant.2 w.0.taken v.0.taken) (λ v. absurd (omega (arith, w.3, v.0.left, few))) w.1.came) (λ w. w.1 ∙ T.row_same t f l.i _ r es l.count l.own place l.invariant.2 w.0.left (omega (arith, w.2, few))) c.if-not-among.branch,
+      elim c.if-not-among.branch [
+        then-not-among w ↦
+          w.count-is ∙ T.place_more t f l.i _ r es l.count l.own place l.invariant.2 w.if-not-among.true-raw
+              ∙ ap (λ (j : ℕ). j + length (T.Left t f (l.i + 1))) (tab_length z.n (owns_of row))
+      | else-not-among w ↦
+          w.count-is ∙ T.place_same t f l.i _ r es l.count l.own place l.invariant.2 w.if-not-among.false-raw
+              ∙ ap (λ (j : ℕ). j + length (T.Left t f (l.i + 1))) (tab_length z.n (owns_of row))
+      ],
+      λ few. elim c.if-not-among.branch [
+        then-not-among w ↦ elim w.if-count-lt16.branch [
+          then-count-lt16 v ↦ w.own-is ∙ v.own-is ∙ T.row_more t f l.i _ r es l.count l.own place l.invariant.2 w.if-not-among.true-raw v.if-count-lt16.true
+        | else-count-lt16 v ↦ absurd (omega (arith, w.count-is, v.if-count-lt16.false, few))
+        ]
+      | else-not-among w ↦ w.own-is ∙ T.row_same t f l.i _ r es l.count l.own place l.invariant.2 w.if-not-among.false-raw (omega (arith, w.count-is, few))
+      ],
     )
 
 pub returns : goal.returns
