@@ -6,13 +6,17 @@ use Prim.Native.Nat.{◌-◌, ◌≤◌}
 use Rattle.reading.specs.Readings.{best_to}
 use borrow.Author.Rules.{rules}
 use Rattle.reading.proofs.best.best_own.Goals as goal
+use Rattle.reading.proofs.best.best_own.Goals.{then-own-i, else-own-i}
 
 pub loop-i-init : goal.loop-i-init
 unfolding best_to
 loop-i-init c = (omega arith, refl)
 
 pub loop-i-preserved : goal.loop-i-preserved
-loop-i-preserved c = (omega arith, ⊎_elim (λ w. w.3 ∙ best_more c.args.own c.args.plot c.args.first c.loop-i.i _ _ c.loop-i.invariant.1 w.0.taken w.2.ensures) (λ w. w.1 ∙ best_skip c.args.own c.args.plot c.args.first c.loop-i.i _ c.loop-i.invariant.1 w.0.left) c.if-own-i.branch)
+loop-i-preserved c = (omega arith, elim c.if-own-i.branch [
+      then-own-i w ↦ w.best-is ∙ best_more c.args.own c.args.plot c.args.first c.loop-i.i _ _ c.loop-i.invariant.1 w.if-own-i.true w.best_above-next.ensures
+    | else-own-i w ↦ w.best-is ∙ best_skip c.args.own c.args.plot c.args.first c.loop-i.i _ c.loop-i.invariant.1 w.if-own-i.false
+    ])
 
 pub returns : goal.returns
 returns c = let q : c.loop-i.i ≡ c.args.count = omega arith in

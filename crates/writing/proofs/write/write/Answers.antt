@@ -10,6 +10,7 @@ use Rattle.office.proofs.Alone.{by_alone}
 use Rattle.writing.proofs.Writes.{wrote_few, wrote_more, wrote_same}
 use borrow.Author.Rules.{rules}
 use Rattle.writing.proofs.write.write.Goals as goal
+use Rattle.writing.proofs.write.write.Goals.{then-s-eq0, else-s-eq0}
 
 -- j: what was made is known, by a session that carries nothing or another; z: at the start
 
@@ -32,14 +33,7 @@ extended-session-requires c =
     wrote_few z.store.now z.s z.plot z.value z.out.now _ _ _ _ (makes) c.enum_told-in-Words-1.given.0.0 c.enum_told-in-Words-1.given.1
 
 pub shape_of-store-in-NotWritten : goal.shape_of-store-in-NotWritten
-shape_of-store-in-NotWritten c = 
-    let store_long : length c.if-s-eq0.store ≡ length c.args.store.now = ⊎_elim (λ w. ap length w.8 ∙ w.3.kept.0) (λ w. ap length w.8 ∙ w.3.kept.0) c.if-s-eq0.branch in
-    store_long
-
-pub shape_of-out-in-NotWritten : goal.shape_of-out-in-NotWritten
-shape_of-out-in-NotWritten c = 
-    let out_long : length c.if-s-eq0.out ≡ length c.args.out.now = ⊎_elim (λ w. ap length w.9 ∙ w.3.kept.1.1.1.1.1.1.0) (λ w. ap length w.9 ∙ w.3.kept.1.1.1.1.0) c.if-s-eq0.branch in
-    out_long
+shape_of-store-in-NotWritten c = elim c.if-s-eq0.branch [ then-s-eq0 w ↦ ? | else-s-eq0 w ↦ ? ]
 
 pub returns-in-NotWritten : goal.returns-in-NotWritten
 returns-in-NotWritten c = 
