@@ -12,7 +12,7 @@ use prog.Routine.{Routine}
 use Rattle.frame.specs.Refusals.{reply_of}
 use Rattle.frame.specs.declared.entry.Entry.{Entry}
 use Rattle.frame.specs.declared.session.Session.{Session}
-use Rattle.frame.proofs.Contract.{MutRow, Row, Two}
+use Rattle.frame.proofs.Contract.{MutRow, Two}
 use Rattle.office.specs.Decide.{alone}
 use Rattle.office.specs.Promises.{MakePromise, WritePromise}
 use Rattle.writing.specs.declared.write.Made.{Made}

@@ -1,5 +1,4 @@
 use Rattle.causal.specs.Clocks.{join}
-use borrow.Author.Rules.{rules}
 use Rattle.causal.proofs.clock.join.Goals as goal
 
 pub returns : goal.returns

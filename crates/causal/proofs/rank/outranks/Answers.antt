@@ -1,11 +1,8 @@
 use native.Mathlib.Omega.{arith}
-use mathlib.Core.Path.{◌≡◌, refl, sym, ◌∙◌}
-use Prim.Native.Nat.{◌≤◌, ◌-◌}
-use lib.ListN.{drop}
-use Rattle.causal.specs.Rank.{higher, rank_of, ranks_above}
+use mathlib.Core.Path.{refl, sym, ◌∙◌}
+use Rattle.causal.specs.Rank.{ranks_above}
 use Rattle.causal.proofs.Ranks.{rank_same, rank_differs, rank_end}
 use Rattle.causal.proofs.Array.{id_set}
-use borrow.Author.Rules.{rules}
 use Rattle.causal.proofs.rank.outranks.Goals as goal
 
 pub loop-j-init : goal.loop-j-init

@@ -1,11 +1,7 @@
-use native.Mathlib.Omega.{arith}
-use mathlib.Core.Path.{◌≡◌, refl, sym, ◌∙◌}
+use mathlib.Core.Path.{◌≡◌}
 use Prim.Native.Nat.{◌≤◌, ◌-◌}
 use lib.ListN.{drop}
 use Rattle.causal.specs.Rank.{higher, rank_of, ranks_above}
-use Rattle.causal.proofs.Ranks.{rank_same, rank_differs, rank_end}
-use Rattle.causal.proofs.Array.{id_set}
-use borrow.Author.Rules.{rules}
 use Rattle.causal.proofs.rank.outranks.Given as goal
 
 abbrev pub invariant-loop-j : goal.invariant-loop-j

@@ -1,13 +1,12 @@
 use lib.ListN.{set}
-use Prim.Native.Nat.{ℕ, ◌+◌, ◌-◌, ◌≤◌}
+use Prim.Native.Nat.{ℕ, ◌+◌}
 use mathlib.Core.List.{List}
 use mathlib.Core.Path.{◌∙◌, ◌≡◌, ap, refl}
 use native.Mathlib.Omega.{arith}
-use lib.ListN.{get_or, length, length-set}
+use lib.ListN.{get_or, length-set}
 use lib.Seq.{sets}
 use Rattle.causal.specs.Lists.{part}
 use Rattle.causal.proofs.Lists.{copy_none, copy_more}
-use borrow.Author.Rules.{rules}
 use Rattle.causal.proofs.row.copy_words.Goals as goal
 
 pub loop-j-init : goal.loop-j-init

@@ -3,7 +3,6 @@ use mathlib.Core.Path.{refl, sym}
 use Rattle.causal.specs.Sets.{bit, has, is_in}
 use Rattle.causal.proofs.Sets.{past}
 use Rattle.causal.proofs.Array.{id_set}
-use borrow.Author.Rules.{rules}
 use Rattle.causal.proofs.set.contains.Goals as goal
 
 pub returns-then-k-ge256 : goal.returns-then-k-ge256

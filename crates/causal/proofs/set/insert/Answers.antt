@@ -5,7 +5,6 @@ use Rattle.causal.specs.Sets.{unite}
 use Rattle.causal.proofs.Bits.{one_shl}
 use Rattle.causal.proofs.Sets.{inserted_past, insert_eight}
 use Rattle.causal.proofs.Array.{id_set}
-use borrow.Author.Rules.{rules}
 use Rattle.causal.proofs.set.insert.Goals as goal
 
 pub returns-then-k-ge256 : goal.returns-then-k-ge256

@@ -1,5 +1,4 @@
 use Rattle.causal.proofs.Sets.{or_eight}
-use borrow.Author.Rules.{rules}
 use Rattle.causal.proofs.set.is_empty.Goals as goal
 
 pub returns : goal.returns

@@ -1,12 +1,10 @@
 use native.Mathlib.Omega.{arith}
-use mathlib.Core.Path.{◌≡◌, refl, sym, ◌∙◌}
-use Prim.Native.Nat.{◌≤◌, ◌-◌, ◌*◌}
-use lib.ListN.{drop, get_or}
+use mathlib.Core.Path.{refl, sym, ◌∙◌}
+use lib.ListN.{get_or}
 use lib.Count.{trailing_le}
-use Rattle.causal.specs.Sets.{lowest_in, lowest_of}
+use Rattle.causal.specs.Sets.{lowest_of}
 use Rattle.causal.proofs.Sets.{lowest_skip, lowest_hit, lowest_end}
 use Rattle.causal.proofs.Array.{id_set}
-use borrow.Author.Rules.{rules}
 use Rattle.causal.proofs.set.lowest_of.Goals as goal
 
 pub loop-i-init : goal.loop-i-init

@@ -1,12 +1,7 @@
-use native.Mathlib.Omega.{arith}
-use mathlib.Core.Path.{◌≡◌, refl, sym, ◌∙◌}
+use mathlib.Core.Path.{◌≡◌}
 use Prim.Native.Nat.{◌≤◌, ◌-◌, ◌*◌}
-use lib.ListN.{drop, get_or}
-use lib.Count.{trailing_le}
-use Rattle.causal.specs.Sets.{lowest_in, lowest_of}
-use Rattle.causal.proofs.Sets.{lowest_skip, lowest_hit, lowest_end}
-use Rattle.causal.proofs.Array.{id_set}
-use borrow.Author.Rules.{rules}
+use lib.ListN.{drop}
+use Rattle.causal.specs.Sets.{lowest_in}
 use Rattle.causal.proofs.set.lowest_of.Given as goal
 
 abbrev pub invariant-loop-i : goal.invariant-loop-i

@@ -1,6 +1,6 @@
 use native.Mathlib.Omega.{arith}
 use mathlib.Core.Path.{◌≡◌, refl}
-use Prim.Native.Nat.{◌≤◌, ◌-◌, ◌*◌}
+use Prim.Native.Nat.{◌*◌}
 use native.Mathlib.Numerals.{add-one}
 use lib.ListN.{get_or}
 use lib.Count.{ones-le}
@@ -10,7 +10,6 @@ use Rattle.causal.proofs.Lists.{sum_le}
 use Rattle.causal.proofs.Sets.{has_lt}
 use Rattle.causal.proofs.Walk.{size_more}
 use Rattle.causal.proofs.Array.{id_set}
-use borrow.Author.Rules.{rules}
 use Rattle.causal.proofs.set.size.Goals as goal
 
 pub loop-i-init : goal.loop-i-init

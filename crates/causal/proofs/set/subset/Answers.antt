@@ -1,7 +1,6 @@
 use mathlib.Core.Path.{ap, ◌∙◌}
 use Rattle.causal.specs.Sets.{is_empty}
 use Rattle.causal.proofs.Sets.{subset_left}
-use borrow.Author.Rules.{rules}
 use Rattle.causal.proofs.set.subset.Goals as goal
 
 pub returns : goal.returns

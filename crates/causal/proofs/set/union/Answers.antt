@@ -1,6 +1,5 @@
 use mathlib.Core.Path.{refl}
 use Rattle.causal.specs.Sets.{unite}
-use borrow.Author.Rules.{rules}
 use Rattle.causal.proofs.set.union.Goals as goal
 
 pub returns : goal.returns

@@ -1,4 +1,4 @@
-use Rattle.std.proofs.Common.{◌∙◌, rules}
+use Rattle.std.proofs.Common.{◌∙◌}
 use Rattle.frame.proofs.entry.clock_ok.Goals as goal
 
 pub returns : goal.returns

@@ -1,4 +1,4 @@
-use Rattle.std.proofs.Common.{arith, rules}
+use Rattle.std.proofs.Common.{arith}
 use Rattle.causal.proofs.Chain.{chain}
 use Rattle.frame.specs.Frames.{frame_ok}
 use Rattle.frame.proofs.entry.frame_ok.Goals as goal

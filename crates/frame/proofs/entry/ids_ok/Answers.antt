@@ -1,4 +1,4 @@
-use Rattle.std.proofs.Common.{◌∙◌, rules}
+use Rattle.std.proofs.Common.{◌∙◌}
 use Rattle.causal.proofs.Sets.{eight_tests}
 use Rattle.frame.specs.Entries.{ids_ok, ids_place_ok}
 use Rattle.frame.proofs.entry.ids_ok.Goals as goal

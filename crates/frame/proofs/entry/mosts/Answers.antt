@@ -1,4 +1,4 @@
-use Rattle.std.proofs.Common.{◌≡◌, ℕ, Bool, true, false, cond, eqb, ltb, leb, List, [], ◌∷◌, get_or, ap, ◌∙◌, arith, rules, eq-eqb, eqb-true, le-leb, leb-true}
+use Rattle.std.proofs.Common.{◌≡◌, ℕ, Bool, true, false, cond, eqb, ltb, leb, List, [], ◌∷◌, get_or, ap, ◌∙◌, arith, eq-eqb, eqb-true, le-leb, leb-true}
 use Rattle.causal.specs.Tests.{all_below, both}
 use Rattle.causal.proofs.Tests.{same_test}
 use Rattle.frame.specs.Entries.{clock_ok, clock_place_ok, under_ok}

@@ -1,5 +1,4 @@
 use Rattle.frame.specs.Entries.{outranks}
-use Rattle.std.proofs.Common.{rules}
 use Rattle.frame.proofs.entry.outranks.Goals as goal
 
 pub returns : goal.returns

@@ -1,4 +1,4 @@
-use Rattle.std.proofs.Common.{leb, get_or, rules}
+use Rattle.std.proofs.Common.{leb, get_or}
 use Rattle.causal.proofs.Sets.{eight_tests}
 use Rattle.frame.specs.Entries.{under_ok}
 use Rattle.frame.proofs.entry.overs.Goals as goal

@@ -1,4 +1,3 @@
-use Rattle.std.proofs.Common.{rules}
 use Rattle.frame.proofs.reader.blank_frame.Goals as goal
 
 pub returns : goal.returns

@@ -1,4 +1,4 @@
-use Rattle.std.proofs.Common.{arith, rules}
+use Rattle.std.proofs.Common.{arith}
 use Rattle.causal.proofs.Chain.{chain}
 use Rattle.frame.proofs.reader.content_ok.Goals as goal
 

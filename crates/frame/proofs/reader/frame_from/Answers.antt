@@ -1,4 +1,4 @@
-use Rattle.std.proofs.Common.{◌≡◌, ◌+◌, ◌-◌, ◌≤◌, true, leb, length, take, drop, sym, ap, ◌∙◌, arith, rules}
+use Rattle.std.proofs.Common.{◌≡◌, ◌+◌, ◌-◌, ◌≤◌, true, leb, length, take, drop, sym, ap, ◌∙◌, arith}
 use borrow.Author.Tests.{not-true, not-false}
 use Rattle.causal.specs.Tests.{both}
 use Rattle.causal.proofs.Tests.{both_swap, both_true}
@@ -20,36 +20,36 @@ pub returns-then-not-shape_ok : goal.returns-then-not-shape_ok
 returns-then-not-shape_ok c = no_frame c.args.offices c.args.plots c.args.ws.now _ (shape_refused c.args.offices c.args.plots c.args.ws.now c.requires (sym c.shape_ok.ensures ∙ not-true _ c.if-not-shape_ok.true-raw)) c.blank_frame.ensures
 
 pub kinds_ok-requires : goal.kinds_ok-requires
-kinds_ok-requires c = 
+kinds_ok-requires c =
     let shape : shape_ok c.args.offices c.args.ws.now ≡ true = sym c.shape_ok.ensures ∙ not-false _ c.if-not-shape_ok.false-raw in
     let whole : Shape c.args.offices c.args.ws.now = shape_facts c.args.offices c.args.ws.now (shape) in
     ((ring_facts c.args.offices c.args.plots c.requires).high, omega (arith, (whole).exact))
 
 pub returns-then-not-kinds_ok : goal.returns-then-not-kinds_ok
-returns-then-not-kinds_ok c = 
+returns-then-not-kinds_ok c =
     let shape : shape_ok c.args.offices c.args.ws.now ≡ true = sym c.shape_ok.ensures ∙ not-false _ c.if-not-shape_ok.false-raw in
     no_frame c.args.offices c.args.plots c.args.ws.now _ (clock_refused c.args.offices c.args.plots c.args.ws.now c.requires (shape) (sym c.kinds_ok.ensures ∙ not-true _ c.if-not-kinds_ok.true-raw)) c.blank_frame-then-not-kinds_ok.ensures
 
 pub overflow_sub-end : goal.overflow_sub-end
-overflow_sub-end c = 
+overflow_sub-end c =
     let shape : shape_ok c.args.offices c.args.ws.now ≡ true = sym c.shape_ok.ensures ∙ not-false _ c.if-not-shape_ok.false-raw in
     let whole : Shape c.args.offices c.args.ws.now = shape_facts c.args.offices c.args.ws.now (shape) in
     omega (arith, (whole).exact)
 
 pub slice_bounds-ids_ascend-count : goal.slice_bounds-ids_ascend-count
-slice_bounds-ids_ascend-count c = 
+slice_bounds-ids_ascend-count c =
     let shape : shape_ok c.args.offices c.args.ws.now ≡ true = sym c.shape_ok.ensures ∙ not-false _ c.if-not-shape_ok.false-raw in
     let whole : Shape c.args.offices c.args.ws.now = shape_facts c.args.offices c.args.ws.now (shape) in
     omega (arith, (whole).exact)
 
 pub slice_bounds-ids_ascend-start : goal.slice_bounds-ids_ascend-start
-slice_bounds-ids_ascend-start c = 
+slice_bounds-ids_ascend-start c =
     let shape : shape_ok c.args.offices c.args.ws.now ≡ true = sym c.shape_ok.ensures ∙ not-false _ c.if-not-shape_ok.false-raw in
     let whole : Shape c.args.offices c.args.ws.now = shape_facts c.args.offices c.args.ws.now (shape) in
     let q : 3 + c.args.offices ≤ length c.args.ws.now - 1 = omega (arith, (whole).exact) in q
 
 pub returns-then-not-ids_ascend : goal.returns-then-not-ids_ascend
-returns-then-not-ids_ascend c = 
+returns-then-not-ids_ascend c =
     let shape : shape_ok c.args.offices c.args.ws.now ≡ true = sym c.shape_ok.ensures ∙ not-false _ c.if-not-shape_ok.false-raw in
     let both_kinds : both (kinds_ok c.args.offices c.args.ws.now) (clock_ok c.args.offices (clock_from c.args.ws.now 3 c.args.offices)) ≡ true = sym c.kinds_ok.ensures ∙ not-false _ c.if-not-kinds_ok.false-raw in
     let kinds : kinds_ok c.args.offices c.args.ws.now ≡ true = (both_true (kinds_ok c.args.offices c.args.ws.now) _ (both_kinds)).0 in
@@ -58,19 +58,19 @@ returns-then-not-ids_ascend c =
     no_frame c.args.offices c.args.plots c.args.ws.now _ (ids_refused c.args.offices c.args.plots c.args.ws.now c.requires (shape) (kinds) (ap (ascends c.args.offices 0) (sym (between)) ∙ sym c.ids_ascend.ensures ∙ not-true _ c.if-not-ids_ascend.true-raw)) c.blank_frame-then-not-ids_ascend.ensures
 
 pub clock_from-clock-requires : goal.clock_from-clock-requires
-clock_from-clock-requires c = 
+clock_from-clock-requires c =
     let shape : shape_ok c.args.offices c.args.ws.now ≡ true = sym c.shape_ok.ensures ∙ not-false _ c.if-not-shape_ok.false-raw in
     let whole : Shape c.args.offices c.args.ws.now = shape_facts c.args.offices c.args.ws.now (shape) in
     ((ring_facts c.args.offices c.args.plots c.requires).high, omega (arith, (whole).exact))
 
 pub slice_bounds-ids_from-count : goal.slice_bounds-ids_from-count
-slice_bounds-ids_from-count c = 
+slice_bounds-ids_from-count c =
     let shape : shape_ok c.args.offices c.args.ws.now ≡ true = sym c.shape_ok.ensures ∙ not-false _ c.if-not-shape_ok.false-raw in
     let whole : Shape c.args.offices c.args.ws.now = shape_facts c.args.offices c.args.ws.now (shape) in
     omega (arith, (whole).exact)
 
 pub slice_bounds-ids_from-start : goal.slice_bounds-ids_from-start
-slice_bounds-ids_from-start c = 
+slice_bounds-ids_from-start c =
     let shape : shape_ok c.args.offices c.args.ws.now ≡ true = sym c.shape_ok.ensures ∙ not-false _ c.if-not-shape_ok.false-raw in
     let whole : Shape c.args.offices c.args.ws.now = shape_facts c.args.offices c.args.ws.now (shape) in
     let q : 3 + c.args.offices ≤ length c.args.ws.now - 1 = omega (arith, (whole).exact) in q
@@ -79,13 +79,13 @@ pub ids_from-deps-requires : goal.ids_from-deps-requires
 ids_from-deps-requires c = ascends_wider c.args.offices 8 0 _ (ring_facts c.args.offices c.args.plots c.requires).high (sym c.ids_ascend.ensures ∙ not-false _ c.if-not-ids_ascend.false-raw)
 
 pub frame_of-frame-requires : goal.frame_of-frame-requires
-frame_of-frame-requires c = 
+frame_of-frame-requires c =
     let shape : shape_ok c.args.offices c.args.ws.now ≡ true = sym c.shape_ok.ensures ∙ not-false _ c.if-not-shape_ok.false-raw in
     let whole : Shape c.args.offices c.args.ws.now = shape_facts c.args.offices c.args.ws.now (shape) in
     (omega (arith, (whole).exact), c.clock_from-clock.ensures)
 
 pub content_ok-requires : goal.content_ok-requires
-content_ok-requires c = 
+content_ok-requires c =
     let shape : shape_ok c.args.offices c.args.ws.now ≡ true = sym c.shape_ok.ensures ∙ not-false _ c.if-not-shape_ok.false-raw in
     let whole : Shape c.args.offices c.args.ws.now = shape_facts c.args.offices c.args.ws.now (shape) in
     let both_kinds : both (kinds_ok c.args.offices c.args.ws.now) (clock_ok c.args.offices (clock_from c.args.ws.now 3 c.args.offices)) ≡ true = sym c.kinds_ok.ensures ∙ not-false _ c.if-not-kinds_ok.false-raw in
@@ -98,7 +98,7 @@ content_ok-requires c =
     (g.low, g.high, omega (arith, (whole).exact), clock_in_range c.args.offices c.args.ws.now c.frame_of-frame.result (whole) (clock_fits) (frame), in_range c.args.offices c.args.ws.now c.frame_of-frame.result (whole) (up) (frame))
 
 pub returns-then-not-content_ok : goal.returns-then-not-content_ok
-returns-then-not-content_ok c = 
+returns-then-not-content_ok c =
     let shape : shape_ok c.args.offices c.args.ws.now ≡ true = sym c.shape_ok.ensures ∙ not-false _ c.if-not-shape_ok.false-raw in
     let both_kinds : both (kinds_ok c.args.offices c.args.ws.now) (clock_ok c.args.offices (clock_from c.args.ws.now 3 c.args.offices)) ≡ true = sym c.kinds_ok.ensures ∙ not-false _ c.if-not-kinds_ok.false-raw in
     let kinds : kinds_ok c.args.offices c.args.ws.now ≡ true = (both_true (kinds_ok c.args.offices c.args.ws.now) _ (both_kinds)).0 in
@@ -114,7 +114,7 @@ returns-then-not-content_ok c =
     no_frame c.args.offices c.args.plots c.args.ws.now _ (content_refused c.args.offices c.args.plots c.args.ws.now c.requires (shape) (kinds) (up) (sym (asked) ∙ not-true _ c.if-not-content_ok.true-raw)) c.blank_frame-then-not-content_ok.ensures
 
 pub returns : goal.returns
-returns c = 
+returns c =
     let shape : shape_ok c.args.offices c.args.ws.now ≡ true = sym c.shape_ok.ensures ∙ not-false _ c.if-not-shape_ok.false-raw in
     let both_kinds : both (kinds_ok c.args.offices c.args.ws.now) (clock_ok c.args.offices (clock_from c.args.ws.now 3 c.args.offices)) ≡ true = sym c.kinds_ok.ensures ∙ not-false _ c.if-not-kinds_ok.false-raw in
     let kinds : kinds_ok c.args.offices c.args.ws.now ≡ true = (both_true (kinds_ok c.args.offices c.args.ws.now) _ (both_kinds)).0 in

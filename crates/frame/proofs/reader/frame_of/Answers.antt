@@ -1,4 +1,4 @@
-use Rattle.std.proofs.Common.{◌/◌, ◌%◌, rules}
+use Rattle.std.proofs.Common.{◌/◌, ◌%◌}
 use Rattle.frame.specs.Words.{pay_at}
 use Rattle.frame.specs.Reading.{frame_at}
 use Rattle.frame.proofs.reader.frame_of.Goals as goal

@@ -1,4 +1,4 @@
-use Rattle.std.proofs.Common.{◌≡◌, false, get_or, ◌∙◌, arith, rules}
+use Rattle.std.proofs.Common.{◌≡◌, false, get_or, ◌∙◌, arith}
 use Rattle.causal.specs.Tests.{both}
 use Rattle.causal.proofs.Chain.{chain}
 use Rattle.frame.specs.Words.{kind_is}

@@ -1,4 +1,4 @@
-use Rattle.std.proofs.Common.{not, ap, arith, rules}
+use Rattle.std.proofs.Common.{not, ap, arith}
 use Rattle.causal.proofs.Chain.{chain, eq_passes}
 use Rattle.frame.proofs.Words.{in_serial}
 use Rattle.frame.proofs.reader.past_ok.Goals as goal

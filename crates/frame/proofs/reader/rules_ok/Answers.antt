@@ -1,7 +1,7 @@
 use Rattle.frame.specs.Entries.{clock_ok, entry_ok, id_of}
 use borrow.Author.Tests.{not-false}
 use Rattle.frame.proofs.Entries.{bounds_facts, rules_left}
-use Rattle.std.proofs.Common.{◌≡◌, not, eqb, get_or, sym, ap, ◌∙◌, arith, rules}
+use Rattle.std.proofs.Common.{◌≡◌, not, eqb, get_or, sym, ap, ◌∙◌, arith}
 use Rattle.causal.specs.Sets.{is_in}
 use Rattle.causal.specs.Tests.{both}
 use Rattle.causal.proofs.Tests.{both_one}

@@ -1,4 +1,4 @@
-use Rattle.std.proofs.Common.{◌≤◌, length, arith, rules}
+use Rattle.std.proofs.Common.{◌≤◌, length, arith}
 use Rattle.causal.proofs.Chain.{chain}
 use Rattle.frame.specs.Reading.{shape_ok}
 use Rattle.frame.proofs.reader.shape_ok.Goals as goal

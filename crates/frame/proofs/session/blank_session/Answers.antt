@@ -1,6 +1,6 @@
 use Rattle.causal.specs.Lists.{zeros}
 use Rattle.frame.specs.Sessions.{session_of, filled}
-use Rattle.std.proofs.Common.{replicate, rules}
+use Rattle.std.proofs.Common.{replicate}
 use Rattle.frame.proofs.session.blank_session.Goals as goal
 
 pub returns : goal.returns

@@ -1,4 +1,4 @@
-use Rattle.std.proofs.Common.{arith, rules}
+use Rattle.std.proofs.Common.{arith}
 use Rattle.causal.proofs.Chain.{chain}
 use Rattle.frame.specs.Sessions.{head_ok}
 use Rattle.frame.proofs.session.head_ok.Goals as goal

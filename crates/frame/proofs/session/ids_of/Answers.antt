@@ -1,4 +1,4 @@
-use Rattle.std.proofs.Common.{◌≡◌, ℕ, ◌-◌, ◌≤◌, refl, ap, ◌∙◌, arith, rules}
+use Rattle.std.proofs.Common.{◌≡◌, ℕ, refl, ap, ◌∙◌, arith, rules}
 use Rattle.causal.specs.Lists.{tab}
 use Rattle.frame.specs.Sessions.{ids_of}
 use Rattle.frame.proofs.OwnTurns as T

@@ -1,4 +1,4 @@
-use Rattle.std.proofs.Common.{refl, rules}
+use Rattle.std.proofs.Common.{refl}
 use Rattle.causal.specs.Lists.{tab}
 use Rattle.frame.specs.Sessions.{content_of, ids_of}
 use Rattle.frame.proofs.session.own_ids.Goals as goal

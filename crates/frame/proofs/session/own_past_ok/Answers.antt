@@ -1,4 +1,4 @@
-use Rattle.std.proofs.Common.{ℕ, List, ap, ◌∙◌, arith, rules}
+use Rattle.std.proofs.Common.{ℕ, List, ap, ◌∙◌, arith}
 use Rattle.causal.specs.Tests.{both}
 use Rattle.causal.specs.Sets.{subset_of}
 use Rattle.frame.specs.Entries.{under_ok}

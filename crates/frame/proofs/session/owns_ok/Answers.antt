@@ -1,9 +1,7 @@
-use Rattle.std.proofs.Common.{◌≡◌, ◌-◌, ◌≤◌, true, sym, refl, ◌∙◌, arith, rules}
+use Rattle.std.proofs.Common.{sym, refl, ◌∙◌, arith, rules}
 use borrow.Author.Tests.{not-false}
 use Rattle.causal.proofs.Tests.{all_none, turn_more, turn_fails, turn_done}
-use Rattle.causal.specs.Tests.{all_below}
 use Rattle.causal.specs.Lists.{tab}
-use Rattle.frame.specs.Entries.{ids_ok}
 use Rattle.frame.specs.Sessions.{ids_of}
 use Rattle.frame.proofs.OwnTurns as T
 use Rattle.frame.proofs.session.owns_ok.Goals as goal

@@ -1,6 +1,4 @@
-use Rattle.std.proofs.Common.{◌≡◌, ◌-◌, ◌≤◌, true, sym, refl, ◌∙◌, arith, rules}
-use borrow.Author.Tests.{not-false}
-use Rattle.causal.proofs.Tests.{all_none, turn_more, turn_fails, turn_done}
+use Rattle.std.proofs.Common.{◌≡◌, ◌≤◌, true}
 use Rattle.causal.specs.Tests.{all_below}
 use Rattle.causal.specs.Lists.{tab}
 use Rattle.frame.specs.Entries.{ids_ok}

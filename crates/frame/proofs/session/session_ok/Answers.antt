@@ -1,4 +1,4 @@
-use Rattle.std.proofs.Common.{sym, ◌∙◌, rules}
+use Rattle.std.proofs.Common.{sym, ◌∙◌}
 use borrow.Author.Tests.{not-false, not-true}
 use Rattle.frame.proofs.OwnTurns as T
 use Rattle.frame.proofs.session.session_ok.Goals as goal

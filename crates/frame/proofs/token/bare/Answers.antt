@@ -1,4 +1,4 @@
-use Rattle.std.proofs.Common.{replicate, refl, rules}
+use Rattle.std.proofs.Common.{replicate, refl}
 use Rattle.frame.specs.Refusals.{code_of}
 use Rattle.frame.specs.Sessions.{session_of, filled}
 use Rattle.frame.proofs.token.bare.Goals as goal

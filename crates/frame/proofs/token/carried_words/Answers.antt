@@ -1,4 +1,4 @@
-use Rattle.std.proofs.Common.{length, sym, ap, rules}
+use Rattle.std.proofs.Common.{length, sym, ap}
 use Rattle.frame.proofs.TokenTurns.{rows_of_none}
 use Rattle.frame.proofs.token.carried_words.Goals as goal
 

@@ -1,4 +1,4 @@
-use Rattle.std.proofs.Common.{ℕ, ◌+◌, ◌%◌, ◌<◌, ◌≤◌, List, length, set, sym, refl, ap, ◌∙◌, add-zero, arith, length-set, rules}
+use Rattle.std.proofs.Common.{ℕ, ◌+◌, ◌%◌, ◌<◌, ◌≤◌, List, length, set, sym, refl, ap, ◌∙◌, add-zero, arith, length-set}
 use lib.Seq.{sets}
 use Rattle.causal.specs.Lists.{tab}
 use Rattle.frame.specs.Words.{clock_words, id_words, total}
@@ -10,17 +10,17 @@ use Rattle.frame.proofs.TokenTurns as T
 use Rattle.frame.proofs.token.fill.Goals as goal
 
 pub put_start-put-requires : goal.put_start-put-requires
-put_start-put-requires c = 
+put_start-put-requires c =
     let writable : T.Writable c.args.s = T.writable c.args.s c.requires.0 c.requires.1 in
     let W = writable in (W.high, omega arith, W.clock, omega (arith, W.size, c.requires.2))
 
 pub offset_bounds-out-end : goal.offset_bounds-out-end
-offset_bounds-out-end c = 
+offset_bounds-out-end c =
     let writable : T.Writable c.args.s = T.writable c.args.s c.requires.0 c.requires.1 in
     let W = writable in omega (arith, W.high, W.reads, c.put_start-put.ensures.0)
 
 pub bounds-out-end : goal.bounds-out-end
-bounds-out-end c = 
+bounds-out-end c =
     let writable : T.Writable c.args.s = T.writable c.args.s c.requires.0 c.requires.1 in
     let W = writable in let h : c.put_start-put.result.to < length c.put_start-put.new.out = omega (arith, W.size, c.requires.2, c.put_start-put.ensures.0, c.put_start-put.auto.out) in h
 
@@ -29,7 +29,7 @@ shape_of-out-then-s-eq0 c = length-set c.put_start-put.new.out c.put_start-put.r
 
 pub returns-then-s-eq0 : goal.returns-then-s-eq0
 unfolding content_of
-returns-then-s-eq0 c = 
+returns-then-s-eq0 c =
     let writable : T.Writable c.args.s = T.writable c.args.s c.requires.0 c.requires.1 in
     let W = writable in let x = c.args.s in let o = c.args.out.now in
     let none = T.rows_of_none x.offices x.own x.count c.if-s-eq0.true in
@@ -46,12 +46,12 @@ returns-then-s-eq0 c =
     (sym (add-zero to) ∙ ap (λ (l : List ℕ). to + length l) (sym none)) (ap (sets a to) (sym none)) (ap (set a to) s) c.requires.2
 
 pub put_start-put-requires-2 : goal.put_start-put-requires-2
-put_start-put-requires-2 c = 
+put_start-put-requires-2 c =
     let writable : T.Writable c.args.s = T.writable c.args.s c.requires.0 c.requires.1 in
     let W = writable in (W.high, W.few, W.clock, omega (arith, W.size, c.requires.2))
 
 pub put_owns-end-requires : goal.put_owns-end-requires
-put_owns-end-requires c = 
+put_owns-end-requires c =
     let writable : T.Writable c.args.s = T.writable c.args.s c.requires.0 c.requires.1 in
     let W = writable in let x = c.args.s in
     let h : c.put_start-put-2.result.to + length (own_rows x.offices (tab x.count (owns_of x.own))) ≤ length c.put_start-put-2.new.out =
@@ -60,7 +60,7 @@ put_owns-end-requires c =
     (W.few, W.frames, h)
 
 pub put_sum-requires : goal.put_sum-requires
-put_sum-requires c = 
+put_sum-requires c =
     let writable : T.Writable c.args.s = T.writable c.args.s c.requires.0 c.requires.1 in
     let W = writable in
     let h : c.put_owns-end.result < length c.put_owns-end.new.out =
@@ -73,7 +73,7 @@ shape_of-out c = c.put_sum.auto.out ∙ c.put_owns-end.auto.out ∙ c.put_start-
 
 pub returns : goal.returns
 unfolding content_of
-returns c = 
+returns c =
     let writable : T.Writable c.args.s = T.writable c.args.s c.requires.0 c.requires.1 in
     let W = writable in let x = c.args.s in let o = c.args.out.now in
     let h : ℕ = token_head x.offices x.count (length (id_words x.read)) in

@@ -1,4 +1,4 @@
-use Rattle.std.proofs.Common.{take, sym, refl, ◌∙◌, arith, length-take-le, rules}
+use Rattle.std.proofs.Common.{take, sym, refl, ◌∙◌, arith, length-take-le}
 use Rattle.causal.proofs.Tests.{false_true}
 use Rattle.frame.specs.Tokens.{frame_length}
 use Rattle.frame.proofs.Entries.{ring_facts}

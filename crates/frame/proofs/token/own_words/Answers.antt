@@ -1,4 +1,4 @@
-use Rattle.std.proofs.Common.{◌≡◌, ℕ, ◌-◌, ◌≤◌, length, sym, ap, ◌∙◌, arith, rules}
+use Rattle.std.proofs.Common.{◌≡◌, ℕ, length, sym, ap, ◌∙◌, arith}
 use Rattle.frame.specs.Frames.{frame_words}
 use Rattle.frame.specs.Tokens.{own_rows}
 use Rattle.causal.specs.Lists.{tab}

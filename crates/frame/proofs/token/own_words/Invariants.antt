@@ -1,10 +1,7 @@
-use Rattle.std.proofs.Common.{◌≡◌, ℕ, ◌-◌, ◌≤◌, length, sym, ap, ◌∙◌, arith, rules}
-use Rattle.frame.specs.Frames.{frame_words}
+use Rattle.std.proofs.Common.{◌≡◌, ◌≤◌, length}
 use Rattle.frame.specs.Tokens.{own_rows}
 use Rattle.causal.specs.Lists.{tab}
-use Rattle.frame.specs.declared.entry.Frame.{Frame}
 use Rattle.frame.proofs.OwnTurns.{owns_of}
-use Rattle.frame.proofs.TokenTurns as T
 use Rattle.frame.proofs.token.own_words.Given as goal
 
 abbrev pub invariant-loop-i : goal.invariant-loop-i

@@ -1,4 +1,4 @@
-use Rattle.std.proofs.Common.{◌≡◌, ℕ, ◌-◌, true, List, take, drop, sym, ap, ◌∙◌, arith, rules}
+use Rattle.std.proofs.Common.{◌≡◌, ℕ, true, List, take, drop, sym, ap, ◌∙◌, arith, rules}
 use Rattle.frame.specs.Tokens.{frame_length}
 use Rattle.frame.specs.TokenReading.{own_frame_ok}
 use Rattle.frame.specs.Frames.{frame_of}

@@ -1,4 +1,4 @@
-use Rattle.std.proofs.Common.{◌≡◌, ℕ, ◌+◌, ◌-◌, ◌≤◌, List, length, sym, refl, ap, ◌∙◌, add-zero, arith, rules}
+use Rattle.std.proofs.Common.{◌≡◌, ℕ, ◌+◌, List, length, sym, refl, ap, ◌∙◌, add-zero, arith}
 use lib.Seq.{sets, length-sets}
 use Rattle.frame.specs.Frames.{framed, frame_words, frame_ok}
 use Rattle.frame.specs.Tokens.{own_rows}

@@ -1,11 +1,8 @@
-use Rattle.std.proofs.Common.{◌≡◌, ℕ, ◌+◌, ◌-◌, ◌≤◌, List, length, sym, refl, ap, ◌∙◌, add-zero, arith, rules}
-use lib.Seq.{sets, length-sets}
-use Rattle.frame.specs.Frames.{framed, frame_words, frame_ok}
+use Rattle.std.proofs.Common.{◌≡◌, ◌+◌, ◌≤◌, length}
+use lib.Seq.{sets}
 use Rattle.frame.specs.Tokens.{own_rows}
-use Rattle.frame.proofs.TokenTurns as T
 use Rattle.causal.specs.Lists.{tab}
 use Rattle.frame.proofs.OwnTurns.{owns_of}
-use Rattle.frame.specs.declared.entry.Frame.{Frame}
 use Rattle.frame.proofs.token.put_owns.Given as goal
 
 abbrev pub invariant-loop-i : goal.invariant-loop-i

@@ -1,4 +1,4 @@
-use Rattle.std.proofs.Common.{refl, rules}
+use Rattle.std.proofs.Common.{refl}
 use Rattle.frame.specs.Refusals.{code_of}
 use Rattle.frame.proofs.token.refused.Goals as goal
 

@@ -1,4 +1,4 @@
-use Rattle.std.proofs.Common.{◌≤◌, length, arith, rules}
+use Rattle.std.proofs.Common.{◌≤◌, length, arith}
 use Rattle.causal.proofs.Chain.{chain}
 use Rattle.frame.specs.TokenReading.{token_shape}
 use Rattle.frame.proofs.token.shape_ok.Goals as goal

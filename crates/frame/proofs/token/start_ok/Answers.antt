@@ -1,4 +1,4 @@
-use Rattle.std.proofs.Common.{◌+◌, ◌≤◌, length, sym, ap, ◌∙◌, arith, rules}
+use Rattle.std.proofs.Common.{◌+◌, ◌≤◌, length, sym, ap, ◌∙◌, arith}
 use borrow.Author.Tests.{not-false}
 use Rattle.causal.proofs.Chain.{chain}
 use Rattle.frame.specs.Reading.{ascends}
@@ -13,7 +13,7 @@ unfolding start_ok
 returns-then-not-shape_ok c = search (chain, arith) depth 9
 
 pub clock_kinds-requires : goal.clock_kinds-requires
-clock_kinds-requires c = 
+clock_kinds-requires c =
     let shape : Shape c.args.n c.args.ws.now = shape_facts c.args.n c.args.ws.now (sym c.shape_ok.ensures ∙ not-false _ c.if-not-shape_ok.false-raw) in
     omega (arith, (shape).room)
 
@@ -22,12 +22,12 @@ unfolding start_ok
 returns-then-not-clock_kinds c = search (chain, arith) depth 9
 
 pub bounds-ws-0 : goal.bounds-ws-0
-bounds-ws-0 c = 
+bounds-ws-0 c =
     let shape : Shape c.args.n c.args.ws.now = shape_facts c.args.n c.args.ws.now (sym c.shape_ok.ensures ∙ not-false _ c.if-not-shape_ok.false-raw) in
     omega (arith, (shape).room)
 
 pub slice_bounds-ids_ascend-end : goal.slice_bounds-ids_ascend-end
-slice_bounds-ids_ascend-end c = 
+slice_bounds-ids_ascend-end c =
     let shape : Shape c.args.n c.args.ws.now = shape_facts c.args.n c.args.ws.now (sym c.shape_ok.ensures ∙ not-false _ c.if-not-shape_ok.false-raw) in
     let h : 1 + c.args.n + token_reads c.args.ws.now ≤ length c.args.ws.now = omega (arith, (shape).room) in h
 
@@ -36,7 +36,7 @@ unfolding start_ok
 returns-then-not-ids_ascend c = let h = c.ids_ascend.ensures ∙ ap (ascends c.args.n 0) (R.reads_between c.args.n 0 c.args.ws.now) in search (chain, arith) depth 9
 
 pub sum_ok-requires : goal.sum_ok-requires
-sum_ok-requires c = 
+sum_ok-requires c =
     let shape : Shape c.args.n c.args.ws.now = shape_facts c.args.n c.args.ws.now (sym c.shape_ok.ensures ∙ not-false _ c.if-not-shape_ok.false-raw) in
     omega (arith, (shape).room)
 

@@ -1,4 +1,4 @@
-use Rattle.std.proofs.Common.{arith, rules}
+use Rattle.std.proofs.Common.{arith}
 use Rattle.causal.proofs.Sets.{size_le}
 use Rattle.frame.proofs.Words.{ids_size}
 use Rattle.frame.proofs.OwnTurns.{owns_of}

@@ -1,4 +1,4 @@
-use Rattle.std.proofs.Common.{sym, ◌∙◌, arith, rules}
+use Rattle.std.proofs.Common.{sym, ◌∙◌, arith}
 use Rattle.frame.specs.Refusals.{number_of, reply_of}
 use Rattle.frame.specs.Sessions.{content_of}
 use borrow.Author.Tests.{not-true, not-false}

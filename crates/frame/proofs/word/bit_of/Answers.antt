@@ -1,4 +1,4 @@
-use Rattle.std.proofs.Common.{arith, rules}
+use Rattle.std.proofs.Common.{arith}
 use Rattle.causal.proofs.Bits.{one_shl}
 use Rattle.frame.proofs.word.bit_of.Goals as goal
 

@@ -1,5 +1,4 @@
-use Rattle.std.proofs.Common.{◌≡◌, ℕ, ◌-◌, ◌%◌, ◌≤◌, List, length, get_or, take, sym, refl, ap, ◌∙◌, arith, take_all, rules}
-use Rattle.frame.proofs.Words.{total_take, wrapped}
+use Rattle.std.proofs.Common.{◌≡◌, ◌%◌, ◌≤◌, length, take}
 use Rattle.frame.specs.Words.{total}
 use Rattle.frame.proofs.word.check_sum.Given as goal
 

@@ -1,4 +1,4 @@
-use Rattle.std.proofs.Common.{◌≡◌, ℕ, ◌+◌, ◌-◌, ◌≤◌, List, set, sym, refl, ap, ◌∙◌, zero-add, arith, rules}
+use Rattle.std.proofs.Common.{◌≡◌, ℕ, ◌+◌, List, set, sym, refl, ap, ◌∙◌, zero-add, arith}
 use Rattle.frame.proofs.Turns.{clock_whole}
 use lib.Seq.{sets}
 use Rattle.causal.specs.Lists.{tab, zeros}

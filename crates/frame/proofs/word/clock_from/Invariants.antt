@@ -1,8 +1,6 @@
-use Rattle.std.proofs.Common.{◌≡◌, ℕ, ◌+◌, ◌-◌, ◌≤◌, List, set, sym, refl, ap, ◌∙◌, zero-add, arith, rules}
-use Rattle.frame.proofs.Turns.{clock_whole}
+use Rattle.std.proofs.Common.{◌≡◌, ◌+◌, ◌≤◌}
 use lib.Seq.{sets}
 use Rattle.causal.specs.Lists.{tab, zeros}
-use Rattle.causal.proofs.Lists.{sets_tab}
 use Rattle.frame.specs.Words.{pay_at}
 use Rattle.frame.proofs.word.clock_from.Given as goal
 

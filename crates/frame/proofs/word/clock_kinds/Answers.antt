@@ -1,5 +1,4 @@
-use Rattle.std.proofs.Common.{◌≡◌, ℕ, ◌+◌, ◌-◌, ◌≤◌, true, get_or, arith, rules}
-use Rattle.causal.specs.Tests.{all_below}
+use Rattle.std.proofs.Common.{ℕ, ◌+◌, get_or, arith}
 use Rattle.frame.specs.Words.{kind_is}
 use Rattle.frame.specs.Reading.{clock_kinds}
 use Rattle.causal.proofs.Tests.{all_none, turn_more, turn_fails, turn_done}

@@ -1,8 +1,6 @@
-use Rattle.std.proofs.Common.{◌≡◌, ℕ, ◌+◌, ◌-◌, ◌≤◌, true, get_or, arith, rules}
+use Rattle.std.proofs.Common.{◌≡◌, ◌+◌, ◌≤◌, true, get_or}
 use Rattle.causal.specs.Tests.{all_below}
 use Rattle.frame.specs.Words.{kind_is}
-use Rattle.frame.specs.Reading.{clock_kinds}
-use Rattle.causal.proofs.Tests.{all_none, turn_more, turn_fails, turn_done}
 use Rattle.frame.proofs.word.clock_kinds.Given as goal
 
 abbrev pub invariant-loop-j : goal.invariant-loop-j

@@ -1,5 +1,5 @@
-use Rattle.std.proofs.Common.{◌≡◌, ℕ, ◌+◌, ◌-◌, ◌≤◌, true, leb, get_or, arith, rules}
-use Rattle.causal.specs.Tests.{all_below, both}
+use Rattle.std.proofs.Common.{ℕ, ◌+◌, leb, get_or, arith}
+use Rattle.causal.specs.Tests.{both}
 use Rattle.frame.specs.Words.{kind_is, pay_at}
 use Rattle.frame.specs.Reading.{clocks_in}
 use Rattle.causal.proofs.Tests.{all_none, turn_more, turn_fails, turn_done}

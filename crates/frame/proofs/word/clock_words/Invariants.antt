@@ -1,8 +1,6 @@
-use Rattle.std.proofs.Common.{◌≡◌, ℕ, ◌+◌, ◌-◌, ◌≤◌, true, leb, get_or, arith, rules}
+use Rattle.std.proofs.Common.{◌≡◌, ◌+◌, ◌≤◌, true, leb, get_or}
 use Rattle.causal.specs.Tests.{all_below, both}
 use Rattle.frame.specs.Words.{kind_is, pay_at}
-use Rattle.frame.specs.Reading.{clocks_in}
-use Rattle.causal.proofs.Tests.{all_none, turn_more, turn_fails, turn_done}
 use Rattle.frame.proofs.word.clock_words.Given as goal
 
 abbrev pub invariant-loop-j : goal.invariant-loop-j

@@ -1,9 +1,5 @@
-use Rattle.std.proofs.Common.{◌≡◌, ℕ, ◌+◌, ◌-◌, ◌≤◌, Bool, eqb, length, take, sym, ap, ◌∙◌, arith, rules}
-use lib.Seq.{take-length}
-use borrow.Author.Tests.{not-true, not-false}
-use Rattle.causal.specs.Tests.{both}
-use Rattle.causal.proofs.Bits.{or_is_zero}
-use Rattle.frame.proofs.Ascents.{steps, steps_first, steps_more, ascends_none, first_wrong, last_wrong, office_wrong, all_right}
+use Rattle.std.proofs.Common.{◌≡◌, ◌+◌, ◌≤◌, eqb, length, take}
+use Rattle.frame.proofs.Ascents.{steps}
 use Rattle.frame.proofs.word.ids_ascend.Given as goal
 
 abbrev pub invariant-loop-i : goal.invariant-loop-i

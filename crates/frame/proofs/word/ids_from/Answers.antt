@@ -1,4 +1,4 @@
-use Rattle.std.proofs.Common.{◌≡◌, ℕ, ◌-◌, ◌/◌, ◌%◌, ◌≤◌, length, get_or, take, set, refl, ap, ◌∙◌, arith, take_all, rules}
+use Rattle.std.proofs.Common.{ℕ, ◌/◌, ◌%◌, length, get_or, take, set, refl, ap, ◌∙◌, arith, take_all}
 use lib.Bits.{bit_or}
 use Rattle.frame.proofs.Words.{ids_from_set}
 use Rattle.frame.proofs.Ascents.{ascends_at, eight_fit, ids_four, ids_next, ids_run}

@@ -1,4 +1,4 @@
-use Rattle.std.proofs.Common.{◌+◌, ◌-◌, get_or, arith, rules, eqb-true}
+use Rattle.std.proofs.Common.{◌+◌, ◌-◌, get_or, arith, eqb-true}
 use Rattle.causal.proofs.Tests.{false_true}
 use Rattle.frame.proofs.Ascents.{rises}
 use Rattle.frame.proofs.word.is_run.Goals as goal

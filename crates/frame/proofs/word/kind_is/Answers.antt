@@ -1,4 +1,4 @@
-use Rattle.std.proofs.Common.{◌≡◌, ℕ, ◌/◌, ◌<◌, ◌⊎◌, false, refl, ⊎_elim, inl, inr, arith, rules}
+use Rattle.std.proofs.Common.{◌≡◌, ℕ, ◌/◌, ◌<◌, ◌⊎◌, false, refl, ⊎_elim, inl, inr, arith}
 use Rattle.frame.proofs.Words.{other_kind, this_kind, field_kind, no_kind}
 use Rattle.frame.specs.Words.{is_kind, kind_is, kind_of}
 use Rattle.causal.specs.Tests.{both, either}

@@ -1,4 +1,4 @@
-use Rattle.std.proofs.Common.{sym, refl, arith, rules, le-ltb, lt-ltb}
+use Rattle.std.proofs.Common.{sym, refl, arith, le-ltb, lt-ltb}
 use Rattle.causal.specs.Tests.{both}
 use Rattle.frame.specs.Reading.{next_ok}
 use Rattle.frame.proofs.word.not_next.Goals as goal

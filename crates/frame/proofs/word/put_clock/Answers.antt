@@ -1,5 +1,4 @@
-use Rattle.std.proofs.Common.{◌≡◌, ℕ, ◌+◌, ◌-◌, ◌%◌, ◌≤◌, List, length, set, sym, refl, ap, ◌∙◌, arith, length-set, rules}
-use lib.Seq.{sets}
+use Rattle.std.proofs.Common.{◌≡◌, ℕ, ◌+◌, ◌%◌, List, set, sym, refl, ap, ◌∙◌, arith, length-set}
 use Rattle.causal.specs.Lists.{tab}
 use Rattle.causal.proofs.Lists.{sets_tab, tab_more}
 use Rattle.frame.specs.Words.{clock_word, clock_words, total}
@@ -18,11 +17,11 @@ bounds-out-at c = omega (arith, c.loop-j.invariant.1, c.requires.1)
 
 pub loop-j-preserved : goal.loop-j-preserved
 loop-j-preserved c = let z = c.args in let l = c.loop-j in (
-      omega arith,
-      simp length-set l.invariant.1,
-      ap (λ (o : List ℕ). set o (z.at + l.j) (clock_word z.clock l.j)) l.invariant.2 ∙ sets_tab z.out.now z.at (clock_word z.clock) l.j,
-      ap (λ (x : ℕ). x % 268435456) c.wrapping_add_u32-sum.ensures.value ∙ sum_more l.sum (clock_word z.clock l.j) (tab l.j (clock_word z.clock)) l.invariant.3 ∙ ap (λ (o : List ℕ). total o % 268435456) (sym (tab_more l.j (clock_word z.clock))),
-    )
+  omega arith,
+  simp length-set l.invariant.1,
+  ap (λ (o : List ℕ). set o (z.at + l.j) (clock_word z.clock l.j)) l.invariant.2 ∙ sets_tab z.out.now z.at (clock_word z.clock) l.j,
+  ap (λ (x : ℕ). x % 268435456) c.wrapping_add_u32-sum.ensures.value ∙ sum_more l.sum (clock_word z.clock l.j) (tab l.j (clock_word z.clock)) l.invariant.3 ∙ ap (λ (o : List ℕ). total o % 268435456) (sym (tab_more l.j (clock_word z.clock))),
+)
 
 pub shape_of-out : goal.shape_of-out
 shape_of-out c = c.loop-j.invariant.1

@@ -1,9 +1,7 @@
-use Rattle.std.proofs.Common.{◌≡◌, ℕ, ◌+◌, ◌-◌, ◌%◌, ◌≤◌, List, length, set, sym, refl, ap, ◌∙◌, arith, length-set, rules}
+use Rattle.std.proofs.Common.{◌≡◌, ◌%◌, ◌≤◌, length}
 use lib.Seq.{sets}
 use Rattle.causal.specs.Lists.{tab}
-use Rattle.causal.proofs.Lists.{sets_tab, tab_more}
-use Rattle.frame.specs.Words.{clock_word, clock_words, total}
-use Rattle.frame.proofs.Words.{sum_more}
+use Rattle.frame.specs.Words.{clock_word, total}
 use Rattle.frame.proofs.word.put_clock.Given as goal
 
 abbrev pub invariant-loop-j : goal.invariant-loop-j

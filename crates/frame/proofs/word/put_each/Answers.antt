@@ -1,9 +1,9 @@
-use Rattle.std.proofs.Common.{◌≡◌, ℕ, ◌+◌, ◌*◌, ◌%◌, List, [], ◌∷◌, length, set, sym, refl, ap, ◌∙◌, add-zero, arith, length-append, length-set, rules}
+use Rattle.std.proofs.Common.{◌≡◌, ℕ, ◌+◌, ◌*◌, ◌%◌, List, [], ◌∷◌, length, set, sym, refl, ap, ◌∙◌, add-zero, arith, length-append, length-set}
 use lib.Seq.{sets}
 use lib.Count.{count_trailing_zeros}
 use Rattle.causal.proofs.Lists.{sets_append}
 use Rattle.frame.proofs.Turns.{ids_step, ids_room, ids_end}
-use Rattle.causal.proofs.Walk.{Passed, next, passed_none}
+use Rattle.causal.proofs.Walk.{next, passed_none}
 use Rattle.frame.specs.Words.{id_words_in, total}
 use Rattle.frame.proofs.Words.{sum_more}
 use Rattle.frame.proofs.word.put_each.Goals as goal

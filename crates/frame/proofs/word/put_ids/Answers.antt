@@ -1,4 +1,4 @@
-use Rattle.std.proofs.Common.{◌≡◌, ℕ, ◌+◌, ◌-◌, ◌*◌, ◌%◌, ◌≤◌, List, length, get_or, sym, refl, ap, ◌∙◌, add-zero, arith, length-append, rules}
+use Rattle.std.proofs.Common.{◌≡◌, ℕ, ◌*◌, ◌%◌, List, length, get_or, sym, refl, ap, ◌∙◌, add-zero, arith, length-append}
 use Rattle.causal.proofs.Lists.{sets_append}
 use Rattle.frame.proofs.Turns.{ids_word, words_room}
 use lib.Seq.{sets, length-sets}

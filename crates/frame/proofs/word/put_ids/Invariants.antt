@@ -1,9 +1,6 @@
-use Rattle.std.proofs.Common.{◌≡◌, ℕ, ◌+◌, ◌-◌, ◌*◌, ◌%◌, ◌≤◌, List, length, get_or, sym, refl, ap, ◌∙◌, add-zero, arith, length-append, rules}
-use Rattle.causal.proofs.Lists.{sets_append}
-use Rattle.frame.proofs.Turns.{ids_word, words_room}
-use lib.Seq.{sets, length-sets}
-use Rattle.frame.specs.Words.{id_words_to, id_words, id_words_in, total}
-use Rattle.frame.proofs.Words.{sum_added}
+use Rattle.std.proofs.Common.{◌≡◌, ◌+◌, ◌*◌, ◌%◌, ◌≤◌, length}
+use lib.Seq.{sets}
+use Rattle.frame.specs.Words.{id_words_to, total}
 use Rattle.frame.proofs.word.put_ids.Given as goal
 
 abbrev pub invariant-loop-j : goal.invariant-loop-j

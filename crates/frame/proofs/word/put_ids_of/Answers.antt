@@ -1,4 +1,4 @@
-use Rattle.std.proofs.Common.{ℕ, ◌%◌, List, sym, ap, ◌∙◌, arith, rules}
+use Rattle.std.proofs.Common.{ℕ, ◌%◌, List, sym, ap, ◌∙◌, arith}
 use lib.Count.{count_leading_zeros, leading_le, leading_top}
 use lib.Seq.{sets}
 use Rattle.frame.proofs.Turns.{run_is, run_length}

@@ -1,5 +1,4 @@
-use Rattle.std.proofs.Common.{◌≡◌, ℕ, ◌+◌, ◌-◌, ◌%◌, ◌≤◌, List, length, set, sym, refl, ap, ◌∙◌, arith, length-set, rules}
-use lib.Seq.{sets}
+use Rattle.std.proofs.Common.{◌≡◌, ℕ, ◌+◌, ◌%◌, List, set, sym, refl, ap, ◌∙◌, arith, length-set}
 use Rattle.causal.specs.Lists.{tab}
 use Rattle.causal.proofs.Lists.{sets_tab, tab_more}
 use Rattle.frame.specs.Words.{total}
@@ -15,11 +14,11 @@ bounds-out-at c = omega (arith, c.loop-i.invariant.1, c.requires.2)
 
 pub loop-i-preserved : goal.loop-i-preserved
 loop-i-preserved c = let z = c.args in let l = c.loop-i in (
-      omega arith,
-      simp length-set l.invariant.1,
-      ap (λ (o : List ℕ). set o (z.at + l.i) (z.first + l.i)) l.invariant.2 ∙ sets_tab z.out.now z.at (λ (k : ℕ). z.first + k) l.i,
-      ap (λ (x : ℕ). x % 268435456) c.wrapping_add_u32-sum.ensures.value ∙ sum_more l.sum (z.first + l.i) (tab l.i (λ (k : ℕ). z.first + k)) l.invariant.3 ∙ ap (λ (o : List ℕ). total o % 268435456) (sym (tab_more l.i (λ (k : ℕ). z.first + k))),
-    )
+  omega arith,
+  simp length-set l.invariant.1,
+  ap (λ (o : List ℕ). set o (z.at + l.i) (z.first + l.i)) l.invariant.2 ∙ sets_tab z.out.now z.at (λ (k : ℕ). z.first + k) l.i,
+  ap (λ (x : ℕ). x % 268435456) c.wrapping_add_u32-sum.ensures.value ∙ sum_more l.sum (z.first + l.i) (tab l.i (λ (k : ℕ). z.first + k)) l.invariant.3 ∙ ap (λ (o : List ℕ). total o % 268435456) (sym (tab_more l.i (λ (k : ℕ). z.first + k))),
+)
 
 pub shape_of-out : goal.shape_of-out
 shape_of-out c = c.loop-i.invariant.1

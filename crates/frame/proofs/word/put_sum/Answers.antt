@@ -1,4 +1,4 @@
-use Rattle.std.proofs.Common.{ℕ, ◌+◌, set, ap, arith, length-take, rules}
+use Rattle.std.proofs.Common.{ℕ, ◌+◌, set, ap, arith, length-take}
 use Rattle.frame.proofs.word.put_sum.Goals as goal
 
 pub slice_bounds-check_sum-end-2 : goal.slice_bounds-check_sum-end-2

@@ -1,4 +1,4 @@
-use Rattle.std.proofs.Common.{◌-◌, eqb, length, get_or, sym, ap, ◌∙◌, arith, length-take-le, rules}
+use Rattle.std.proofs.Common.{◌-◌, eqb, length, get_or, sym, ap, ◌∙◌, arith, length-take-le}
 use borrow.Author.Tests.{not-false}
 use Rattle.causal.specs.Tests.{both}
 use Rattle.frame.specs.Words.{payload}

@@ -1,7 +1,7 @@
 use Rattle.causal.proofs.Bits.{one_shl}
 use Rattle.frame.specs.Reading.{eight_bits}
 use Rattle.frame.proofs.Ascents.{pow_shl}
-use Rattle.std.proofs.Common.{refl, arith, rules}
+use Rattle.std.proofs.Common.{refl, arith}
 use Rattle.frame.proofs.word.with_eight.Goals as goal
 
 pub returns : goal.returns

@@ -1,4 +1,4 @@
-use Rattle.std.proofs.Common.{◌+◌, refl, arith, rules}
+use Rattle.std.proofs.Common.{◌+◌, refl, arith}
 use Rattle.frame.specs.Reading.{four_bits}
 use Rattle.frame.proofs.Ascents.{ascends_at}
 use Rattle.frame.proofs.word.with_four.Goals as goal

@@ -1,4 +1,4 @@
-use Rattle.std.proofs.Common.{ℕ, leb, length, sym, ap, arith, rules, le-leb}
+use Rattle.std.proofs.Common.{ℕ, leb, length, sym, ap, arith, le-leb}
 use Rattle.frame.specs.Frames.{frame_words}
 use Rattle.frame.proofs.Turns.{frame_most}
 use Rattle.frame.proofs.writer.has_room.Goals as goal

@@ -1,4 +1,4 @@
-use Rattle.std.proofs.Common.{◌≡◌, ◌-◌, length, set, ap, ◌∙◌, arith, length-set, rules}
+use Rattle.std.proofs.Common.{◌≡◌, ◌-◌, length, set, ap, ◌∙◌, arith, length-set}
 use Rattle.frame.specs.Words.{id_words}
 use Rattle.frame.specs.Frames.{head_word}
 use Rattle.frame.proofs.Entries.{FrameFacts, frame_facts, EntryFacts, entry_facts, clock_facts}
@@ -7,7 +7,7 @@ use Rattle.frame.proofs.Turns.{head_last, body_sum, frame_most}
 use Rattle.frame.proofs.writer.put.Goals as goal
 
 pub put_clock-clocks-requires : goal.put_clock-clocks-requires
-put_clock-clocks-requires c = 
+put_clock-clocks-requires c =
     let facts : FrameFacts c.args.f.offices 64 c.args.f = frame_facts c.args.f.offices 64 c.args.f c.requires.0 in
     let rules : EntryFacts c.args.f.offices 64 c.args.f.entry = entry_facts c.args.f.offices 64 c.args.f.entry (facts).entry in
     let f = c.args.f in ((facts).high, omega (arith, c.requires.1, length_frame f), λ j k. (clock_facts f.offices f.entry.clock (rules).clock j k).small)
@@ -22,23 +22,23 @@ pub overflow_sub-count-2 : goal.overflow_sub-count-2
 overflow_sub-count-2 c = omega (arith, c.put_ids-put.ensures.0)
 
 pub overflow_cast-count-2 : goal.overflow_cast-count-2
-overflow_cast-count-2 c = 
+overflow_cast-count-2 c =
     let fits : HeadFits c.args.f.entry.office c.args.f.entry.serial c.args.f.hops c.args.f.offices (length (id_words c.args.f.entry.deps)) = head_fits c.args.f.offices 64 c.args.f c.requires.0 in
     let f = c.args.f in omega (arith, c.put_ids-put.ensures.0, (fits).count)
 
 pub head_word-head-requires : goal.head_word-head-requires
-head_word-head-requires c = 
+head_word-head-requires c =
     let fits : HeadFits c.args.f.entry.office c.args.f.entry.serial c.args.f.hops c.args.f.offices (length (id_words c.args.f.entry.deps)) = head_fits c.args.f.offices 64 c.args.f c.requires.0 in
     let f = c.args.f in let h = fits in (h.office, h.serial, h.hops, h.offices, omega (arith, c.put_ids-put.ensures.0, h.count))
 
 pub put_head-requires : goal.put_head-requires
-put_head-requires c = 
+put_head-requires c =
     let facts : FrameFacts c.args.f.offices 64 c.args.f = frame_facts c.args.f.offices 64 c.args.f c.requires.0 in
     let rules : EntryFacts c.args.f.offices 64 c.args.f.entry = entry_facts c.args.f.offices 64 c.args.f.entry (facts).entry in
     let f = c.args.f in (omega (arith, c.requires.1, length_frame f, c.put_ids-put.auto.out, c.put_clock-clocks.auto.out), omega (arith, (rules).bounds), (rules).bounds.value_ok)
 
 pub overflow_add-e : goal.overflow_add-e
-overflow_add-e c = 
+overflow_add-e c =
     let facts : FrameFacts c.args.f.offices 64 c.args.f = frame_facts c.args.f.offices 64 c.args.f c.requires.0 in
     let rules : EntryFacts c.args.f.offices 64 c.args.f.entry = entry_facts c.args.f.offices 64 c.args.f.entry (facts).entry in
     let f = c.args.f in omega (arith, (rules).bounds)
@@ -47,7 +47,7 @@ pub bounds-out-end : goal.bounds-out-end
 bounds-out-end c = let f = c.args.f in omega (arith, c.requires.1, length_frame f, c.put_ids-put.ensures.0, c.put_head.auto.out, c.put_ids-put.auto.out, c.put_clock-clocks.auto.out)
 
 pub overflow_add-result : goal.overflow_add-result
-overflow_add-result c = 
+overflow_add-result c =
     let facts : FrameFacts c.args.f.offices 64 c.args.f = frame_facts c.args.f.offices 64 c.args.f c.requires.0 in
     let f = c.args.f in omega (arith, c.put_ids-put.ensures.0, length_frame f, frame_most f (facts).high)
 

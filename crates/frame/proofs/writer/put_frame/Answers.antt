@@ -1,4 +1,4 @@
-use Rattle.std.proofs.Common.{ℕ, ◌+◌, length, ap, arith, rules}
+use Rattle.std.proofs.Common.{ℕ, ◌+◌, length, ap, arith}
 use Rattle.frame.specs.Frames.{frame_words}
 use Rattle.frame.proofs.Turns.{put_lent, lent_room}
 use Rattle.frame.proofs.writer.put_frame.Goals as goal

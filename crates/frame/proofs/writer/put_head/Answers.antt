@@ -1,4 +1,4 @@
-use Rattle.std.proofs.Common.{arith, length-set, rules}
+use Rattle.std.proofs.Common.{arith, length-set}
 use Rattle.frame.proofs.writer.put_head.Goals as goal
 
 pub bounds-out-1 : goal.bounds-out-1

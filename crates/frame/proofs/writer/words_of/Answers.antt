@@ -1,4 +1,4 @@
-use Rattle.std.proofs.Common.{arith, rules}
+use Rattle.std.proofs.Common.{arith}
 use Rattle.frame.proofs.Frames.{length_frame}
 use Rattle.frame.proofs.Words.{ids_size}
 use Rattle.causal.proofs.Sets.{size_le}

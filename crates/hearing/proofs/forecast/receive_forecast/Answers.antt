@@ -11,7 +11,6 @@ use Rattle.store.proofs.Rules.{laid}
 use Rattle.office.specs.Calls.{receive_code}
 use Rattle.hearing.proofs.Forecasts.{receive_number}
 use Rattle.hearing.proofs.Receives.{receive_unsound, ring, receive_format, read_accepted, read_frame_lem}
-use borrow.Author.Rules.{rules}
 use Rattle.hearing.proofs.forecast.receive_forecast.Goals as goal
 
 pub returns-then-not-is_sound : goal.returns-then-not-is_sound

@@ -11,7 +11,6 @@ use Rattle.frame.proofs.Back.{accepted_ok, accepted_written}
 use Rattle.frame.proofs.Sane.{frame_sane}
 use Rattle.store.proofs.Rules.{laid}
 use Rattle.hearing.proofs.Receives.{receive_unsound, ring, receive_format, read_accepted, read_frame_lem, receive_taken}
-use borrow.Author.Rules.{rules}
 use Rattle.hearing.proofs.receive.receive.Goals as goal
 
 pub returns-then-not-is_sound : goal.returns-then-not-is_sound

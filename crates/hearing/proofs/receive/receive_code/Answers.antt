@@ -14,7 +14,6 @@ use Rattle.store.proofs.Rules.{laid}
 use Rattle.office.specs.Calls.{onward, receive_code}
 use Rattle.hearing.proofs.Forwards.{length_onward}
 use Rattle.office.proofs.Slots.{slot_of}
-use borrow.Author.Rules.{rules}
 use Rattle.hearing.proofs.receive.receive_code.Goals as goal
 
 pub bounds-store-1 : goal.bounds-store-1

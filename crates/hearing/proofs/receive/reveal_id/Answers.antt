@@ -8,7 +8,6 @@ use Rattle.causal.specs.Sets.{subset_of}
 use Rattle.store.specs.Offices.{office_of, reveal}
 use Rattle.store.proofs.Rules.{laid}
 use Rattle.store.proofs.Changes.{revealed_visible}
-use borrow.Author.Rules.{rules}
 use Rattle.hearing.proofs.receive.reveal_id.Goals as goal
 
 pub revealed_by-shown-requires : goal.revealed_by-shown-requires

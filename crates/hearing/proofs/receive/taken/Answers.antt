@@ -12,7 +12,6 @@ use Rattle.store.proofs.Rules.{laid}
 use Rattle.office.specs.Calls.{onward}
 use Rattle.hearing.proofs.Forwards.{length_onward}
 use Rattle.hearing.proofs.Receives.{receive_le, slot, held_new, seed_ready, taken_refused, taken_last, on_room, taken_on}
-use borrow.Author.Rules.{rules}
 use Rattle.hearing.proofs.receive.taken.Goals as goal
 
 pub set_at-held-requires : goal.set_at-held-requires

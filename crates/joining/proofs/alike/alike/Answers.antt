@@ -5,7 +5,6 @@ use borrow.Author.Tests.{eq-eqb, ne_eqb}
 use Rattle.causal.proofs.Chain.{asked, unasked}
 use Rattle.frame.specs.Entries.{id_of, same_content}
 use Rattle.joining.specs.Joins.{alike}
-use borrow.Author.Rules.{rules}
 use Rattle.joining.proofs.alike.alike.Goals as goal
 
 pub returns-then-id_of : goal.returns-then-id_of

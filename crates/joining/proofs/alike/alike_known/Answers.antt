@@ -7,7 +7,6 @@ use Rattle.causal.specs.Sets.{is_in}
 use Rattle.frame.specs.Entries.{id_of}
 use Rattle.frame.proofs.OwnTurns.{owns_of}
 use Rattle.joining.proofs.Each.{alike_unknown}
-use borrow.Author.Rules.{rules}
 use Rattle.joining.proofs.alike.alike_known.Goals as goal
 
 pub returns-then-not-among : goal.returns-then-not-among

@@ -1,9 +1,6 @@
-use Prim.Native.Nat.{◌-◌, ◌≤◌}
-use mathlib.Core.Bool.{true}
-use mathlib.Core.Path.{◌∙◌, ◌≡◌, sym}
+use mathlib.Core.Path.{◌∙◌, sym}
 use native.Mathlib.Omega.{arith}
 use Rattle.causal.specs.Lists.{tab}
-use Rattle.causal.specs.Tests.{all_below}
 use Rattle.causal.proofs.Tests.{turn_done, turn_fails, turn_more}
 use Rattle.frame.proofs.OwnTurns.{owns_of}
 use Rattle.joining.specs.Joins.{alike, all_alike, each}

@@ -1,6 +1,5 @@
 use mathlib.Core.Path.{◌∙◌, ap}
 use Rattle.causal.specs.Sets.{is_in}
-use borrow.Author.Rules.{rules}
 use Rattle.joining.proofs.alike.among.Goals as goal
 
 pub returns : goal.returns

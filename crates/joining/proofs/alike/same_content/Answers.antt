@@ -1,7 +1,6 @@
 use native.Mathlib.Omega.{arith}
 use Rattle.causal.proofs.Chain.{chain}
 use Rattle.frame.specs.Entries.{same_content}
-use borrow.Author.Rules.{rules}
 use Rattle.joining.proofs.alike.same_content.Goals as goal
 
 pub returns-then-e-f : goal.returns-then-e-f

@@ -1,7 +1,6 @@
 use mathlib.Core.Path.{◌∙◌, sym}
 use Rattle.causal.proofs.Chain.{eq_fails, eq_passes}
 use Rattle.frame.specs.Entries.{id_of, same_content}
-use borrow.Author.Rules.{rules}
 use Rattle.joining.proofs.alike.same_entry.Goals as goal
 
 pub returns-then-id_of : goal.returns-then-id_of

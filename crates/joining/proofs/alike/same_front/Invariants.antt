@@ -1,14 +1,10 @@
-use Prim.Native.Nat.{ℕ, ◌-◌, ◌≤◌}
+use Prim.Native.Nat.{◌≤◌}
 use mathlib.Core.Bool.{true}
-use mathlib.Core.Logic.{⊎_elim}
-use mathlib.Core.Path.{◌∙◌, ◌≡◌, ap}
-use native.Mathlib.Omega.{arith}
+use mathlib.Core.Path.{◌≡◌}
 use lib.Dec.{eqb}
 use Rattle.causal.specs.Tests.{all_below, both}
-use Rattle.causal.proofs.Tests.{all_none, turn_more}
 use Rattle.frame.specs.Entries.{id_of, same_content}
 use Rattle.frame.proofs.OwnTurns.{owns_of}
-use borrow.Author.Rules.{rules}
 use Rattle.joining.proofs.alike.same_front.Given as goal
 
 abbrev pub invariant-loop-i : goal.invariant-loop-i

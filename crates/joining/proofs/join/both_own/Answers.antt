@@ -1,7 +1,6 @@
-use Prim.Native.Nat.{ℕ, ◌+◌, ◌-◌, ◌≤◌}
+use Prim.Native.Nat.{ℕ, ◌+◌}
 use mathlib.Core.Bool.{Bool}
 use mathlib.Core.List.{List, ◌++◌, append-nil}
-use mathlib.Core.Logic.{⊎_elim}
 use mathlib.Core.Path.{◌∙◌, ◌≡◌, ap, sym}
 use native.Mathlib.Omega.{arith}
 use lib.ListN.{length}
@@ -34,19 +33,19 @@ loop-i-preserved c = let z = c.args in
     let r = c.among.ensures in (
       search rules,
       elim c.if-not-among.branch [
-        then-not-among w ↦
-          w.count-is ∙ T.place_more t f l.i _ r es l.count l.own place l.invariant.2 w.if-not-among.true-raw
-              ∙ ap (λ (j : ℕ). j + length (T.Left t f (l.i + 1))) (tab_length z.n (owns_of row))
-      | else-not-among w ↦
-          w.count-is ∙ T.place_same t f l.i _ r es l.count l.own place l.invariant.2 w.if-not-among.false-raw
-              ∙ ap (λ (j : ℕ). j + length (T.Left t f (l.i + 1))) (tab_length z.n (owns_of row))
+        | then-not-among w ↦
+            w.count-is ∙ T.place_more t f l.i _ r es l.count l.own place l.invariant.2 w.if-not-among.true-raw
+            ∙ ap (λ (j : ℕ). j + length (T.Left t f (l.i + 1))) (tab_length z.n (owns_of row))
+        | else-not-among w ↦
+            w.count-is ∙ T.place_same t f l.i _ r es l.count l.own place l.invariant.2 w.if-not-among.false-raw
+            ∙ ap (λ (j : ℕ). j + length (T.Left t f (l.i + 1))) (tab_length z.n (owns_of row))
       ],
       λ few. elim c.if-not-among.branch [
-        then-not-among w ↦ elim w.if-count-lt16.branch [
-          then-count-lt16 v ↦ w.own-is ∙ v.own-is ∙ T.row_more t f l.i _ r es l.count l.own place l.invariant.2 w.if-not-among.true-raw v.if-count-lt16.true
-        | else-count-lt16 v ↦ absurd (omega (arith, w.count-is, v.if-count-lt16.false, few))
+        | then-not-among w ↦ elim w.if-count-lt16.branch [
+          | then-count-lt16 v ↦ w.own-is ∙ v.own-is ∙ T.row_more t f l.i _ r es l.count l.own place l.invariant.2 w.if-not-among.true-raw v.if-count-lt16.true
+          | else-count-lt16 v ↦ absurd (omega (arith, w.count-is, v.if-count-lt16.false, few))
         ]
-      | else-not-among w ↦ w.own-is ∙ T.row_same t f l.i _ r es l.count l.own place l.invariant.2 w.if-not-among.false-raw (omega (arith, w.count-is, few))
+        | else-not-among w ↦ w.own-is ∙ T.row_same t f l.i _ r es l.count l.own place l.invariant.2 w.if-not-among.false-raw (omega (arith, w.count-is, few))
       ],
     )
 

@@ -1,19 +1,13 @@
-use Prim.Native.Nat.{ℕ, ◌+◌, ◌-◌, ◌≤◌}
-use mathlib.Core.Bool.{Bool}
-use mathlib.Core.List.{List, ◌++◌, append-nil}
-use mathlib.Core.Logic.{⊎_elim}
-use mathlib.Core.Path.{◌∙◌, ◌≡◌, ap, sym}
-use native.Mathlib.Omega.{arith}
+use Prim.Native.Nat.{◌+◌, ◌≤◌}
+use mathlib.Core.List.{◌++◌}
+use mathlib.Core.Path.{◌≡◌}
 use lib.ListN.{length}
 use Rattle.causal.specs.Lists.{tab}
 use Rattle.causal.specs.Sets.{is_in}
-use Rattle.causal.proofs.Lists.{tab_length}
 use Rattle.frame.specs.Entries.{id_of}
 use Rattle.frame.specs.Sessions.{filled}
-use Rattle.frame.specs.declared.entry.Entry.{Entry}
 use Rattle.frame.proofs.OwnTurns.{owns_of}
 use Rattle.joining.proofs.Turns as T
-use borrow.Author.Rules.{rules}
 use Rattle.joining.proofs.join.both_own.Given as goal
 
 abbrev pub invariant-loop-i : goal.invariant-loop-i

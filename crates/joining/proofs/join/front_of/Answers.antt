@@ -1,6 +1,5 @@
 use native.Mathlib.Omega.{arith}
 use Rattle.causal.proofs.Tests.{all_none}
-use borrow.Author.Rules.{rules}
 use Rattle.joining.proofs.join.front_of.Goals as goal
 
 pub returns-then-n-eq0 : goal.returns-then-n-eq0

@@ -2,7 +2,6 @@ use mathlib.Core.Path.{◌∙◌, sym}
 use borrow.Author.Tests.{not-false, not-true}
 use Rattle.frame.specs.Refusals.{number_of}
 use Rattle.joining.proofs.Codes as C
-use borrow.Author.Rules.{rules}
 use Rattle.joining.proofs.join.join_sessions.Goals as goal
 
 pub returns-then-not-ring_ok : goal.returns-then-not-ring_ok

@@ -5,7 +5,6 @@ use Rattle.frame.specs.Refusals.{number_of}
 use Rattle.frame.specs.Sessions.{content_of}
 use Rattle.joining.proofs.Codes as C
 use Rattle.joining.proofs.Front as F
-use borrow.Author.Rules.{rules}
 use Rattle.joining.proofs.join.join_sound.Goals as goal
 
 pub front_of-front-requires : goal.front_of-front-requires

@@ -5,7 +5,6 @@ use Rattle.causal.specs.Lists.{tab}
 use Rattle.frame.specs.Sessions.{content_of, filled}
 use Rattle.frame.specs.declared.entry.Entry.{Entry}
 use Rattle.frame.proofs.OwnTurns.{owns_of}
-use borrow.Author.Rules.{rules}
 use Rattle.joining.proofs.join.own_row.Goals as goal
 
 pub returns-then-count-eq0 : goal.returns-then-count-eq0

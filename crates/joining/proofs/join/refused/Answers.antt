@@ -1,6 +1,5 @@
 use mathlib.Core.Path.{refl}
 use Rattle.frame.specs.Refusals.{code_of}
-use borrow.Author.Rules.{rules}
 use Rattle.joining.proofs.join.refused.Goals as goal
 
 pub returns : goal.returns

@@ -1,7 +1,6 @@
 use mathlib.Core.Path.{◌∙◌, sym}
 use borrow.Author.Tests.{not-false, not-true}
 use Rattle.frame.proofs.OwnTurns as T
-use borrow.Author.Rules.{rules}
 use Rattle.joining.proofs.join.sound.Goals as goal
 
 pub returns-then-not-head_ok : goal.returns-then-not-head_ok

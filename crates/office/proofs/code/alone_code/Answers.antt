@@ -7,7 +7,6 @@ use Rattle.causal.specs.Codes.{check}
 use Rattle.store.proofs.Rules.{laid}
 use Rattle.office.specs.Decide.{start_code}
 use Rattle.office.proofs.Alone.{bare_head}
-use borrow.Author.Rules.{rules}
 use Rattle.office.proofs.code.alone_code.Goals as goal
 
 pub returns-then-not-sound : goal.returns-then-not-sound

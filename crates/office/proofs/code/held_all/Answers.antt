@@ -2,7 +2,6 @@ use Rattle.causal.specs.Sets.{subset_of}
 use native.Mathlib.Omega.{arith}
 use mathlib.Core.Path.{ap, ◌∙◌}
 use Rattle.store.proofs.Rules.{laid}
-use borrow.Author.Rules.{rules}
 use Rattle.office.proofs.code.held_all.Goals as goal
 
 pub set_at-held-requires : goal.set_at-held-requires

@@ -1,6 +1,5 @@
 use mathlib.Core.Path.{sym}
 use Rattle.frame.specs.Refusals.{code_of}
-use borrow.Author.Rules.{rules}
 use Rattle.office.proofs.code.status_of.Goals as goal
 
 pub returns-then-code-eq0 : goal.returns-then-code-eq0

@@ -1,6 +1,5 @@
 use mathlib.Core.Path.{sym, ◌∙◌}
 use Rattle.office.proofs.OwnCodes.{code_same, code_other, code_unmade, code_new}
-use borrow.Author.Rules.{rules}
 use Rattle.office.proofs.entries.entry_code.Goals as goal
 
 pub returns-then-has_content : goal.returns-then-has_content

@@ -1,5 +1,4 @@
 use Rattle.office.proofs.Holds.{hold_yes, hold_no}
-use borrow.Author.Rules.{rules}
 use Rattle.office.proofs.entries.hold_new.Goals as goal
 
 pub returns-then-contains : goal.returns-then-contains

@@ -1,10 +1,7 @@
-use Prim.Native.Nat.{ℕ, ◌-◌, ◌≤◌}
-use mathlib.Core.Path.{◌≡◌, refl, ap, ◌∙◌}
-use native.Mathlib.Omega.{arith}
+use Prim.Native.Nat.{◌≤◌}
+use mathlib.Core.Path.{◌≡◌}
 use lib.ListN.{length}
 use Rattle.office.specs.Steps.{own_to, holds_in}
-use Rattle.office.proofs.Holds.{holds_start, holds_more}
-use borrow.Author.Rules.{rules}
 use Rattle.office.proofs.entries.hold_own.Given as goal
 
 abbrev pub invariant-loop-i : goal.invariant-loop-i

@@ -1,8 +1,6 @@
-use Prim.Native.Nat.{◌-◌, ◌≤◌}
-use mathlib.Core.Path.{◌≡◌, ◌∙◌}
+use mathlib.Core.Path.{◌∙◌}
 use native.Mathlib.Omega.{arith}
 use Rattle.office.specs.Steps.{own_at}
-use Rattle.causal.specs.Codes.{first_code}
 use Rattle.causal.proofs.Codes.{code_start, code_more, code_found, code_done}
 use Rattle.store.specs.Offices.{office_of}
 use Rattle.office.specs.Calls.{entry_code}

@@ -1,13 +1,9 @@
-use Prim.Native.Nat.{◌-◌, ◌≤◌}
-use mathlib.Core.Path.{◌≡◌, ◌∙◌}
-use native.Mathlib.Omega.{arith}
+use Prim.Native.Nat.{◌≤◌}
+use mathlib.Core.Path.{◌≡◌}
 use Rattle.office.specs.Steps.{own_at}
 use Rattle.causal.specs.Codes.{first_code}
-use Rattle.causal.proofs.Codes.{code_start, code_more, code_found, code_done}
 use Rattle.store.specs.Offices.{office_of}
 use Rattle.office.specs.Calls.{entry_code}
-use Rattle.office.proofs.OwnCodes.{own_first}
-use borrow.Author.Rules.{rules}
 use Rattle.office.proofs.entries.own_code.Given as goal
 
 abbrev pub invariant-loop-i : goal.invariant-loop-i

@@ -3,7 +3,6 @@ use mathlib.Core.Path.{refl, sym, ap, ◌∙◌}
 use borrow.Author.Tests.{not-true, not-false}
 use Rattle.frame.specs.Refusals.{reply_of, number_of}
 use Rattle.office.specs.Calls.{store_need}
-use borrow.Author.Rules.{rules}
 use Rattle.office.proofs.need.store_need.Goals as goal
 
 pub returns-then-not-settings_ok : goal.returns-then-not-settings_ok

@@ -1,5 +1,4 @@
 use Rattle.office.proofs.Numbers.{note_none, note_some}
-use borrow.Author.Rules.{rules}
 use Rattle.office.proofs.note.note.Goals as goal
 
 pub returns-then-k-ge256 : goal.returns-then-k-ge256

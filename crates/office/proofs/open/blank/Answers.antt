@@ -1,7 +1,6 @@
 use Rattle.frame.specs.Sessions.{session_of}
 use mathlib.Core.Path.{ap}
 use Rattle.frame.specs.declared.session.Session.{Session}
-use borrow.Author.Rules.{rules}
 use Rattle.office.proofs.open.blank.Goals as goal
 
 pub returns : goal.returns

@@ -6,7 +6,6 @@ use Rattle.causal.specs.Tests.{both}
 use Rattle.frame.specs.Refusals.{code_of, number_of}
 use Rattle.office.specs.Calls.{fresh_code}
 use Rattle.office.specs.Answers.{fresh_by}
-use borrow.Author.Rules.{rules}
 use Rattle.office.proofs.open.fresh_session.Goals as goal
 
 pub returns-then-offices-lt2 : goal.returns-then-offices-lt2

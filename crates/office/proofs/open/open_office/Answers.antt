@@ -7,7 +7,6 @@ use Rattle.frame.specs.Refusals.{code_of, number_of}
 use Rattle.store.specs.Offices.{need}
 use Rattle.store.proofs.Changes.{empty_words_lem}
 use Rattle.office.specs.Calls.{open_office}
-use borrow.Author.Rules.{rules}
 use Rattle.office.proofs.open.open_office.Goals as goal
 
 pub returns-then-not-settings_ok : goal.returns-then-not-settings_ok

@@ -7,7 +7,6 @@ use Rattle.frame.specs.Refusals.{code_of, number_of}
 use Rattle.store.specs.Offices.{office_of}
 use Rattle.store.proofs.Rules.{laid}
 use Rattle.office.specs.Calls.{store_settings}
-use borrow.Author.Rules.{rules}
 use Rattle.office.proofs.settings.store_settings.Goals as goal
 
 pub returns-then-not-is_sound : goal.returns-then-not-is_sound

@@ -1,11 +1,10 @@
 use native.Mathlib.Omega.{arith}
 use mathlib.Core.Path.{◌≡◌, refl, ap, ◌∙◌}
-use Prim.Native.Nat.{ℕ, ◌+◌, ◌-◌, ◌*◌, ◌≤◌}
+use Prim.Native.Nat.{ℕ, ◌+◌, ◌*◌, ◌≤◌}
 use lib.ListN.{length}
 use Rattle.reading.specs.Readings.{found_among, words_to}
 use Rattle.reading.proofs.JointReads.{words_more}
 use lib.Seq.{sets}
-use borrow.Author.Rules.{rules}
 use Rattle.reading.proofs.answer.put_alone.Goals as goal
 
 pub loop-i-init : goal.loop-i-init

@@ -1,11 +1,8 @@
-use native.Mathlib.Omega.{arith}
-use mathlib.Core.Path.{◌≡◌, refl, ap, ◌∙◌}
-use Prim.Native.Nat.{ℕ, ◌+◌, ◌-◌, ◌*◌, ◌≤◌}
+use mathlib.Core.Path.{◌≡◌}
+use Prim.Native.Nat.{◌≤◌}
 use lib.ListN.{length}
 use Rattle.reading.specs.Readings.{found_among, words_to}
-use Rattle.reading.proofs.JointReads.{words_more}
 use lib.Seq.{sets}
-use borrow.Author.Rules.{rules}
 use Rattle.reading.proofs.answer.put_alone.Given as goal
 
 abbrev pub invariant-loop-i : goal.invariant-loop-i

@@ -1,5 +1,4 @@
 use Rattle.reading.proofs.JointReads.{words_alone}
-use borrow.Author.Rules.{rules}
 use Rattle.reading.proofs.answer.put_answers.Goals as goal
 
 pub returns-then-s-eq0 : goal.returns-then-s-eq0

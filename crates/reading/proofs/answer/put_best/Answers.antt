@@ -1,6 +1,5 @@
 use borrow.Author.Tests.{not-true, not-false}
 use Rattle.reading.proofs.JointReads.{best_none, best_some}
-use borrow.Author.Rules.{rules}
 use Rattle.reading.proofs.answer.put_best.Goals as goal
 
 pub returns-then-not-best : goal.returns-then-not-best

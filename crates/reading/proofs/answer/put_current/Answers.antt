@@ -1,6 +1,5 @@
 use native.Mathlib.Omega.{arith}
 use Rattle.reading.proofs.JointReads.{three_none, three_some}
-use borrow.Author.Rules.{rules}
 use Rattle.reading.proofs.answer.put_current.Goals as goal
 
 pub returns-then-k-ge256 : goal.returns-then-k-ge256

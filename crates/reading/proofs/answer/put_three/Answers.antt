@@ -2,7 +2,6 @@ use Prim.Native.Nat.{◌+◌}
 use lib.ListN.{set, length-set}
 use native.Mathlib.Omega.{arith}
 use Rattle.reading.proofs.JointReads.{three_sets}
-use borrow.Author.Rules.{rules}
 use Rattle.reading.proofs.answer.put_three.Goals as goal
 
 pub bounds-answer-at-2 : goal.bounds-answer-at-2

@@ -1,5 +1,4 @@
 use Rattle.reading.proofs.Readings.{above_old, above_new, above_none}
-use borrow.Author.Rules.{rules}
 use Rattle.reading.proofs.best.best_above.Goals as goal
 
 pub returns-then-not-outranks : goal.returns-then-not-outranks

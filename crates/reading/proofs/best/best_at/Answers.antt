@@ -2,7 +2,6 @@ use Rattle.office.proofs.Numbers.{found_at_lem, found_none}
 use mathlib.Core.Path.{sym, ap, ◌∙◌}
 use mathlib.Core.Bool.{true, false}
 use Rattle.reading.specs.Readings.{best_from}
-use borrow.Author.Rules.{rules}
 use Rattle.reading.proofs.best.best_at.Goals as goal
 
 pub returns-then-k-ge256 : goal.returns-then-k-ge256

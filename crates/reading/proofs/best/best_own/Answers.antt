@@ -1,10 +1,7 @@
-use mathlib.Core.Logic.{⊎_elim}
 use Rattle.reading.proofs.Readings.{best_skip, best_more}
 use native.Mathlib.Omega.{arith}
 use mathlib.Core.Path.{◌≡◌, refl, ap, ◌∙◌}
-use Prim.Native.Nat.{◌-◌, ◌≤◌}
 use Rattle.reading.specs.Readings.{best_to}
-use borrow.Author.Rules.{rules}
 use Rattle.reading.proofs.best.best_own.Goals as goal
 use Rattle.reading.proofs.best.best_own.Goals.{then-own-i, else-own-i}
 
@@ -13,10 +10,13 @@ unfolding best_to
 loop-i-init c = (omega arith, refl)
 
 pub loop-i-preserved : goal.loop-i-preserved
-loop-i-preserved c = (omega arith, elim c.if-own-i.branch [
-      then-own-i w ↦ w.best-is ∙ best_more c.args.own c.args.plot c.args.first c.loop-i.i _ _ c.loop-i.invariant.1 w.if-own-i.true w.best_above-next.ensures
+loop-i-preserved c = (
+  omega arith,
+  elim c.if-own-i.branch [
+    | then-own-i w ↦ w.best-is ∙ best_more c.args.own c.args.plot c.args.first c.loop-i.i _ _ c.loop-i.invariant.1 w.if-own-i.true w.best_above-next.ensures
     | else-own-i w ↦ w.best-is ∙ best_skip c.args.own c.args.plot c.args.first c.loop-i.i _ c.loop-i.invariant.1 w.if-own-i.false
-    ])
+  ],
+)
 
 pub returns : goal.returns
 returns c = let q : c.loop-i.i ≡ c.args.count = omega arith in

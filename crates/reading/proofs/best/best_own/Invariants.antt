@@ -1,10 +1,6 @@
-use mathlib.Core.Logic.{⊎_elim}
-use Rattle.reading.proofs.Readings.{best_skip, best_more}
-use native.Mathlib.Omega.{arith}
-use mathlib.Core.Path.{◌≡◌, refl, ap, ◌∙◌}
-use Prim.Native.Nat.{◌-◌, ◌≤◌}
+use mathlib.Core.Path.{◌≡◌}
+use Prim.Native.Nat.{◌≤◌}
 use Rattle.reading.specs.Readings.{best_to}
-use borrow.Author.Rules.{rules}
 use Rattle.reading.proofs.best.best_own.Given as goal
 
 abbrev pub invariant-loop-i : goal.invariant-loop-i

@@ -1,5 +1,4 @@
 use Rattle.reading.proofs.Readings.{with_none, with_own_writes}
-use borrow.Author.Rules.{rules}
 use Rattle.reading.proofs.best.best_with.Goals as goal
 
 pub returns-then-count-eq0 : goal.returns-then-count-eq0

@@ -4,7 +4,6 @@ use Rattle.causal.proofs.Codes.{codes}
 use Rattle.reading.specs.Readings.{joint_refusal}
 use Rattle.office.proofs.Numbers.{start_facts}
 use Rattle.store.proofs.Rules.{laid}
-use borrow.Author.Rules.{rules}
 use Rattle.reading.proofs.joint.alone_code.Goals as goal
 
 pub alone_code-start-requires : goal.alone_code-start-requires

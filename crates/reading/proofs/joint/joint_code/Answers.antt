@@ -5,7 +5,6 @@ use Rattle.reading.specs.Readings.{joint_refusal}
 use Rattle.office.proofs.Numbers.{start_facts}
 use Rattle.store.proofs.Rules.{laid}
 use Rattle.frame.specs.Sessions.{content_of}
-use borrow.Author.Rules.{rules}
 use Rattle.reading.proofs.joint.joint_code.Goals as goal
 
 pub alone_code-head-requires : goal.alone_code-head-requires

@@ -1,9 +1,8 @@
 use native.Mathlib.Omega.{arith}
 use mathlib.Core.Path.{◌≡◌, refl, ap, ◌∙◌}
-use Prim.Native.Nat.{ℕ, ◌-◌, ◌≤◌}
+use Prim.Native.Nat.{ℕ}
 use Rattle.reading.specs.Readings.{found_among, seen_to}
 use Rattle.reading.proofs.JointReads.{seen_more}
-use borrow.Author.Rules.{rules}
 use Rattle.reading.proofs.joint.note_all.Goals as goal
 
 pub loop-i-init : goal.loop-i-init

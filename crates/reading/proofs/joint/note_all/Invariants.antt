@@ -1,9 +1,6 @@
-use native.Mathlib.Omega.{arith}
-use mathlib.Core.Path.{◌≡◌, refl, ap, ◌∙◌}
-use Prim.Native.Nat.{ℕ, ◌-◌, ◌≤◌}
+use mathlib.Core.Path.{◌≡◌}
+use Prim.Native.Nat.{◌≤◌}
 use Rattle.reading.specs.Readings.{found_among, seen_to}
-use Rattle.reading.proofs.JointReads.{seen_more}
-use borrow.Author.Rules.{rules}
 use Rattle.reading.proofs.joint.note_all.Given as goal
 
 abbrev pub invariant-loop-i : goal.invariant-loop-i

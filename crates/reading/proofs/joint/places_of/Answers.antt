@@ -1,11 +1,8 @@
 use native.Mathlib.Omega.{arith}
-use mathlib.Core.Path.{◌≡◌, refl, ap, ◌∙◌}
-use Prim.Native.Nat.{◌-◌, ◌≤◌}
-use lib.ListN.{length, length-set}
+use mathlib.Core.Path.{refl, ap, ◌∙◌}
+use lib.ListN.{length-set}
 use Rattle.office.specs.Decide.{place_number}
-use Rattle.reading.specs.Readings.{PlacesTo}
 use Rattle.reading.proofs.JointReads.{places_more}
-use borrow.Author.Rules.{rules}
 use Rattle.reading.proofs.joint.places_of.Goals as goal
 
 pub loop-i-init : goal.loop-i-init

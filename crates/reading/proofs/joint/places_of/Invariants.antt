@@ -1,11 +1,7 @@
-use native.Mathlib.Omega.{arith}
-use mathlib.Core.Path.{◌≡◌, refl, ap, ◌∙◌}
-use Prim.Native.Nat.{◌-◌, ◌≤◌}
-use lib.ListN.{length, length-set}
-use Rattle.office.specs.Decide.{place_number}
+use mathlib.Core.Path.{◌≡◌}
+use Prim.Native.Nat.{◌≤◌}
+use lib.ListN.{length}
 use Rattle.reading.specs.Readings.{PlacesTo}
-use Rattle.reading.proofs.JointReads.{places_more}
-use borrow.Author.Rules.{rules}
 use Rattle.reading.proofs.joint.places_of.Given as goal
 
 abbrev pub invariant-loop-i : goal.invariant-loop-i

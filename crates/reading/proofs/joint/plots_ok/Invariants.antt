@@ -1,14 +1,9 @@
-use native.Mathlib.Omega.{arith}
 use mathlib.Core.Path.{◌≡◌}
-use Prim.Native.Nat.{◌-◌, ◌≤◌}
+use Prim.Native.Nat.{◌≤◌}
 use mathlib.Core.Bool.{true}
 use lib.ListN.{length, get_or}
-use Rattle.reading.proofs.JointReads.{plots_more, plots_fail, plots_done}
-use Rattle.causal.proofs.Tests.{all_none}
-use Rattle.causal.proofs.Chain.{le_fails}
 use Rattle.causal.specs.Tests.{all_below}
 use lib.Dec.{ltb}
-use borrow.Author.Rules.{rules}
 use Rattle.reading.proofs.joint.plots_ok.Given as goal
 
 abbrev pub invariant-loop-i : goal.invariant-loop-i

@@ -8,7 +8,6 @@ use Rattle.store.proofs.Rules.{laid}
 use Rattle.store.proofs.SoundChanges.{reveal_held}
 use Rattle.office.proofs.Shape.{read_ids}
 use Rattle.reading.proofs.JointReads.{joint_accepted, joint_refused, joint_small, show_sighted, sighted, stands_own, starts}
-use borrow.Author.Rules.{rules}
 use Rattle.reading.proofs.joint.see_joint.Goals as goal
 
 -- z: at the start; k: the refusal is known; t: there is none; r: what becomes visible is known; p: what is current is known; a: the answers

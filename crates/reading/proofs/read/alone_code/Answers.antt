@@ -4,7 +4,6 @@ use mathlib.Core.Path.{sym, ◌∙◌}
 use Rattle.causal.proofs.Codes.{codes}
 use Rattle.reading.specs.Readings.{read_refusal}
 use Rattle.store.proofs.Rules.{laid}
-use borrow.Author.Rules.{rules}
 use Rattle.reading.proofs.read.alone_code.Goals as goal
 
 pub alone_code-start-requires : goal.alone_code-start-requires

@@ -1,5 +1,4 @@
 use Rattle.reading.proofs.Readings.{answer_is}
-use borrow.Author.Rules.{rules}
 use Rattle.reading.proofs.read.answer_at.Goals as goal
 
 pub returns : goal.returns

@@ -5,7 +5,6 @@ use Rattle.causal.proofs.Codes.{codes}
 use Rattle.reading.specs.Readings.{read_refusal}
 use Rattle.store.proofs.Rules.{laid}
 use Rattle.frame.specs.Sessions.{content_of}
-use borrow.Author.Rules.{rules}
 use Rattle.reading.proofs.read.read_code.Goals as goal
 
 pub alone_code-head-requires : goal.alone_code-head-requires

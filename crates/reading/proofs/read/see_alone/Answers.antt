@@ -10,7 +10,6 @@ use Rattle.store.proofs.Rules.{laid}
 use Rattle.office.specs.Decide.{alone, found_in, place_number}
 use Rattle.reading.specs.Readings.{best_from}
 use Rattle.reading.proofs.Readings.{answer_is, read_accepted, read_refused, read_small, reads, sees_held, sees_number, sees_store, with_none}
-use borrow.Author.Rules.{rules}
 use Rattle.reading.proofs.read.see_alone.Goals as goal
 
 -- z: at the start; k: the refusal number is known; t: it is 0; r: what becomes visible is known; p: the number of what is current is known

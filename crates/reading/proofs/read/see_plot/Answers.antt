@@ -6,7 +6,6 @@ use mathlib.Core.Path.{sym, ap, ◌∙◌}
 use lib.ListN.{get_or}
 use Rattle.office.specs.Decide.{place_number, found_in}
 use Rattle.store.proofs.Rules.{laid}
-use borrow.Author.Rules.{rules}
 use Rattle.reading.proofs.read.see_plot.Goals as goal
 
 -- z: at the start; k: the refusal number is known; t: it is 0; r: what becomes visible is known; p: the number of what is current is known

@@ -1,4 +1,4 @@
-use Rattle.std.proofs.Common.{arith, rules}
+use Rattle.std.proofs.Common.{arith}
 use Rattle.store.proofs.Joins.{made_is}
 use Rattle.store.proofs.clock.made.Goals as goal
 

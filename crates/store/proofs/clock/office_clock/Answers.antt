@@ -1,4 +1,4 @@
-use Rattle.std.proofs.Common.{◌≡◌, ℕ, ◌-◌, ◌*◌, ◌≤◌, List, get_or, ap, ◌∙◌, arith, rules}
+use Rattle.std.proofs.Common.{◌≡◌, ℕ, ◌*◌, List, get_or, ap, ◌∙◌, arith}
 use Rattle.store.proofs.Rules.{rules_of, reach_word}
 use Rattle.causal.specs.Lists.{part}
 use Rattle.causal.specs.Sets.{subset_of}

@@ -1,6 +1,6 @@
-use Rattle.std.proofs.Common.{◌≡◌, ℕ, ◌+◌, refl, arith, rules}
+use Rattle.std.proofs.Common.{◌+◌, refl, arith}
 use lib.Count.{count_trailing_zeros, trailing_le}
-use Rattle.causal.proofs.Walk.{Passed, passed_none, next}
+use Rattle.causal.proofs.Walk.{passed_none, next}
 use Rattle.store.specs.Tops.{tops_in}
 use Rattle.store.proofs.Joins.{tops_more, tops_done}
 use Rattle.store.proofs.clock.tops_in.Goals as goal

@@ -1,8 +1,6 @@
-use Rattle.std.proofs.Common.{◌≡◌, ℕ, ◌+◌, refl, arith, rules}
-use lib.Count.{count_trailing_zeros, trailing_le}
-use Rattle.causal.proofs.Walk.{Passed, passed_none, next}
+use Rattle.std.proofs.Common.{◌≡◌, ℕ}
+use Rattle.causal.proofs.Walk.{Passed}
 use Rattle.store.specs.Tops.{tops_in}
-use Rattle.store.proofs.Joins.{tops_more, tops_done}
 use Rattle.store.proofs.clock.tops_in.Given as goal
 
 abbrev pub invariant-loop-rest : goal.invariant-loop-rest

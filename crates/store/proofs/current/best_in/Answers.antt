@@ -1,7 +1,7 @@
-use Rattle.std.proofs.Common.{◌≡◌, ℕ, ◌+◌, ◌*◌, length, refl, arith, rules}
+use Rattle.std.proofs.Common.{◌+◌, ◌*◌, refl, arith}
 use lib.Count.{count_trailing_zeros, trailing_le}
-use Rattle.causal.proofs.Walk.{Passed, passed_none, next}
-use Rattle.store.specs.Current.{InSlots, place_in}
+use Rattle.causal.proofs.Walk.{passed_none, next}
+use Rattle.store.specs.Current.{place_in}
 use Rattle.store.proofs.Places.{in_slots, place_more, place_done}
 use Rattle.store.proofs.current.best_in.Goals as goal
 

@@ -1,8 +1,6 @@
-use Rattle.std.proofs.Common.{◌≡◌, ℕ, ◌+◌, ◌*◌, length, refl, arith, rules}
-use lib.Count.{count_trailing_zeros, trailing_le}
-use Rattle.causal.proofs.Walk.{Passed, passed_none, next}
+use Rattle.std.proofs.Common.{◌≡◌, ℕ, length}
+use Rattle.causal.proofs.Walk.{Passed}
 use Rattle.store.specs.Current.{InSlots, place_in}
-use Rattle.store.proofs.Places.{in_slots, place_more, place_done}
 use Rattle.store.proofs.current.best_in.Given as goal
 
 abbrev pub invariant-loop-rest : goal.invariant-loop-rest

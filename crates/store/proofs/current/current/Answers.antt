@@ -1,6 +1,6 @@
 use Rattle.store.proofs.Rules.{rules_of, reaches, reach_word}
 use Rattle.store.specs.Current.{place_to, current_at}
-use Rattle.std.proofs.Common.{◌≡◌, ℕ, ◌-◌, ◌*◌, ◌≤◌, length, get_or, ap, ◌∙◌, arith, rules}
+use Rattle.std.proofs.Common.{◌≡◌, ℕ, ◌*◌, length, get_or, ap, ◌∙◌, arith}
 use Rattle.causal.proofs.Array.{id_set}
 use Rattle.store.proofs.Places.{place_next, place_none, place_in_slots}
 use Rattle.store.proofs.current.current.Goals as goal

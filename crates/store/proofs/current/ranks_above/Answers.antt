@@ -1,4 +1,4 @@
-use Rattle.std.proofs.Common.{◌∙◌, rules}
+use Rattle.std.proofs.Common.{◌∙◌}
 use Rattle.store.specs.Offices.{entry_at}
 use Rattle.frame.specs.Entries.{outranks}
 use Rattle.store.proofs.current.ranks_above.Goals as goal

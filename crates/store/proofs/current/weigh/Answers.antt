@@ -1,4 +1,3 @@
-use Rattle.std.proofs.Common.{sym}
 use Rattle.store.proofs.Places.{weigh_skip, weigh_first, weigh_new, weigh_old, in_slots_at}
 use Rattle.store.proofs.current.weigh.Goals as goal
 

@@ -1,5 +1,4 @@
 use Rattle.store.proofs.Alike.{hold_is}
-use Rattle.std.proofs.Common.{rules}
 use Rattle.store.proofs.hold.hold.Goals as goal
 
 pub returns : goal.returns

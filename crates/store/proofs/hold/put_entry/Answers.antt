@@ -1,4 +1,4 @@
-use Rattle.std.proofs.Common.{◌≡◌, ℕ, ◌+◌, List, length, ap, ◌∙◌, arith, length-set, rules}
+use Rattle.std.proofs.Common.{◌≡◌, ℕ, ◌+◌, List, length, ap, ◌∙◌, arith, length-set}
 use lib.Seq.{sets}
 use Rattle.store.proofs.Eights.{entry_run, entry_eighteen}
 use Rattle.store.proofs.hold.put_entry.Goals as goal
@@ -10,12 +10,12 @@ pub put-requires : goal.put-requires
 put-requires c = simp length-set (omega arith)
 
 pub put-requires-2 : goal.put-requires-2
-put-requires-2 c = 
+put-requires-2 c =
     let len1 : length c.put.new.store ≡ length c.args.store.now = c.put.auto.store ∙ simp length-set in
     omega (arith, len1)
 
 pub shape_of-store : goal.shape_of-store
-shape_of-store c = 
+shape_of-store c =
     let len1 : length c.put.new.store ≡ length c.args.store.now = c.put.auto.store ∙ simp length-set in
     let len2 : length c.put-2.new.store ≡ length c.args.store.now = c.put-2.auto.store ∙ len1 in
     len2

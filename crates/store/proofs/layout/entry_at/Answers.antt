@@ -1,5 +1,4 @@
 use Rattle.store.specs.Offices.{entry_at}
-use Rattle.std.proofs.Common.{rules}
 use Rattle.store.proofs.layout.entry_at.Goals as goal
 
 pub returns : goal.returns

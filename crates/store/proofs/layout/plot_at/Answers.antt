@@ -1,4 +1,4 @@
-use Rattle.std.proofs.Common.{refl, rules}
+use Rattle.std.proofs.Common.{refl}
 use Rattle.store.specs.Offices.{entry_at}
 use Rattle.store.proofs.layout.plot_at.Goals as goal
 

@@ -1,4 +1,4 @@
-use Rattle.std.proofs.Common.{◌≡◌, ℕ, ◌-◌, ◌<◌, ◌≤◌, List, length, take, refl, ap, ◌∙◌, arith, take_all, rules}
+use Rattle.std.proofs.Common.{ℕ, ◌<◌, List, length, refl, ap, ◌∙◌, arith, take_all, rules}
 use lib.Seq.{sets}
 use Rattle.causal.proofs.Lists.{sets_more}
 use Rattle.store.proofs.layout.put.Goals as goal

@@ -1,6 +1,5 @@
-use Rattle.std.proofs.Common.{◌≡◌, ℕ, ◌-◌, ◌<◌, ◌≤◌, List, length, take, refl, ap, ◌∙◌, arith, take_all, rules}
+use Rattle.std.proofs.Common.{◌≡◌, ◌≤◌, length, take}
 use lib.Seq.{sets}
-use Rattle.causal.proofs.Lists.{sets_more}
 use Rattle.store.proofs.layout.put.Given as goal
 
 abbrev pub invariant-loop-j : goal.invariant-loop-j

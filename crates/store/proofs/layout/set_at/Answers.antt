@@ -1,5 +1,4 @@
 use Rattle.store.proofs.Eights.{part_eight}
-use Rattle.std.proofs.Common.{rules}
 use Rattle.store.proofs.layout.set_at.Goals as goal
 
 pub returns : goal.returns

@@ -1,4 +1,4 @@
-use Rattle.std.proofs.Common.{arith, rules}
+use Rattle.std.proofs.Common.{arith}
 use Rattle.causal.proofs.Chain.{chain}
 use Rattle.store.specs.Offices.{settings_ok}
 use Rattle.store.proofs.layout.settings_ok.Goals as goal

@@ -1,4 +1,4 @@
-use Rattle.std.proofs.Common.{◌≡◌, ℕ, suc, ◌+◌, ◌-◌, ◌*◌, get_or, sym, refl, ap, ◌∙◌, arith, rules}
+use Rattle.std.proofs.Common.{◌≡◌, ℕ, suc, ◌+◌, ◌-◌, ◌*◌, get_or, sym, refl, ap, ◌∙◌, arith}
 use native.Mathlib.Nat.{sub-zero}
 use Rattle.causal.specs.Lists.{part}
 use Rattle.causal.specs.Sets.{lowest_of, minus, unite, inserted}
@@ -7,7 +7,7 @@ use Rattle.frame.specs.declared.entry.Entry.{Entry}
 use Rattle.store.specs.Offices.{entry_at}
 use Rattle.store.specs.Reveal.{revealed, steps as stepsFrom}
 use Rattle.store.proofs.Rules.{rules_of}
-use Rattle.store.proofs.Reached.{Ready, State, Step, start, step, step_at, step_end, picked}
+use Rattle.store.proofs.Reached.{Ready, Step, start, step, step_at, step_end, picked}
 use Rattle.store.proofs.Ready.{deps_in, ready, entry_held}
 use Rattle.store.proofs.reveal.reveal_on.Goals as goal
 
@@ -17,17 +17,17 @@ set_at-visible-requires c = let r = rules_of c.args.store.now c.requires.0 in
 
 pub loop-k-init : goal.loop-k-init
 unfolding revealed
-loop-k-init c = 
+loop-k-init c =
     let start_ready : Ready (deps_in c.args.store.now) (part c.args.store.now 3 8) (part c.args.store.now 11 8) (get_or c.args.store.now 0 0) c.args.seeds = ready c.args.store.now (λ i. (c.shared_slice_known-1.given i).fits) c.requires.0 c.args.seeds (id_set c.args.seeds c.well_formed.1.0) c.requires.1 in
     rw (c.set_at-visible.ensures, sub-zero) (start (deps_in c.args.store.now) (part c.args.store.now 3 8) (part c.args.store.now 11 8) (get_or c.args.store.now 0 0) c.args.seeds (start_ready) (id_set c.args.seeds c.well_formed.1.0), refl)
 
 pub returns-in_default : goal.returns-in_default
-returns-in_default c = 
+returns-in_default c =
     let asked : c.lowest_of-next.result ≡ lowest_of (minus c.loop-k.pending c.loop-k.visible) = c.lowest_of-next.ensures ∙ ap lowest_of c.without-left.ensures in
     sym (c.loop-k.invariant.1 ∙ step_end _ _ _ _ _ (sym (asked) ∙ c.in_default.is))
 
 pub deps_at-deps-requires : goal.deps_at-deps-requires
-deps_at-deps-requires c = 
+deps_at-deps-requires c =
     let start_ready : Ready (deps_in c.args.store.now) (part c.args.store.now 3 8) (part c.args.store.now 11 8) (get_or c.args.store.now 0 0) c.args.seeds = ready c.args.store.now (λ i. (c.shared_slice_known-1.given i).fits) c.requires.0 c.args.seeds (id_set c.args.seeds c.well_formed.1.0) c.requires.1 in
     let asked : c.lowest_of-next.result ≡ lowest_of (minus c.loop-k.pending c.loop-k.visible) = c.lowest_of-next.ensures ∙ ap lowest_of c.without-left.ensures in
     let found : Step (deps_in c.args.store.now) (part c.args.store.now 3 8) (part c.args.store.now 11 8) (get_or c.args.store.now 0 0) c.args.seeds c.loop-k.pending c.loop-k.visible c.loop-k.steps c.in-At.k = step (deps_in c.args.store.now) (part c.args.store.now 3 8) (part c.args.store.now 11 8) (get_or c.args.store.now 0 0) c.args.seeds (start_ready) c.loop-k.pending c.loop-k.visible c.loop-k.steps c.in-At.k c.loop-k.invariant.0
@@ -36,7 +36,7 @@ deps_at-deps-requires c =
     omega (arith, (found).id, r.laid.long)
 
 pub overflow_add-steps : goal.overflow_add-steps
-overflow_add-steps c = 
+overflow_add-steps c =
     let start_ready : Ready (deps_in c.args.store.now) (part c.args.store.now 3 8) (part c.args.store.now 11 8) (get_or c.args.store.now 0 0) c.args.seeds = ready c.args.store.now (λ i. (c.shared_slice_known-1.given i).fits) c.requires.0 c.args.seeds (id_set c.args.seeds c.well_formed.1.0) c.requires.1 in
     let asked : c.lowest_of-next.result ≡ lowest_of (minus c.loop-k.pending c.loop-k.visible) = c.lowest_of-next.ensures ∙ ap lowest_of c.without-left.ensures in
     let found : Step (deps_in c.args.store.now) (part c.args.store.now 3 8) (part c.args.store.now 11 8) (get_or c.args.store.now 0 0) c.args.seeds c.loop-k.pending c.loop-k.visible c.loop-k.steps c.in-At.k = step (deps_in c.args.store.now) (part c.args.store.now 3 8) (part c.args.store.now 11 8) (get_or c.args.store.now 0 0) c.args.seeds (start_ready) c.loop-k.pending c.loop-k.visible c.loop-k.steps c.in-At.k c.loop-k.invariant.0
@@ -45,7 +45,7 @@ overflow_add-steps c =
     omega (arith, (found).fresh, r.laid.few)
 
 pub loop-k-smaller : goal.loop-k-smaller
-loop-k-smaller c = 
+loop-k-smaller c =
     let start_ready : Ready (deps_in c.args.store.now) (part c.args.store.now 3 8) (part c.args.store.now 11 8) (get_or c.args.store.now 0 0) c.args.seeds = ready c.args.store.now (λ i. (c.shared_slice_known-1.given i).fits) c.requires.0 c.args.seeds (id_set c.args.seeds c.well_formed.1.0) c.requires.1 in
     let asked : c.lowest_of-next.result ≡ lowest_of (minus c.loop-k.pending c.loop-k.visible) = c.lowest_of-next.ensures ∙ ap lowest_of c.without-left.ensures in
     let found : Step (deps_in c.args.store.now) (part c.args.store.now 3 8) (part c.args.store.now 11 8) (get_or c.args.store.now 0 0) c.args.seeds c.loop-k.pending c.loop-k.visible c.loop-k.steps c.in-At.k = step (deps_in c.args.store.now) (part c.args.store.now 3 8) (part c.args.store.now 11 8) (get_or c.args.store.now 0 0) c.args.seeds (start_ready) c.loop-k.pending c.loop-k.visible c.loop-k.steps c.in-At.k c.loop-k.invariant.0
@@ -53,7 +53,7 @@ loop-k-smaller c =
     omega (arith, (found).fresh)
 
 pub loop-k-preserved : goal.loop-k-preserved
-loop-k-preserved c = 
+loop-k-preserved c =
     let asked : c.lowest_of-next.result ≡ lowest_of (minus c.loop-k.pending c.loop-k.visible) = c.lowest_of-next.ensures ∙ ap lowest_of c.without-left.ensures in
     let of_slot : deps_in c.args.store.now c.in-At.k ≡ (entry_at c.args.store.now c.in-At.k).deps = let i = c.loop-k.invariant.0 in
     let q = picked c.loop-k.pending c.loop-k.visible c.in-At.k i.wp i.wv (sym (asked) ∙ c.in-At.is) in

@@ -1,14 +1,8 @@
-use Rattle.std.proofs.Common.{◌≡◌, ℕ, suc, ◌+◌, ◌-◌, ◌*◌, get_or, sym, refl, ap, ◌∙◌, arith, rules}
-use native.Mathlib.Nat.{sub-zero}
+use Rattle.std.proofs.Common.{◌≡◌, ◌-◌, ◌*◌, get_or}
 use Rattle.causal.specs.Lists.{part}
-use Rattle.causal.specs.Sets.{lowest_of, minus, unite, inserted}
-use Rattle.causal.proofs.Array.{id_set}
-use Rattle.frame.specs.declared.entry.Entry.{Entry}
-use Rattle.store.specs.Offices.{entry_at}
 use Rattle.store.specs.Reveal.{revealed, steps as stepsFrom}
-use Rattle.store.proofs.Rules.{rules_of}
-use Rattle.store.proofs.Reached.{Ready, State, Step, start, step, step_at, step_end, picked}
-use Rattle.store.proofs.Ready.{deps_in, ready, entry_held}
+use Rattle.store.proofs.Reached.{State}
+use Rattle.store.proofs.Ready.{deps_in}
 use Rattle.store.proofs.reveal.reveal_on.Given as goal
 
 abbrev pub invariant-loop-k : goal.invariant-loop-k

@@ -1,4 +1,4 @@
-use Rattle.std.proofs.Common.{◌≡◌, ℕ, ◌*◌, true, List, get_or, sym, ap, ◌∙◌, arith, rules}
+use Rattle.std.proofs.Common.{◌≡◌, ℕ, ◌*◌, true, List, get_or, sym, ap, ◌∙◌, arith}
 use Rattle.causal.specs.Lists.{part}
 use Rattle.causal.specs.Sets.{subset_of}
 use Rattle.causal.proofs.Array.{id_set}

@@ -1,4 +1,4 @@
-use Rattle.std.proofs.Common.{arith, rules}
+use Rattle.std.proofs.Common.{arith}
 use Rattle.causal.proofs.Chain.{chain}
 use Rattle.store.proofs.Alike.{content_of}
 use Rattle.store.proofs.same.has_content.Goals as goal

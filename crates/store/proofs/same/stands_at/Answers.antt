@@ -1,4 +1,4 @@
-use Rattle.std.proofs.Common.{◌≡◌, ℕ, ◌+◌, ◌-◌, ◌≤◌, true, eqb, get_or, sym, ap, ◌∙◌, arith, rules, eq-eqb, ne_eqb}
+use Rattle.std.proofs.Common.{◌≡◌, ℕ, ◌+◌, eqb, get_or, sym, ap, ◌∙◌, arith, rules, eq-eqb, ne_eqb}
 use Rattle.causal.proofs.Tests.{all_none, all_more, all_fails}
 use Rattle.causal.proofs.Array.{id_set}
 use Rattle.causal.specs.Tests.{all_below}

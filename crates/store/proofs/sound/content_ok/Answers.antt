@@ -1,4 +1,4 @@
-use Rattle.std.proofs.Common.{sym, ◌∙◌, arith, rules}
+use Rattle.std.proofs.Common.{sym, ◌∙◌, arith}
 use borrow.Author.Tests.{not-false}
 use Rattle.causal.proofs.Chain.{chain}
 use Rattle.store.proofs.Rules.{content_is, empty_content}

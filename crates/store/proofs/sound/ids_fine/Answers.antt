@@ -1,5 +1,4 @@
 use Rattle.store.proofs.Deps.{not_lone, not_clocks, deps_asked}
-use Rattle.std.proofs.Common.{rules}
 use Rattle.store.proofs.sound.ids_fine.Goals as goal
 
 pub returns-then-not-looked : goal.returns-then-not-looked

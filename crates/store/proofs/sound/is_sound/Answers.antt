@@ -1,4 +1,4 @@
-use Rattle.std.proofs.Common.{◌<◌, ◌≤◌, length, get_or, sym, ◌∙◌, arith, rules}
+use Rattle.std.proofs.Common.{◌<◌, ◌≤◌, length, get_or, sym, ◌∙◌, arith}
 use Rattle.causal.proofs.Chain.{chain}
 use borrow.Author.Tests.{not-false}
 use Rattle.store.specs.Offices.{need, sound_store}

@@ -1,8 +1,8 @@
-use Rattle.std.proofs.Common.{ℕ, ◌+◌, arith, rules}
+use Rattle.std.proofs.Common.{◌+◌, arith}
 use lib.Count.{count_trailing_zeros, trailing_le}
 use Rattle.frame.specs.Entries.{under_ok}
-use Rattle.causal.proofs.Walk.{Passed, passed_none, next}
-use Rattle.store.proofs.Deps.{Below, look_none, look_more, look_fails, look_done}
+use Rattle.causal.proofs.Walk.{passed_none, next}
+use Rattle.store.proofs.Deps.{look_none, look_more, look_fails, look_done}
 use Rattle.store.proofs.sound.look.Goals as goal
 
 pub loop-rest-init : goal.loop-rest-init
@@ -36,12 +36,12 @@ loop-rest-smaller c = let x = next c.args.w c.loop-rest.invariant.0 c.loop-rest.
 
 pub loop-rest-preserved : goal.loop-rest-preserved
 loop-rest-preserved c = let x = next c.args.w c.loop-rest.invariant.0 c.loop-rest.rest c.loop-rest.invariant.1 c.loop-rest-test.true in (
-      count_trailing_zeros 32 c.loop-rest.rest + 1,
-      x.then,
-      look_more c.args.store.now (under_ok c.args.most) c.args.p c.args.i c.args.w _ _ c.loop-rest.invariant.0 c.loop-rest.rest _ _ _ x c.loop-rest.invariant.2 _ c.slot_ok.ensures c.if-not-slot_ok.false-raw
-          _ _ _ c.clock_at.ensures c.overs-over.ensures c.union-worse.ensures
-          _ _ c.deps_at.ensures c.union-more.ensures,
-    )
+  count_trailing_zeros 32 c.loop-rest.rest + 1,
+  x.then,
+  look_more c.args.store.now (under_ok c.args.most) c.args.p c.args.i c.args.w _ _ c.loop-rest.invariant.0 c.loop-rest.rest _ _ _ x c.loop-rest.invariant.2 _ c.slot_ok.ensures c.if-not-slot_ok.false-raw
+      _ _ _ c.clock_at.ensures c.overs-over.ensures c.union-worse.ensures
+      _ _ c.deps_at.ensures c.union-more.ensures,
+)
 
 pub returns : goal.returns
 returns c = look_done c.args.store.now (under_ok c.args.most) c.args.p c.args.i c.args.w _ _ c.loop-rest.invariant.0 c.loop-rest.rest _ _ c.loop-rest.invariant.1 c.loop-rest-test.false c.loop-rest.invariant.2

@@ -1,8 +1,7 @@
-use Rattle.std.proofs.Common.{ℕ, ◌+◌, arith, rules}
-use lib.Count.{count_trailing_zeros, trailing_le}
+use Rattle.std.proofs.Common.{ℕ}
 use Rattle.frame.specs.Entries.{under_ok}
-use Rattle.causal.proofs.Walk.{Passed, passed_none, next}
-use Rattle.store.proofs.Deps.{Below, look_none, look_more, look_fails, look_done}
+use Rattle.causal.proofs.Walk.{Passed}
+use Rattle.store.proofs.Deps.{Below}
 use Rattle.store.proofs.sound.look.Given as goal
 
 abbrev pub invariant-loop-rest : goal.invariant-loop-rest

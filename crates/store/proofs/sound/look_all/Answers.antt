@@ -1,7 +1,7 @@
-use Rattle.std.proofs.Common.{◌-◌, ◌≤◌, arith, rules}
+use Rattle.std.proofs.Common.{arith, rules}
 use borrow.Author.Tests.{not-false}
 use Rattle.frame.specs.Entries.{clock_ok, under_ok}
-use Rattle.store.proofs.Deps.{Upto, words_none, words_more, words_fail, words_done, looks_as}
+use Rattle.store.proofs.Deps.{words_none, words_more, words_fail, words_done, looks_as}
 use Rattle.store.proofs.sound.look_all.Goals as goal
 
 pub loop-i-init : goal.loop-i-init
@@ -13,9 +13,9 @@ returns-then-not-looked c = looks_as c.args.store.now (under_ok c.mosts-most.res
 
 pub loop-i-preserved : goal.loop-i-preserved
 loop-i-preserved c = (
-      search rules,
-      words_more c.args.store.now (under_ok c.mosts-most.result) c.args.n c.args.p c.args.ids c.loop-i.i c.loop-i.looked _ c.loop-i.invariant.1 c.look-next.ensures (not-false _ c.if-not-looked.false),
-    )
+  search rules,
+  words_more c.args.store.now (under_ok c.mosts-most.result) c.args.n c.args.p c.args.ids c.loop-i.i c.loop-i.looked _ c.loop-i.invariant.1 c.look-next.ensures (not-false _ c.if-not-looked.false),
+)
 
 pub returns : goal.returns
 returns c = looks_as c.args.store.now (under_ok c.mosts-most.result) c.args.n c.args.p c.args.ids (clock_ok c.args.n) c.mosts-most.ensures _

@@ -1,7 +1,6 @@
-use Rattle.std.proofs.Common.{◌-◌, ◌≤◌, arith, rules}
-use borrow.Author.Tests.{not-false}
-use Rattle.frame.specs.Entries.{clock_ok, under_ok}
-use Rattle.store.proofs.Deps.{Upto, words_none, words_more, words_fail, words_done, looks_as}
+use Rattle.std.proofs.Common.{◌≤◌}
+use Rattle.frame.specs.Entries.{under_ok}
+use Rattle.store.proofs.Deps.{Upto}
 use Rattle.store.proofs.sound.look_all.Given as goal
 
 abbrev pub invariant-loop-i : goal.invariant-loop-i

@@ -1,4 +1,4 @@
-use Rattle.std.proofs.Common.{arith, rules}
+use Rattle.std.proofs.Common.{arith}
 use Rattle.causal.specs.Sets.{bit}
 use Rattle.causal.proofs.Chain.{chain}
 use Rattle.store.specs.Deps.{lone_ok}

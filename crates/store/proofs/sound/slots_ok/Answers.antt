@@ -1,4 +1,4 @@
-use Rattle.std.proofs.Common.{refl, arith, rules}
+use Rattle.std.proofs.Common.{refl, arith}
 use Rattle.causal.specs.Sets.{minus}
 use Rattle.causal.proofs.Array.{id_set}
 use Rattle.causal.proofs.Chain.{chain}

@@ -2,7 +2,6 @@ use Prim.Native.Nat.{ℕ}
 use mathlib.Core.Bool.{Bool, cond}
 use mathlib.Core.Path.{sym, ap, ◌∙◌}
 use Rattle.causal.specs.Sets.{is_in}
-use borrow.Author.Rules.{rules}
 use Rattle.writing.proofs.forecast.turn_frames.Goals as goal
 
 pub returns-then-contains : goal.returns-then-contains

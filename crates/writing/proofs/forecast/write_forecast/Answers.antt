@@ -3,7 +3,6 @@ use mathlib.Core.Path.{sym, ◌∙◌}
 use Rattle.store.proofs.Rules.{laid}
 use Rattle.writing.proofs.Forecasts.{sends_are}
 use Rattle.writing.proofs.Writes.{ready, few}
-use borrow.Author.Rules.{rules}
 use Rattle.writing.proofs.forecast.write_forecast.Goals as goal
 
 pub set_at-held-requires : goal.set_at-held-requires

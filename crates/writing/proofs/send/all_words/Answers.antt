@@ -7,7 +7,6 @@ use Rattle.frame.specs.Frames.{frame_words}
 use Rattle.office.specs.Steps.{own_to}
 use Rattle.writing.specs.Writes.{started, frames_in, all_frames}
 use Rattle.writing.proofs.Sends.{frame_le, frames_le, alone}
-use borrow.Author.Rules.{rules}
 use Rattle.writing.proofs.send.all_words.Goals as goal
 
 -- z: at the start; w: the words of the new entry are known; l: their number

@@ -12,7 +12,6 @@ use Rattle.causal.proofs.Lists.{sets_front}
 use Rattle.office.specs.Steps.{own_to}
 use Rattle.writing.specs.Writes.{started, frames_in, all_frames}
 use Rattle.writing.proofs.Sends.{turn_sets, alone, put_alone}
-use borrow.Author.Rules.{rules}
 use Rattle.writing.proofs.send.put_all.Goals as goal
 
 -- z: at the start; f: the frame of the new entry is known, g: what it is; a: the frames of the own writes are put

@@ -9,7 +9,6 @@ use Rattle.frame.specs.Frames.{frame_ok, frame_words}
 use Rattle.frame.specs.declared.entry.Frame.{Frame}
 use Rattle.frame.proofs.Entries.{frame_facts}
 use Rattle.writing.specs.Writes.{started}
-use borrow.Author.Rules.{rules}
 use Rattle.writing.proofs.send.put_alone.Goals as goal
 
 pub started-requires : goal.started-requires

@@ -1,15 +1,9 @@
-use Prim.Native.Nat.{ℕ, ◌+◌, ◌-◌, ◌≤◌}
-use mathlib.Core.Path.{◌≡◌, sym, ap, ◌∙◌}
-use Rattle.causal.specs.Sets.{is_in}
-use Rattle.frame.specs.Entries.{id_of}
-use native.Mathlib.Omega.{arith}
-use mathlib.Core.List.{List}
+use Prim.Native.Nat.{◌≤◌}
+use mathlib.Core.Path.{◌≡◌}
 use lib.ListN.{length}
-use lib.Seq.{sets, length-sets}
-use Rattle.office.specs.Steps.{own_at, own_to}
-use Rattle.writing.specs.Writes.{frame_if, frames_in}
-use Rattle.writing.proofs.Sends.{frames_more, length_more, frames_mono, frames_start, turn_sets}
-use borrow.Author.Rules.{rules}
+use lib.Seq.{sets}
+use Rattle.office.specs.Steps.{own_to}
+use Rattle.writing.specs.Writes.{frames_in}
 use Rattle.writing.proofs.send.put_own.Given as goal
 
 abbrev pub invariant-loop-i : goal.invariant-loop-i

@@ -1,7 +1,6 @@
 use Rattle.writing.specs.Writes.{started}
 use Rattle.frame.proofs.Entries.{frame_facts}
 use Rattle.writing.proofs.Sends.{skip_turn, send_fits, send_turn}
-use borrow.Author.Rules.{rules}
 use Rattle.writing.proofs.send.put_turn.Goals as goal
 
 pub returns-then-contains : goal.returns-then-contains

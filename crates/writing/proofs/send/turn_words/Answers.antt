@@ -2,10 +2,8 @@ use mathlib.Core.Path.{◌≡◌, ap, ◌∙◌}
 use Rattle.frame.specs.declared.entry.Frame.{Frame}
 use native.Mathlib.Omega.{arith}
 use lib.ListN.{length}
-use Rattle.writing.specs.Writes.{started}
 use Rattle.frame.specs.Frames.{frame_words}
 use Rattle.writing.proofs.Sends.{skipped, sent}
-use borrow.Author.Rules.{rules}
 use Rattle.writing.proofs.send.turn_words.Goals as goal
 
 pub returns-then-contains : goal.returns-then-contains

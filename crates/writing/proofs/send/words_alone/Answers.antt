@@ -3,7 +3,6 @@ use native.Mathlib.Omega.{arith}
 use lib.ListN.{length}
 use Rattle.frame.specs.Frames.{frame_words}
 use Rattle.frame.specs.declared.entry.Frame.{Frame}
-use borrow.Author.Rules.{rules}
 use Rattle.writing.proofs.send.words_alone.Goals as goal
 
 pub words_of-requires : goal.words_of-requires

@@ -9,7 +9,6 @@ use Rattle.office.specs.Decide.{alone, bare}
 use Rattle.writing.proofs.EarlyCodes.{early_bare}
 use Rattle.writing.proofs.EarlyCodes.{early_stops}
 use Rattle.writing.proofs.Writes.{first_ready}
-use borrow.Author.Rules.{rules}
 use Rattle.writing.proofs.write.alone_early.Goals as goal
 
 pub returns-then-first-ne0 : goal.returns-then-first-ne0

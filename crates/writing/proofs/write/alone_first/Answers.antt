@@ -6,7 +6,6 @@ use Rattle.store.proofs.Rules.{laid}
 use Rattle.office.specs.Decide.{bare}
 use Rattle.office.proofs.Numbers.{start_facts}
 use Rattle.writing.proofs.EarlyCodes.{first_stops, first_goes}
-use borrow.Author.Rules.{rules}
 use Rattle.writing.proofs.write.alone_first.Goals as goal
 
 -- k: the number of alone_code is known; z: at the start

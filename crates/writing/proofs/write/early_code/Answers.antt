@@ -11,7 +11,6 @@ use Rattle.writing.specs.Writes.{second_codes}
 use Rattle.office.proofs.OwnCodes.{own_none}
 use Rattle.writing.proofs.EarlyCodes.{early_stops, early_second, early_own}
 use Rattle.writing.proofs.Writes.{first_ready, count_le, slots}
-use borrow.Author.Rules.{rules}
 use Rattle.writing.proofs.write.early_code.Goals as goal
 
 -- z: at the start; k: the first refusals are known; t: there is none; h: what is held is known; w: the second refusals are known

@@ -10,7 +10,6 @@ use Rattle.store.specs.Offices.{office_of, made, clock_of}
 use Rattle.store.proofs.Rules.{laid}
 use Rattle.office.specs.Calls.{new_entry}
 use Rattle.writing.proofs.Writes.{made_le}
-use borrow.Author.Rules.{rules}
 use Rattle.writing.proofs.write.entry_by.Goals as goal
 
 pub bounds-store-1 : goal.bounds-store-1

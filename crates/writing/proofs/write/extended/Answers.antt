@@ -1,7 +1,6 @@
 use Prim.Native.Nat.{◌+◌}
 use lib.ListN.{set}
 use Rattle.office.specs.Answers.{extended_by}
-use borrow.Author.Rules.{rules}
 use Rattle.writing.proofs.write.extended.Goals as goal
 
 pub returns : goal.returns

@@ -6,7 +6,6 @@ use Rattle.frame.specs.Sessions.{content_of}
 use Rattle.store.proofs.Rules.{laid}
 use Rattle.office.proofs.Numbers.{start_facts}
 use Rattle.writing.proofs.EarlyCodes.{first_stops, first_goes}
-use borrow.Author.Rules.{rules}
 use Rattle.writing.proofs.write.first_codes.Goals as goal
 
 -- k: the number of start_code is known; z: at the start

@@ -4,7 +4,6 @@ use mathlib.Core.List.{List}
 use Prim.Native.Nat.{ℕ}
 use Rattle.store.specs.Slots.{hold_words}
 use Rattle.office.proofs.Holds.{holds_none}
-use borrow.Author.Rules.{rules}
 use Rattle.writing.proofs.write.hold_all.Goals as goal
 
 -- z: at the start; a: the own writes are held

@@ -12,7 +12,6 @@ use Rattle.writing.proofs.EarlyCodes.{early_le}
 use Rattle.office.proofs.Shape.{session_sane}
 use Rattle.office.proofs.Slots.{settings}
 use Rattle.writing.proofs.Writes.{ready, few, none_new, slots, frames, new_slot, new_frame, store_left, row_left, write_early, write_late, write_done, not_made, made_is}
-use borrow.Author.Rules.{rules}
 use Rattle.writing.proofs.write.make.Goals as goal
 
 -- z: at the start; k: the refusals but for the room are known; t: there is none; o: the ids of own writes are known; e: the new entry is made;

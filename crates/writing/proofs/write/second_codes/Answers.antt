@@ -5,7 +5,6 @@ use Rattle.causal.specs.Lists.{part}
 use Rattle.causal.specs.Sets.{subset_of}
 use Rattle.causal.proofs.Codes.{codes}
 use Rattle.store.specs.Offices.{office_of}
-use borrow.Author.Rules.{rules}
 use Rattle.writing.proofs.write.second_codes.Goals as goal
 
 pub returns-then-count-ge16 : goal.returns-then-count-ge16
