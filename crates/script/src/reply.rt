@@ -68,6 +68,7 @@ fn put_found(v: u32, o: u32, s: u32, out: &mut [u8], at: usize) -> usize
 }
 
 // Puts the reply at `at`, and answers where it ends.
+#[tactic(auto, unfolding(crate::specs::Replies::reply_bytes))]
 pub fn put_reply(reply: Reply, out: &mut [u8], at: usize) -> usize
     requires { at + 40 ≤ length out.old }
     ensures { (result ≡ at + length (reply_bytes reply)) × (out.new ≡ sets out.old at (reply_bytes reply)) × (result ≤ at + 40) }

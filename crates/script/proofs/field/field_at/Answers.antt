@@ -1,7 +1,6 @@
 use mathlib.Core.Path.{ap, ◌∙◌}
 use Rattle.script.specs.Steps.{field_of}
 use Rattle.script.proofs.Fields.{field_part}
-use borrow.Author.Rules.{rules}
 use Rattle.script.proofs.field.field_at.Goals as goal
 
 pub returns : goal.returns

@@ -1,10 +1,6 @@
 use native.Mathlib.Omega.{arith}
-use mathlib.Core.Path.{◌≡◌, refl, ◌∙◌}
-use Prim.Native.Nat.{◌≤◌, ◌+◌, ◌-◌}
-use lib.ListN.{length, drop}
-use Rattle.script.specs.Steps.{first_field}
+use mathlib.Core.Path.{refl, ◌∙◌}
 use Rattle.script.proofs.Fields.{first_space, first_step, first_end}
-use borrow.Author.Rules.{rules}
 use Rattle.script.proofs.field.field_end.Goals as goal
 
 pub loop-i-init : goal.loop-i-init

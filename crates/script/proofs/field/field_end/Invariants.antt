@@ -1,10 +1,7 @@
-use native.Mathlib.Omega.{arith}
-use mathlib.Core.Path.{◌≡◌, refl, ◌∙◌}
+use mathlib.Core.Path.{◌≡◌}
 use Prim.Native.Nat.{◌≤◌, ◌+◌, ◌-◌}
 use lib.ListN.{length, drop}
 use Rattle.script.specs.Steps.{first_field}
-use Rattle.script.proofs.Fields.{first_space, first_step, first_end}
-use borrow.Author.Rules.{rules}
 use Rattle.script.proofs.field.field_end.Given as goal
 
 abbrev pub invariant-loop-i : goal.invariant-loop-i

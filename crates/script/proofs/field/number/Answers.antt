@@ -1,7 +1,6 @@
 use native.Mathlib.Omega.{arith}
 use mathlib.Core.Path.{◌∙◌}
 use Rattle.script.proofs.Numbers.{field_none, field_one, field_zero, field_many}
-use borrow.Author.Rules.{rules}
 use Rattle.script.proofs.field.number.Goals as goal
 
 pub returns-then-n-eq0 : goal.returns-then-n-eq0

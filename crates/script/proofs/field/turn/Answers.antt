@@ -1,6 +1,5 @@
 use native.Mathlib.Omega.{arith}
 use Rattle.script.proofs.Numbers.{turned_none, turned_digit, digit_low, digit_high, digit_is}
-use borrow.Author.Rules.{rules}
 use Rattle.script.proofs.field.turn.Goals as goal
 
 pub returns-then-b-lt48 : goal.returns-then-b-lt48

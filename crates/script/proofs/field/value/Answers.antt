@@ -1,10 +1,9 @@
 use native.Mathlib.Omega.{arith}
-use mathlib.Core.Path.{◌≡◌, refl, ap, ◌∙◌}
-use Prim.Native.Nat.{ℕ, ◌≤◌, ◌-◌}
-use lib.ListN.{length, take, get_or}
+use mathlib.Core.Path.{refl, ap, ◌∙◌}
+use Prim.Native.Nat.{ℕ}
+use lib.ListN.{get_or}
 use Rattle.script.specs.Steps.{turned, capped}
 use Rattle.script.proofs.Numbers.{capped_more, capped_done}
-use borrow.Author.Rules.{rules}
 use Rattle.script.proofs.field.value.Goals as goal
 
 pub loop-i-init : goal.loop-i-init

@@ -1,10 +1,7 @@
-use native.Mathlib.Omega.{arith}
-use mathlib.Core.Path.{◌≡◌, refl, ap, ◌∙◌}
-use Prim.Native.Nat.{ℕ, ◌≤◌, ◌-◌}
-use lib.ListN.{length, take, get_or}
-use Rattle.script.specs.Steps.{turned, capped}
-use Rattle.script.proofs.Numbers.{capped_more, capped_done}
-use borrow.Author.Rules.{rules}
+use mathlib.Core.Path.{◌≡◌}
+use Prim.Native.Nat.{◌≤◌}
+use lib.ListN.{length, take}
+use Rattle.script.specs.Steps.{capped}
 use Rattle.script.proofs.field.value.Given as goal
 
 abbrev pub invariant-loop-i : goal.invariant-loop-i

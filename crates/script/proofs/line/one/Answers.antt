@@ -1,6 +1,5 @@
 use borrow.Author.Tests.{eq-eqb, ne_eqb}
 use Rattle.script.specs.Steps.{one_of}
-use borrow.Author.Rules.{rules}
 use Rattle.script.proofs.line.one.Goals as goal
 
 pub returns-then-letter-eq72 : goal.returns-then-letter-eq72

@@ -3,7 +3,6 @@ use mathlib.Core.Path.{◌≡◌, ◌∙◌}
 use lib.ListN.{length}
 use Rattle.script.specs.Steps.{first_field}
 use Rattle.script.proofs.Lines.{odd_line, letter_line, one_line, two_line, three_line, more_line}
-use borrow.Author.Rules.{rules}
 use Rattle.script.proofs.line.parse_line.Goals as goal
 
 pub returns-then-k-ne1 : goal.returns-then-k-ne1

@@ -1,6 +1,5 @@
 use borrow.Author.Tests.{lt-ltb, le-ltb}
 use Rattle.script.specs.Steps.{receive_of}
-use borrow.Author.Rules.{rules}
 use Rattle.script.proofs.line.receive.Goals as goal
 
 pub returns-then-o-ge-OFFICES : goal.returns-then-o-ge-OFFICES

@@ -1,6 +1,5 @@
 use borrow.Author.Tests.{eq-eqb, ne_eqb}
 use Rattle.script.specs.Steps.{three_of}
-use borrow.Author.Rules.{rules}
 use Rattle.script.proofs.line.three.Goals as goal
 
 pub returns-then-letter-eq87 : goal.returns-then-letter-eq87

@@ -1,7 +1,6 @@
 use borrow.Author.Tests.{lt-ltb, le-ltb}
 use Rattle.causal.specs.Tests.{both}
 use Rattle.script.specs.Steps.{write_of}
-use borrow.Author.Rules.{rules}
 use Rattle.script.proofs.line.write.Goals as goal
 
 pub returns-then-s-ge-SESSIONS : goal.returns-then-s-ge-SESSIONS

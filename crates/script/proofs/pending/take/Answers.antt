@@ -1,14 +1,13 @@
 use lib.ListN.{get_or, length, length-set}
 use Rattle.script.specs.Pendings.{pushed}
 use Rattle.script.specs.declared.pending.Pending.{Pending}
-use Rattle.script.proofs.Pendings.{Taking, push_long, push_short, taken_all, taken_line, taking, taking_more}
-use Prim.Native.Nat.{◌-◌}
+use Rattle.script.proofs.Pendings.{push_long, push_short, taken_all, taken_line, taking, taking_more}
 use mathlib.Core.Path.{◌∙◌, ◌≡◌, ap}
-use mathlib.Core.Logic.{⊎_elim}
 use lib.ListN.{length}
-use Rattle.script.proofs.Pendings.{Taking, taken_all, taken_line, taking, taking_more}
+use Rattle.script.proofs.Pendings.{taken_all, taken_line, taking, taking_more}
 use borrow.Author.Rules.{rules}
 use Rattle.script.proofs.pending.take.Goals as goal
+use Rattle.script.proofs.pending.take.Goals.{then-len-ge32, else-len-ge32}
 
 pub loop-i-init : goal.loop-i-init
 loop-i-init c = let h : length c.args.p.bytes ≡ 32 = search rules in
@@ -22,10 +21,16 @@ loop-i-preserved c = let L = c.loop-i in
     let a = c.args in
     let b = get_or a.bytes.now L.i 0 in
     let P : (length c.if-len-ge32.row ≡ 32) × (◌≡◌ {A = Pending} (record { bytes = c.if-len-ge32.row; len = c.if-len-ge32.len }) (pushed (record { bytes = L.row; len = L.len }) b)) =
-    ⊎_elim
-    (λ w. (ap length w.1 ∙ L.invariant.0, (λ i. record { bytes = w.1 i; len = w.2 i }) ∙ push_long L.row L.len b L.invariant.0 w.0.taken))
-    (λ w. (ap length w.2 ∙ length-set L.row L.len b ∙ L.invariant.0, (λ i. record { bytes = w.2 i; len = w.3 i }) ∙ push_short L.row L.len b w.0.left))
-    c.if-len-ge32.branch
+    elim c.if-len-ge32.branch [
+      | then-len-ge32 w ↦ (
+        ap length w.row-is ∙ L.invariant.0,
+        (λ i. record { bytes = w.row-is i; len = w.len-is i }) ∙ push_long L.row L.len b L.invariant.0 w.if-len-ge32.true,
+      )
+      | else-len-ge32 w ↦ (
+        ap length w.row-is ∙ length-set L.row L.len b ∙ L.invariant.0,
+        (λ i. record { bytes = w.row-is i; len = w.len-is i }) ∙ push_short L.row L.len b w.if-len-ge32.false,
+      )
+    ]
     in (P.0, taking_more _ _ _ L.i _ L.invariant.1 c.loop-i-test.true c.if-bytes-i-eq10.false _ P.1)
 
 pub returns : goal.returns

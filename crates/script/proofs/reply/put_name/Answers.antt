@@ -2,7 +2,6 @@ use Rattle.script.specs.Replies.{name_bytes}
 use native.Mathlib.Omega.{arith}
 use Rattle.script.proofs.Decimals.{ten_enough}
 use Rattle.script.proofs.Puts.{put_then}
-use borrow.Author.Rules.{rules}
 use Rattle.script.proofs.reply.put_name.Goals as goal
 
 pub put_decimal-dot-requires : goal.put_decimal-dot-requires

@@ -2,7 +2,6 @@ use native.Mathlib.Omega.{arith}
 use Rattle.script.proofs.Decimals.{ten_enough}
 use Rattle.script.proofs.Puts.{put_then}
 use Rattle.script.specs.Replies.{numbered}
-use borrow.Author.Rules.{rules}
 use Rattle.script.proofs.reply.put_numbered.Goals as goal
 
 pub put_decimal-end-requires : goal.put_decimal-end-requires

@@ -1,5 +1,4 @@
 use Rattle.script.proofs.Puts.{put_then}
-use borrow.Author.Rules.{rules}
 use Rattle.script.proofs.reply.put_wrote.Goals as goal
 
 pub returns : goal.returns
