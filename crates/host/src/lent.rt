@@ -107,8 +107,10 @@ pub extern "C" fn burial_lent_read_plot(store: &mut [u32], s: &mut Session, plot
     } else {
         plot_by_value(store, *s, plot)
     };
-    s.clock = done.clock;
-    s.read = done.read;
+    let clock = done.clock;
+    let read = done.read;
+    s.clock = clock;
+    s.read = read;
     done.answer
 }
 
@@ -167,8 +169,10 @@ pub extern "C" fn burial_lent_read_joint(
     } else {
         joint_by_value(store, *s, plots, answer)
     };
-    s.clock = done.clock;
-    s.read = done.read;
+    let clock = done.clock;
+    let read = done.read;
+    s.clock = clock;
+    s.read = read;
     done.refusal
 }
 
@@ -256,7 +260,8 @@ pub extern "C" fn burial_lent_write(
     } else {
         write_by_value(store, *s, plot, value, out)
     };
-    s.clock = wrote.clock;
+    let clock = wrote.clock;
+    s.clock = clock;
     s.count = wrote.count;
     s.own[wrote.place] = wrote.entry;
     wrote.answer
