@@ -98,8 +98,7 @@ fn plot_alone(
 }
 
 // 01: read one plot.
-#[unsafe(no_mangle)]
-pub extern "C" fn burial_lent_read_plot(store: &mut [u32], s: &mut Session, plot: u32) -> PlotFound
+pub fn burial_lent_read_plot(store: &mut [u32], s: &mut Session, plot: u32) -> PlotFound
     ensures { (result.found ≤ 1) × ReadPromise store.old s.old plot result.refusal (is_set result.found) result.entry s.new store.new }
 {
     let done = if s.count == 0 {
@@ -155,8 +154,7 @@ fn joint_alone(
 }
 
 // 01: read jointly.
-#[unsafe(no_mangle)]
-pub extern "C" fn burial_lent_read_joint(
+pub fn burial_lent_read_joint(
     store: &mut [u32],
     s: &mut Session,
     plots: &[u32],
@@ -243,8 +241,7 @@ fn write_alone(
 }
 
 // 01: write.
-#[unsafe(no_mangle)]
-pub extern "C" fn burial_lent_write(
+pub fn burial_lent_write(
     store: &mut [u32],
     s: &mut Session,
     plot: u32,

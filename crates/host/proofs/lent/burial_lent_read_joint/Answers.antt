@@ -15,9 +15,9 @@ pub returns : goal.returns
 unfolding with_seen
 returns c = let a = c.args in
     let P : Said a.store.now a.plots.now a.answer.now c.if-s-eq0.done c.if-s-eq0.store c.if-s-eq0.answer a.s.now =
-        elim c.if-s-eq0.branch [
-            then-s-eq0 w ↦ rw (w.done-is, w.store-is, w.answer-is)
-              (by_alone (Said a.store.now a.plots.now a.answer.now w.joint_alone-done.result w.joint_alone-done.new.store w.joint_alone-done.new.answer) a.s.now w.if-s-eq0.true w.joint_alone-done.ensures)
-          | else-s-eq0 w ↦ rw (w.done-is, w.store-is, w.answer-is) w.joint_by_value-done.ensures
-        ]
+    elim c.if-s-eq0.branch [
+      | then-s-eq0 w ↦ rw (w.done-is, w.store-is, w.answer-is)
+          (by_alone (Said a.store.now a.plots.now a.answer.now w.joint_alone-done.result w.joint_alone-done.new.store w.joint_alone-done.new.answer) a.s.now w.if-s-eq0.true w.joint_alone-done.ensures)
+      | else-s-eq0 w ↦ rw (w.done-is, w.store-is, w.answer-is) w.joint_by_value-done.ensures
+    ]
     in P

@@ -18,9 +18,9 @@ pub returns : goal.returns
 unfolding with_seen
 returns c = let a = c.args in
     let P : Said a.store.now a.plot c.if-s-eq0.done c.if-s-eq0.store a.s.now =
-        elim c.if-s-eq0.branch [
-            then-s-eq0 w ↦ let e = w.plot_alone-done.ensures in
-              rw (w.done-is, w.store-is) (by_alone (Said a.store.now a.plot w.plot_alone-done.result w.plot_alone-done.new.store) a.s.now w.if-s-eq0.true (λ own. (e.0, e.1 own)))
-          | else-s-eq0 w ↦ rw (w.done-is, w.store-is) w.plot_by_value-done.ensures
-        ]
+    elim c.if-s-eq0.branch [
+      | then-s-eq0 w ↦ let e = w.plot_alone-done.ensures in
+          rw (w.done-is, w.store-is) (by_alone (Said a.store.now a.plot w.plot_alone-done.result w.plot_alone-done.new.store) a.s.now w.if-s-eq0.true (λ own. (e.0, e.1 own)))
+      | else-s-eq0 w ↦ rw (w.done-is, w.store-is) w.plot_by_value-done.ensures
+    ]
     in P

@@ -17,10 +17,10 @@ Said ws plot value row r ws' row' s =
 pub returns : goal.returns
 returns c = let a = c.args in
     let P : Said a.store.now a.plot a.value a.out.now c.if-s-eq0.wrote c.if-s-eq0.store c.if-s-eq0.out a.s.now =
-        elim c.if-s-eq0.branch [
-            then-s-eq0 w ↦ let e = w.write_alone-wrote.ensures in
-              rw (w.wrote-is, w.store-is, w.out-is)
-              (subst (Said a.store.now a.plot a.value a.out.now w.write_alone-wrote.result w.write_alone-wrote.new.store w.write_alone-wrote.new.out) (is_alone a.s.now w.if-s-eq0.true) (e.0, e.1 a.s.now.own refl))
-          | else-s-eq0 w ↦ rw (w.wrote-is, w.store-is, w.out-is) w.write_by_value-wrote.ensures
-        ]
+    elim c.if-s-eq0.branch [
+      | then-s-eq0 w ↦ let e = w.write_alone-wrote.ensures in
+          rw (w.wrote-is, w.store-is, w.out-is)
+          (subst (Said a.store.now a.plot a.value a.out.now w.write_alone-wrote.result w.write_alone-wrote.new.store w.write_alone-wrote.new.out) (is_alone a.s.now w.if-s-eq0.true) (e.0, e.1 a.s.now.own refl))
+      | else-s-eq0 w ↦ rw (w.wrote-is, w.store-is, w.out-is) w.write_by_value-wrote.ensures
+    ]
     in P.1
