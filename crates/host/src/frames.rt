@@ -42,6 +42,7 @@ fn check_words(bytes: &[u8], n: usize, offices: u32, plots: u32) -> u32
 }
 
 // Are these bytes a frame for this ring and these plots? 0 for yes, else the refusal: 1 for the settings, then 9.
+#[inline(always)]
 pub fn burial_check_frame(bytes: &[u8], offices: u32, plots: u32) -> u32
     ensures { CheckPromise bytes.now offices plots result }
 {
@@ -59,6 +60,7 @@ pub fn burial_check_frame(bytes: &[u8], offices: u32, plots: u32) -> u32
 }
 
 // 01: read a frame.
+#[inline(always)]
 pub fn burial_read_frame(words: &[u32], offices: u32, plots: u32) -> FrameAnswer
     ensures { ReadFramePromise words.now offices plots result.refusal result.frame }
 {
@@ -70,6 +72,7 @@ pub fn burial_read_frame(words: &[u32], offices: u32, plots: u32) -> FrameAnswer
 }
 
 // 01: write a frame.
+#[inline(always)]
 pub fn burial_write_frame(frame: frame::entry::Frame, out: &mut [u32]) -> WordsAnswer
     ensures { WriteFramePromise frame out.old (record { code = result.refusal; words = result.words }) out.new }
 {

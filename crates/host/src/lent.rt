@@ -98,6 +98,7 @@ fn plot_alone(
 }
 
 // 01: read one plot.
+#[inline(always)]
 pub fn burial_lent_read_plot(store: &mut [u32], s: &mut Session, plot: u32) -> PlotFound
     ensures { (result.found ≤ 1) × ReadPromise store.old s.old plot result.refusal (is_set result.found) result.entry s.new store.new }
 {
@@ -154,6 +155,7 @@ fn joint_alone(
 }
 
 // 01: read jointly.
+#[inline(always)]
 pub fn burial_lent_read_joint(
     store: &mut [u32],
     s: &mut Session,
@@ -241,6 +243,7 @@ fn write_alone(
 }
 
 // 01: write.
+#[inline(always)]
 pub fn burial_lent_write(
     store: &mut [u32],
     s: &mut Session,

@@ -1,4 +1,4 @@
-// What a host program in C or Rust calls, over the crates below; crate host_c exports it. include/burial_register.h declares it.
+// What a host program in C or Rust calls, over the crates below; crate host_c exports it, and inlines what it calls here. include/burial_register.h declares it.
 #![tactic(auto)]
 
 pub mod answer;

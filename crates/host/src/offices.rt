@@ -7,6 +7,7 @@ use crate::answer::{PlotAnswer, SessionAnswer, SettingsAnswer, WordsAnswer, Wrot
 use frame::session::Session;
 
 // 01: the call that gives the store's need.
+#[inline(always)]
 pub fn burial_store_need(offices: u32, own: u32, plots: u32) -> WordsAnswer
     ensures { NeedPromise offices own plots (record { code = result.refusal; words = result.words }) }
 {
@@ -15,6 +16,7 @@ pub fn burial_store_need(offices: u32, own: u32, plots: u32) -> WordsAnswer
 }
 
 // 01: open an office.
+#[inline(always)]
 pub fn burial_open_office(offices: u32, own: u32, plots: u32, store: &mut [u32]) -> u32
     ensures { OpenPromise offices own plots store.old result store.new }
 {
@@ -23,6 +25,7 @@ pub fn burial_open_office(offices: u32, own: u32, plots: u32, store: &mut [u32])
 }
 
 // What a store was opened with.
+#[inline(always)]
 pub fn burial_store_settings(store: &[u32]) -> SettingsAnswer
     ensures { SettingsPromise store.now result.refusal result.offices result.own result.plots }
 {
@@ -38,6 +41,7 @@ pub fn burial_store_settings(store: &[u32]) -> SettingsAnswer
 }
 
 // 01: a fresh errand.
+#[inline(always)]
 pub fn burial_fresh_session(offices: u32) -> SessionAnswer
     ensures { FreshPromise offices result.refusal result.session }
 {
@@ -59,6 +63,7 @@ pub fn flag(b: bool) -> u32
 }
 
 // 01: read one plot.
+#[inline(always)]
 pub fn burial_read_plot(store: &mut [u32], session: Session, plot: u32) -> PlotAnswer
     ensures { (result.found ≤ 1) × ReadPromise store.old session plot result.refusal (is_set result.found) result.entry result.session store.new }
 {
@@ -77,6 +82,7 @@ pub fn burial_read_plot(store: &mut [u32], session: Session, plot: u32) -> PlotA
 }
 
 // 01: read jointly.
+#[inline(always)]
 pub fn burial_read_joint(
     store: &mut [u32],
     session: Session,
@@ -96,6 +102,7 @@ pub fn burial_read_joint(
 }
 
 // 01: write.
+#[inline(always)]
 pub fn burial_write(
     store: &mut [u32],
     session: Session,
@@ -117,6 +124,7 @@ pub fn burial_write(
 }
 
 // 01: hear a frame.
+#[inline(always)]
 pub fn burial_receive(store: &mut [u32], frame: &[u32], out: &mut [u32]) -> WordsAnswer
     ensures { ReceivePromise store.old frame.now out.old (record { code = result.refusal; words = result.words }) store.new out.new }
 {

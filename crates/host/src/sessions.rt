@@ -5,6 +5,7 @@ use crate::answer::SessionAnswer;
 use frame::session::Session;
 
 // 02: one errand, two people.
+#[inline(always)]
 pub fn burial_join_sessions(
     offices: u32,
     plots: u32,

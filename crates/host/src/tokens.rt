@@ -5,6 +5,7 @@ use crate::answer::{SessionAnswer, WordsAnswer};
 use frame::session::Session;
 
 // 01: read a slip.
+#[inline(always)]
 pub fn burial_read_token(words: &[u32], offices: u32, plots: u32) -> SessionAnswer
     ensures { ReadTokenPromise words.now offices plots result.refusal result.session }
 {
@@ -16,6 +17,7 @@ pub fn burial_read_token(words: &[u32], offices: u32, plots: u32) -> SessionAnsw
 }
 
 // 01: write a slip.
+#[inline(always)]
 pub fn burial_write_token(session: Session, out: &mut [u32]) -> WordsAnswer
     ensures { WriteTokenPromise session out.old (record { code = result.refusal; words = result.words }) out.new }
 {

@@ -4,6 +4,7 @@ ghost use Rattle.host.specs.Version.{VersionPromise};
 const VERSION: u32 = 0x01_0200;
 
 // Which version is linked.
+#[inline(always)]
 pub fn burial_version() -> u32
     ensures { VersionPromise result }
 {

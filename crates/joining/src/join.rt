@@ -135,6 +135,7 @@ fn accepted(first: Session, second: Session, count: usize, own: [Entry; 16]) -> 
 }
 
 // The join of two sound sessions.
+#[inline(never)]
 fn join_sound(offices: u32, plots: u32, first: Session, second: Session) -> SessionsJoined
     requires { (ring_ok offices plots ≡ true) × (session_ok offices plots (content_of first) ≡ true) × (session_ok offices plots (content_of second) ≡ true) }
     ensures { JoinPromise offices plots first second (code_of result.status) result.session }
