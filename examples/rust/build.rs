@@ -3,7 +3,7 @@
 use std::env;
 use std::path::PathBuf;
 
-/// Where libhost.a is: the folder that BURIAL_LIB names, or where `rt staticlib host` puts it.
+/// Where libhost.a is: the folder that BURIAL_LIB names, or where `scripts/build host` puts it.
 fn folder() -> PathBuf {
     let package = PathBuf::from(env::var_os("CARGO_MANIFEST_DIR").expect("cargo sets it"));
     match env::var_os("BURIAL_LIB") {
@@ -19,7 +19,7 @@ fn main() {
     println!("cargo::rerun-if-changed={}", archive.display());
     if !archive.is_file() {
         println!("cargo::error=there is no {}", archive.display());
-        println!("cargo::error=run 'rt staticlib host' first, or name its folder in BURIAL_LIB");
+        println!("cargo::error=run 'scripts/build host' first, or name its folder in BURIAL_LIB");
         return;
     }
     println!("cargo::rustc-link-search=native={}", folder.display());

@@ -24,7 +24,7 @@ def compile_to(program, *arguments):
 def office(sources, program):
     """From a folder of sources."""
     if not os.path.exists(ARCHIVE):
-        raise NotBuilt(f"there is no {ARCHIVE}: run 'rt staticlib host' first")
+        raise NotBuilt(f"there is no {ARCHIVE}: run 'scripts/build host' first")
     return compile_to(program, "-D_POSIX_C_SOURCE=200809L", "-Iinclude",
                       *sorted(glob.glob(sources + "/*.c")), ARCHIVE)
 

@@ -110,10 +110,10 @@ module _ {M : Type 1} {𝓤 : Ura M} (𝓛 : Logic 𝓤) (mem : Memory → SProp
         ≡ fact 𝓤 (JoinPromise n p a b r.refusal r.session)
     pub join_sessions_asks : (n p : ℕ) (a b : Session) → (JoinSessionsContract.clauses 𝓛 mem run tt (n, (p, (a, (b, tt))))).requires tt ≡ emp 𝓤
     pub settings_met : Settings.Statement.statement M
-    pub settings_is : (κs : One) (ws : MutRow) (r : SettingsAnswer) (ws' : MutRow)
+    pub settings_is : (κs : One) (ws : Row) (r : SettingsAnswer) (ws' : Row)
         → (SettingsContract.clauses 𝓛 mem run κs (ws, tt)).ensures tt r (ws', tt)
         ≡ fact 𝓤 (SettingsPromise ws.now r.refusal r.offices r.own r.plots)
-    pub settings_asks : (κs : One) (ws : MutRow) → (SettingsContract.clauses 𝓛 mem run κs (ws, tt)).requires tt ≡ emp 𝓤
+    pub settings_asks : (κs : One) (ws : Row) → (SettingsContract.clauses 𝓛 mem run κs (ws, tt)).requires tt ≡ emp 𝓤
     pub version_met : Version.Statement.statement M
     pub version_is : (r : ℕ) → (VersionContract.clauses 𝓛 mem run tt tt).ensures tt r tt ≡ fact 𝓤 (VersionPromise r)
     pub version_asks : (VersionContract.clauses 𝓛 mem run tt tt).requires tt ≡ emp 𝓤

@@ -42,8 +42,7 @@ fn check_words(bytes: &[u8], n: usize, offices: u32, plots: u32) -> u32
 }
 
 // Are these bytes a frame for this ring and these plots? 0 for yes, else the refusal: 1 for the settings, then 9.
-#[unsafe(no_mangle)]
-pub extern "C" fn burial_check_frame(bytes: &[u8], offices: u32, plots: u32) -> u32
+pub fn burial_check_frame(bytes: &[u8], offices: u32, plots: u32) -> u32
     ensures { CheckPromise bytes.now offices plots result }
 {
     if !frame::entry::ring_ok(offices, plots) {
@@ -60,8 +59,7 @@ pub extern "C" fn burial_check_frame(bytes: &[u8], offices: u32, plots: u32) -> 
 }
 
 // 01: read a frame.
-#[unsafe(no_mangle)]
-pub extern "C" fn burial_read_frame(words: &[u32], offices: u32, plots: u32) -> FrameAnswer
+pub fn burial_read_frame(words: &[u32], offices: u32, plots: u32) -> FrameAnswer
     ensures { ReadFramePromise words.now offices plots result.refusal result.frame }
 {
     let read = frame::reader::read_frame(words, offices, plots);
@@ -72,8 +70,7 @@ pub extern "C" fn burial_read_frame(words: &[u32], offices: u32, plots: u32) -> 
 }
 
 // 01: write a frame.
-#[unsafe(no_mangle)]
-pub extern "C" fn burial_write_frame(frame: frame::entry::Frame, out: &mut [u32]) -> WordsAnswer
+pub fn burial_write_frame(frame: frame::entry::Frame, out: &mut [u32]) -> WordsAnswer
     ensures { WriteFramePromise frame out.old (record { code = result.refusal; words = result.words }) out.new }
 {
     let written = frame::writer::write_frame(frame, out);

@@ -98,8 +98,7 @@ fn plot_alone(
 }
 
 // 01: read one plot.
-#[unsafe(no_mangle)]
-pub extern "C" fn burial_lent_read_plot(store: &mut [u32], s: &mut Session, plot: u32) -> PlotFound
+pub fn burial_lent_read_plot(store: &mut [u32], s: &mut Session, plot: u32) -> PlotFound
     ensures { (result.found ≤ 1) × ReadPromise store.old s.old plot result.refusal (is_set result.found) result.entry s.new store.new }
 {
     let done = if s.count == 0 {
@@ -107,8 +106,10 @@ pub extern "C" fn burial_lent_read_plot(store: &mut [u32], s: &mut Session, plot
     } else {
         plot_by_value(store, *s, plot)
     };
-    s.clock = done.clock;
-    s.read = done.read;
+    let clock = done.clock;
+    let read = done.read;
+    s.clock = clock;
+    s.read = read;
     done.answer
 }
 
@@ -153,8 +154,7 @@ fn joint_alone(
 }
 
 // 01: read jointly.
-#[unsafe(no_mangle)]
-pub extern "C" fn burial_lent_read_joint(
+pub fn burial_lent_read_joint(
     store: &mut [u32],
     s: &mut Session,
     plots: &[u32],
@@ -167,8 +167,10 @@ pub extern "C" fn burial_lent_read_joint(
     } else {
         joint_by_value(store, *s, plots, answer)
     };
-    s.clock = done.clock;
-    s.read = done.read;
+    let clock = done.clock;
+    let read = done.read;
+    s.clock = clock;
+    s.read = read;
     done.refusal
 }
 
@@ -239,8 +241,7 @@ fn write_alone(
 }
 
 // 01: write.
-#[unsafe(no_mangle)]
-pub extern "C" fn burial_lent_write(
+pub fn burial_lent_write(
     store: &mut [u32],
     s: &mut Session,
     plot: u32,
@@ -256,7 +257,8 @@ pub extern "C" fn burial_lent_write(
     } else {
         write_by_value(store, *s, plot, value, out)
     };
-    s.clock = wrote.clock;
+    let clock = wrote.clock;
+    s.clock = clock;
     s.count = wrote.count;
     s.own[wrote.place] = wrote.entry;
     wrote.answer

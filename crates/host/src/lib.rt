@@ -1,4 +1,4 @@
-// What a host program in C or Rust calls: thin exports over the crates below. include/burial_register.h declares them.
+// What a host program in C or Rust calls, over the crates below; crate host_c exports it. include/burial_register.h declares it.
 #![tactic(auto)]
 
 pub mod answer;

@@ -7,8 +7,7 @@ use crate::answer::{PlotAnswer, SessionAnswer, SettingsAnswer, WordsAnswer, Wrot
 use frame::session::Session;
 
 // 01: the call that gives the store's need.
-#[unsafe(no_mangle)]
-pub extern "C" fn burial_store_need(offices: u32, own: u32, plots: u32) -> WordsAnswer
+pub fn burial_store_need(offices: u32, own: u32, plots: u32) -> WordsAnswer
     ensures { NeedPromise offices own plots (record { code = result.refusal; words = result.words }) }
 {
     let need = office::need::store_need(offices, own, plots);
@@ -16,8 +15,7 @@ pub extern "C" fn burial_store_need(offices: u32, own: u32, plots: u32) -> Words
 }
 
 // 01: open an office.
-#[unsafe(no_mangle)]
-pub extern "C" fn burial_open_office(offices: u32, own: u32, plots: u32, store: &mut [u32]) -> u32
+pub fn burial_open_office(offices: u32, own: u32, plots: u32, store: &mut [u32]) -> u32
     ensures { OpenPromise offices own plots store.old result store.new }
 {
     let status = office::open::open_office(offices, own, plots, store);
@@ -25,8 +23,7 @@ pub extern "C" fn burial_open_office(offices: u32, own: u32, plots: u32, store: 
 }
 
 // What a store was opened with.
-#[unsafe(no_mangle)]
-pub extern "C" fn burial_store_settings(store: &[u32]) -> SettingsAnswer
+pub fn burial_store_settings(store: &[u32]) -> SettingsAnswer
     ensures { SettingsPromise store.now result.refusal result.offices result.own result.plots }
 {
     let settings = office::settings::store_settings(store);
@@ -41,8 +38,7 @@ pub extern "C" fn burial_store_settings(store: &[u32]) -> SettingsAnswer
 }
 
 // 01: a fresh errand.
-#[unsafe(no_mangle)]
-pub extern "C" fn burial_fresh_session(offices: u32) -> SessionAnswer
+pub fn burial_fresh_session(offices: u32) -> SessionAnswer
     ensures { FreshPromise offices result.refusal result.session }
 {
     let fresh = office::open::fresh_session(offices);
@@ -63,8 +59,7 @@ pub fn flag(b: bool) -> u32
 }
 
 // 01: read one plot.
-#[unsafe(no_mangle)]
-pub extern "C" fn burial_read_plot(store: &mut [u32], session: Session, plot: u32) -> PlotAnswer
+pub fn burial_read_plot(store: &mut [u32], session: Session, plot: u32) -> PlotAnswer
     ensures { (result.found ≤ 1) × ReadPromise store.old session plot result.refusal (is_set result.found) result.entry result.session store.new }
 {
     let read = reading::read::read_plot(store, session, plot);
@@ -82,8 +77,7 @@ pub extern "C" fn burial_read_plot(store: &mut [u32], session: Session, plot: u3
 }
 
 // 01: read jointly.
-#[unsafe(no_mangle)]
-pub extern "C" fn burial_read_joint(
+pub fn burial_read_joint(
     store: &mut [u32],
     session: Session,
     plots: &[u32],
@@ -102,8 +96,7 @@ pub extern "C" fn burial_read_joint(
 }
 
 // 01: write.
-#[unsafe(no_mangle)]
-pub extern "C" fn burial_write(
+pub fn burial_write(
     store: &mut [u32],
     session: Session,
     plot: u32,
@@ -124,8 +117,7 @@ pub extern "C" fn burial_write(
 }
 
 // 01: hear a frame.
-#[unsafe(no_mangle)]
-pub extern "C" fn burial_receive(store: &mut [u32], frame: &[u32], out: &mut [u32]) -> WordsAnswer
+pub fn burial_receive(store: &mut [u32], frame: &[u32], out: &mut [u32]) -> WordsAnswer
     ensures { ReceivePromise store.old frame.now out.old (record { code = result.refusal; words = result.words }) store.new out.new }
 {
     let written = hearing::receive::receive(store, frame, out);

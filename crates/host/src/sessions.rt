@@ -5,8 +5,7 @@ use crate::answer::SessionAnswer;
 use frame::session::Session;
 
 // 02: one errand, two people.
-#[unsafe(no_mangle)]
-pub extern "C" fn burial_join_sessions(
+pub fn burial_join_sessions(
     offices: u32,
     plots: u32,
     first: Session,

@@ -5,8 +5,7 @@ use crate::answer::{SessionAnswer, WordsAnswer};
 use frame::session::Session;
 
 // 01: read a slip.
-#[unsafe(no_mangle)]
-pub extern "C" fn burial_read_token(words: &[u32], offices: u32, plots: u32) -> SessionAnswer
+pub fn burial_read_token(words: &[u32], offices: u32, plots: u32) -> SessionAnswer
     ensures { ReadTokenPromise words.now offices plots result.refusal result.session }
 {
     let read = frame::token::read_token(words, offices, plots);
@@ -17,8 +16,7 @@ pub extern "C" fn burial_read_token(words: &[u32], offices: u32, plots: u32) -> 
 }
 
 // 01: write a slip.
-#[unsafe(no_mangle)]
-pub extern "C" fn burial_write_token(session: Session, out: &mut [u32]) -> WordsAnswer
+pub fn burial_write_token(session: Session, out: &mut [u32]) -> WordsAnswer
     ensures { WriteTokenPromise session out.old (record { code = result.refusal; words = result.words }) out.new }
 {
     let written = frame::token::write_token(session, out);

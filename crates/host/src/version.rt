@@ -4,8 +4,7 @@ ghost use Rattle.host.specs.Version.{VersionPromise};
 const VERSION: u32 = 0x01_0200;
 
 // Which version is linked.
-#[unsafe(no_mangle)]
-pub extern "C" fn burial_version() -> u32
+pub fn burial_version() -> u32
     ensures { VersionPromise result }
 {
     VERSION

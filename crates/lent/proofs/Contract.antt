@@ -1,6 +1,6 @@
 -- The calls that lend a session make the same steps of a run: the code of each meets its contract (`-met`), which is the promise of the call by
 -- value, of the session as it is left (`-is`), and asks for nothing (`-asks`). Assumes nothing.
-use Rattle.core.specs.Prelude.{◌≡◌, ℕ}
+use Rattle.std.specs.Prelude.{◌≡◌, ℕ}
 use mathlib.Core.Path.{refl}
 use base.Logic.{SProp, emp}
 use contract.Monad.{Fun, fact}

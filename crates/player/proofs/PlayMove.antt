@@ -24,9 +24,6 @@ use Rattle.player.proofs.PlayWrite.{plays_by}
 none : (k : ℕ) → k < 2 → OneOf (2 ∷ 3 ∷ 4 ∷ []) k → ⊥
 none k l h = ⊎_elim (λ (e : k ≡ 2). omega arith) (λ (m : (k ≡ 3) ⊎ (k ≡ 4)). ⊎_elim (λ (e : k ≡ 3). omega arith) (λ (e : k ≡ 4). omega arith) m) h
 
-between : (k : ℕ) → 1 < k → k < 4 → OneOf (0 ∷ 1 ∷ 4 ∷ []) k → ⊥
-between k l m h = ⊎_elim (λ (e : k ≡ 0). omega arith) (λ (n : (k ≡ 1) ⊎ (k ≡ 4)). ⊎_elim (λ (e : k ≡ 1). omega arith) (λ (e : k ≡ 4). omega arith) n) h
-
 -- ---- which lines no session plays, by the number of the variant
 
 pub no_session : (line : Line) → OneOf (2 ∷ 3 ∷ 4 ∷ []) (tag_of the_type line) → sessionless line ≡ line
@@ -36,12 +33,12 @@ no_session (Move i o) h = refl
 no_session (Receive o) h = refl
 no_session Other h = refl
 
-pub odd_line : (line : Line) → OneOf (0 ∷ 1 ∷ 4 ∷ []) (tag_of the_type line) → sessionless line ≡ Other
-odd_line (Write i plot value) h = refl
-odd_line (Read i plot) h = refl
-odd_line (Move i o) h = absurd (between 2 (omega arith) (omega arith) h)
-odd_line (Receive o) h = absurd (between 3 (omega arith) (omega arith) h)
-odd_line Other h = refl
+pub odd_line : (line : Line) → ((i o : ℕ) → line ≡ Move i o → ⊥) → ((o : ℕ) → line ≡ Receive o → ⊥) → sessionless line ≡ Other
+odd_line (Write i plot value) h k = refl
+odd_line (Read i plot) h k = refl
+odd_line (Move i o) h k = absurd (h i o refl)
+odd_line (Receive o) h k = absurd (k o refl)
+odd_line Other h k = refl
 
 module _ (g : Scene) (d : Desk) (stores lines : List ℕ) (S : Shows g d stores lines) (row : List ℕ) where
   pub receive_odd : (o : ℕ) → 2 < o → Plays row g (Receive o) (record { desk = d; reply = Odd }) stores lines

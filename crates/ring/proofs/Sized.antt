@@ -50,13 +50,13 @@ sized_read ws s plot h =
     sized_if (read_plot ws (content_of s) plot).code s (noted_in (current (reveal (office_of ws) s.read) plot) s) h
     (sized_noted (current (reveal (office_of ws) s.read) plot) s ∙ h)
 
-sized_joint : (ws : List ℕ) (s : Session) (plots row : List ℕ) → length s.own ≡ 16 → length (read_joint_session ws s plots row).own_val ≡ 16
+sized_joint : (ws : List ℕ) (s : Session) (plots row : List ℕ) → length s.own ≡ 16 → length (read_joint_session ws s plots row).own ≡ 16
 unfolding read_joint_session
 sized_joint ws s plots row h =
     sized_if (read_joint ws (content_of s) plots row).code s (noted_all_in (reveal (office_of ws) s.read) plots s) h
     (sized_all (reveal (office_of ws) s.read) plots s ∙ h)
 
-sized_write : (ws : List ℕ) (s : Session) (plot value : ℕ) (row : List ℕ) → length s.own ≡ 16 → length (write_session ws s plot value row).own_val ≡ 16
+sized_write : (ws : List ℕ) (s : Session) (plot value : ℕ) (row : List ℕ) → length s.own ≡ 16 → length (write_session ws s plot value row).own ≡ 16
 unfolding write_session extended_by
 sized_write ws s plot value row h =
     sized_if (write ws (content_of s) plot value row).code s (extended_by s (new_entry (office_of ws) (content_of s) plot value)) h

@@ -6,19 +6,20 @@ use Rattle.player.proofs.play.play_other.Goals as goal
 pub returns-then-office-gt2 : goal.returns-then-office-gt2
 returns-then-office-gt2 c = λ ss g T.
     let a = c.args in
-    rw c.line-in-Receive-1.given.1 (mv.receive_odd g (desk ss a.board) a.stores.now a.lines.now T a.out.now c.line-in-Receive-1.given.0.0 c.if-office-gt2.true)
+    rw c.in-Receive.is (mv.receive_odd g (desk ss a.board) a.stores.now a.lines.now T a.out.now c.in-Receive.office c.if-office-gt2.true)
 
 pub returns-in-Move : goal.returns-in-Move
 returns-in-Move c = λ ss g T.
     let a = c.args in
-    rw c.line-1.given.1 (c.move_line.ensures ss a.out.now a.stores.now a.lines.now g T)
+    rw c.in-Move.is (c.move_line.ensures ss a.out.now a.stores.now a.lines.now g T)
 
 pub returns-else-office-gt2 : goal.returns-else-office-gt2
 returns-else-office-gt2 c = λ ss g T.
     let a = c.args in
-    rw c.line-in-Receive-1.given.1 (c.receive_line.ensures ss g T)
+    rw c.in-Receive.is (c.receive_line.ensures ss g T)
 
 pub returns-in_default : goal.returns-in_default
 returns-in_default c = λ ss g T.
     let a = c.args in
-    rw (mv.odd_line a.line c.in_default.keys3) (mv.other_odd g (desk ss a.board) a.stores.now a.lines.now T a.out.now)
+    let odd = mv.odd_line a.line c.in_default.not-Move c.in_default.not-Receive in
+    rw odd (mv.other_odd g (desk ss a.board) a.stores.now a.lines.now T a.out.now)

@@ -72,11 +72,11 @@ deliver-mid-requires c = let a = c.args in
       rw e N.start,
       S.long_lines,
       q.auto.out ∙ c.requires.1,
-      omega (arith, lr.small g d a.stores.now a.lines.now S a.office c.requires.0 a.out.now _ O.rest O.are _ c.next_of-next.ensures c.receive_at-written.result c.receive_at-written.new.stores c.receive_at-written.new.out c.receive_at-written.ensures.0 c.receive_at-written.ensures.1 c.written-in-Words-1.given.0.0 c.written-in-Words-1.given.1, c.requires.1),
+      omega (arith, lr.small g d a.stores.now a.lines.now S a.office c.requires.0 a.out.now _ O.rest O.are _ c.next_of-next.ensures c.receive_at-written.result c.receive_at-written.new.stores c.receive_at-written.new.out c.receive_at-written.ensures.0 c.receive_at-written.ensures.1 c.in-Words.words c.in-Words.is, c.requires.1),
       (
         _,
-        lr.cut g d a.stores.now a.lines.now S a.office c.requires.0 a.out.now _ O.rest O.are _ c.next_of-next.ensures c.receive_at-written.result c.receive_at-written.new.stores c.receive_at-written.new.out c.receive_at-written.ensures.0 c.receive_at-written.ensures.1 c.written-in-Words-1.given.0.0 c.written-in-Words-1.given.1,
-        lr.ahead_goes g d a.stores.now a.lines.now S a.office c.requires.0 a.out.now _ O.rest O.are _ c.next_of-next.ensures c.receive_ahead-ahead.result (c.receive_ahead-ahead.ensures a.out.now c.requires.1) c.enum_told-in-Goes-1.given.1 (lr.code g d a.stores.now a.lines.now S a.office c.requires.0 a.out.now _ O.rest O.are _ c.next_of-next.ensures c.receive_at-written.result c.receive_at-written.new.stores c.receive_at-written.new.out c.receive_at-written.ensures.0 c.receive_at-written.ensures.1 c.written-in-Words-1.given.0.0 c.written-in-Words-1.given.1),
+        lr.cut g d a.stores.now a.lines.now S a.office c.requires.0 a.out.now _ O.rest O.are _ c.next_of-next.ensures c.receive_at-written.result c.receive_at-written.new.stores c.receive_at-written.new.out c.receive_at-written.ensures.0 c.receive_at-written.ensures.1 c.in-Words.words c.in-Words.is,
+        lr.ahead_goes g d a.stores.now a.lines.now S a.office c.requires.0 a.out.now _ O.rest O.are _ c.next_of-next.ensures c.receive_ahead-ahead.result (c.receive_ahead-ahead.ensures a.out.now c.requires.1) c.in-Goes.is (lr.code g d a.stores.now a.lines.now S a.office c.requires.0 a.out.now _ O.rest O.are _ c.next_of-next.ensures c.receive_at-written.result c.receive_at-written.new.stores c.receive_at-written.new.out c.receive_at-written.ensures.0 c.receive_at-written.ensures.1 c.in-Words.words c.in-Words.is),
       ),
     )
 
@@ -87,7 +87,7 @@ without_oldest-after-requires c = let a = c.args in
     let Q = S.line a.office c.requires.0 in
     let O = pr.oldest a.lines.now a.office (first_at d a.office) (count_at d a.office) _ S.long_lines c.requires.0 c.if-count-eq0.false Q in
     let g = c.requires.2.1.0 in
-    let t = lr.still d (desk c.requires.2.0 c.deliver-mid.result) a.office _ _ c.requires.0 c.next_of-next.ensures ((c.deliver-mid.ensures _ (lr.cut g d a.stores.now a.lines.now S a.office c.requires.0 a.out.now _ O.rest O.are _ c.next_of-next.ensures c.receive_at-written.result c.receive_at-written.new.stores c.receive_at-written.new.out c.receive_at-written.ensures.0 c.receive_at-written.ensures.1 c.written-in-Words-1.given.0.0 c.written-in-Words-1.given.1)).0 c.requires.2.0) in
+    let t = lr.still d (desk c.requires.2.0 c.deliver-mid.result) a.office _ _ c.requires.0 c.next_of-next.ensures ((c.deliver-mid.ensures _ (lr.cut g d a.stores.now a.lines.now S a.office c.requires.0 a.out.now _ O.rest O.are _ c.next_of-next.ensures c.receive_at-written.result c.receive_at-written.new.stores c.receive_at-written.new.out c.receive_at-written.ensures.0 c.receive_at-written.ensures.1 c.in-Words.words c.in-Words.is)).0 c.requires.2.0) in
     (c.requires.0, omega (arith, t.0, Q.start), omega (arith, t.1, c.if-count-eq0.false))
 
 pub overflow_cast-result : goal.overflow_cast-result
@@ -107,26 +107,26 @@ returns-in-Full c = λ ss g T.
     let a = c.args in
     let d = desk ss a.board in
     let O = pr.oldest a.lines.now a.office (first_at d a.office) (count_at d a.office) _ T.long_lines c.requires.0 c.if-count-eq0.false (T.line a.office c.requires.0) in
-    lr.ahead_full g d a.stores.now a.lines.now T a.office c.requires.0 a.out.now _ O.rest O.are _ c.next_of-next.ensures c.receive_ahead-ahead.result (c.receive_ahead-ahead.ensures a.out.now c.requires.1) c.enum_told-1.given.1
+    lr.ahead_full g d a.stores.now a.lines.now T a.office c.requires.0 a.out.now _ O.rest O.are _ c.next_of-next.ensures c.receive_ahead-ahead.result (c.receive_ahead-ahead.ensures a.out.now c.requires.1) c.in-Full.is
 
 pub returns-in-Refused : goal.returns-in-Refused
 returns-in-Refused c = λ ss g T.
     let a = c.args in
     let d = desk ss a.board in
     let O = pr.oldest a.lines.now a.office (first_at d a.office) (count_at d a.office) _ T.long_lines c.requires.0 c.if-count-eq0.false (T.line a.office c.requires.0) in
-    lr.ahead_refused g d a.stores.now a.lines.now T a.office c.requires.0 a.out.now _ O.rest O.are _ c.next_of-next.ensures c.receive_ahead-ahead.result (c.receive_ahead-ahead.ensures a.out.now c.requires.1) c.ahead-1.given.0.0 c.ahead-1.given.1
+    lr.ahead_refused g d a.stores.now a.lines.now T a.office c.requires.0 a.out.now _ O.rest O.are _ c.next_of-next.ensures c.receive_ahead-ahead.result (c.receive_ahead-ahead.ensures a.out.now c.requires.1) c.in-Refused.code c.in-Refused.is
 
 pub returns-in-NotWritten : goal.returns-in-NotWritten
 returns-in-NotWritten c = λ ss g T.
     let a = c.args in
     let d = desk ss a.board in
     let O = pr.oldest a.lines.now a.office (first_at d a.office) (count_at d a.office) _ T.long_lines c.requires.0 c.if-count-eq0.false (T.line a.office c.requires.0) in
-    lr.line_refused g d a.stores.now a.lines.now T a.office c.requires.0 a.out.now _ O.rest O.are _ c.next_of-next.ensures c.receive_at-written.result c.receive_at-written.new.stores c.receive_at-written.new.out c.receive_at-written.ensures.0 c.receive_at-written.ensures.1 c.written-1.given.0.0 c.number_of-code.result c.written-1.given.1 c.number_of-code.ensures
+    lr.line_refused g d a.stores.now a.lines.now T a.office c.requires.0 a.out.now _ O.rest O.are _ c.next_of-next.ensures c.receive_at-written.result c.receive_at-written.new.stores c.receive_at-written.new.out c.receive_at-written.ensures.0 c.receive_at-written.ensures.1 c.in-NotWritten.refusal c.number_of-code.result c.in-NotWritten.is c.number_of-code.ensures
 
 pub returns-in-Words : goal.returns-in-Words
 returns-in-Words c = λ ss g T.
     let a = c.args in
     let d = desk ss a.board in
     let O = pr.oldest a.lines.now a.office (first_at d a.office) (count_at d a.office) _ T.long_lines c.requires.0 c.if-count-eq0.false (T.line a.office c.requires.0) in
-    let D = (c.deliver-mid.ensures _ (lr.cut g d a.stores.now a.lines.now T a.office c.requires.0 a.out.now _ O.rest O.are _ c.next_of-next.ensures c.receive_at-written.result c.receive_at-written.new.stores c.receive_at-written.new.out c.receive_at-written.ensures.0 c.receive_at-written.ensures.1 c.written-in-Words-1.given.0.0 c.written-in-Words-1.given.1)) in
-    lr.line_done g d a.stores.now a.lines.now T a.office c.requires.0 a.out.now _ O.rest O.are _ c.next_of-next.ensures c.receive_at-written.result c.receive_at-written.new.stores c.receive_at-written.new.out c.receive_at-written.ensures.0 c.receive_at-written.ensures.1 c.written-in-Words-1.given.0.0 c.written-in-Words-1.given.1 (lr.ahead_goes g d a.stores.now a.lines.now T a.office c.requires.0 a.out.now _ O.rest O.are _ c.next_of-next.ensures c.receive_ahead-ahead.result (c.receive_ahead-ahead.ensures a.out.now c.requires.1) c.enum_told-in-Goes-1.given.1 (lr.code g d a.stores.now a.lines.now T a.office c.requires.0 a.out.now _ O.rest O.are _ c.next_of-next.ensures c.receive_at-written.result c.receive_at-written.new.stores c.receive_at-written.new.out c.receive_at-written.ensures.0 c.receive_at-written.ensures.1 c.written-in-Words-1.given.0.0 c.written-in-Words-1.given.1)) (desk ss c.without_oldest-after.result) _ _ (c.without_oldest-after.ensures ss ∙ ap (λ (x : Desk). without_oldest x a.office) (D.0 ss)) D.1 refl
+    let D = (c.deliver-mid.ensures _ (lr.cut g d a.stores.now a.lines.now T a.office c.requires.0 a.out.now _ O.rest O.are _ c.next_of-next.ensures c.receive_at-written.result c.receive_at-written.new.stores c.receive_at-written.new.out c.receive_at-written.ensures.0 c.receive_at-written.ensures.1 c.in-Words.words c.in-Words.is)) in
+    lr.line_done g d a.stores.now a.lines.now T a.office c.requires.0 a.out.now _ O.rest O.are _ c.next_of-next.ensures c.receive_at-written.result c.receive_at-written.new.stores c.receive_at-written.new.out c.receive_at-written.ensures.0 c.receive_at-written.ensures.1 c.in-Words.words c.in-Words.is (lr.ahead_goes g d a.stores.now a.lines.now T a.office c.requires.0 a.out.now _ O.rest O.are _ c.next_of-next.ensures c.receive_ahead-ahead.result (c.receive_ahead-ahead.ensures a.out.now c.requires.1) c.in-Goes.is (lr.code g d a.stores.now a.lines.now T a.office c.requires.0 a.out.now _ O.rest O.are _ c.next_of-next.ensures c.receive_at-written.result c.receive_at-written.new.stores c.receive_at-written.new.out c.receive_at-written.ensures.0 c.receive_at-written.ensures.1 c.in-Words.words c.in-Words.is)) (desk ss c.without_oldest-after.result) _ _ (c.without_oldest-after.ensures ss ∙ ap (λ (x : Desk). without_oldest x a.office) (D.0 ss)) D.1 refl

@@ -66,11 +66,11 @@ deliver-after-requires c = let a = c.args in
       rw e N.start,
       S.long_lines,
       q.auto.out ∙ c.requires.1,
-      omega (arith, lw.small c.requires.2.2.0 d a.stores.now a.lines.now S a.i c.requires.0 a.s c.requires.2.1 a.plot a.value a.out.now _ c.next_of-next.ensures c.write_at-made.result.written c.write_at-made.result.entry c.write_at-made.new.stores c.write_at-made.new.out c.write_at-made.ensures.0 c.write_at-made.ensures.1 c.written-in-Words-1.given.0.0 c.written-in-Words-1.given.1, c.requires.1),
+      omega (arith, lw.small c.requires.2.2.0 d a.stores.now a.lines.now S a.i c.requires.0 a.s c.requires.2.1 a.plot a.value a.out.now _ c.next_of-next.ensures c.write_at-made.result.written c.write_at-made.result.entry c.write_at-made.new.stores c.write_at-made.new.out c.write_at-made.ensures.0 c.write_at-made.ensures.1 c.in-Words.words c.in-Words.is, c.requires.1),
       (
         _,
-        lw.cut c.requires.2.2.0 d a.stores.now a.lines.now S a.i c.requires.0 a.s c.requires.2.1 a.plot a.value a.out.now _ c.next_of-next.ensures c.write_at-made.result.written c.write_at-made.result.entry c.write_at-made.new.stores c.write_at-made.new.out c.write_at-made.ensures.0 c.write_at-made.ensures.1 c.written-in-Words-1.given.0.0 c.written-in-Words-1.given.1,
-        lw.ahead_goes c.requires.2.2.0 d a.stores.now a.lines.now S a.i c.requires.0 a.s c.requires.2.1 a.plot a.value a.out.now _ c.next_of-next.ensures c.write_ahead-ahead.result (c.write_ahead-ahead.ensures a.out.now c.requires.1) c.enum_told-in-Goes-1.given.1 (lw.code c.requires.2.2.0 d a.stores.now a.lines.now S a.i c.requires.0 a.s c.requires.2.1 a.plot a.value a.out.now _ c.next_of-next.ensures c.write_at-made.result.written c.write_at-made.result.entry c.write_at-made.new.stores c.write_at-made.new.out c.write_at-made.ensures.0 c.write_at-made.ensures.1 c.written-in-Words-1.given.0.0 c.written-in-Words-1.given.1),
+        lw.cut c.requires.2.2.0 d a.stores.now a.lines.now S a.i c.requires.0 a.s c.requires.2.1 a.plot a.value a.out.now _ c.next_of-next.ensures c.write_at-made.result.written c.write_at-made.result.entry c.write_at-made.new.stores c.write_at-made.new.out c.write_at-made.ensures.0 c.write_at-made.ensures.1 c.in-Words.words c.in-Words.is,
+        lw.ahead_goes c.requires.2.2.0 d a.stores.now a.lines.now S a.i c.requires.0 a.s c.requires.2.1 a.plot a.value a.out.now _ c.next_of-next.ensures c.write_ahead-ahead.result (c.write_ahead-ahead.ensures a.out.now c.requires.1) c.in-Goes.is (lw.code c.requires.2.2.0 d a.stores.now a.lines.now S a.i c.requires.0 a.s c.requires.2.1 a.plot a.value a.out.now _ c.next_of-next.ensures c.write_at-made.result.written c.write_at-made.result.entry c.write_at-made.new.stores c.write_at-made.new.out c.write_at-made.ensures.0 c.write_at-made.ensures.1 c.in-Words.words c.in-Words.is),
       ),
     )
 
@@ -78,28 +78,28 @@ pub returns-in-Full : goal.returns-in-Full
 returns-in-Full c = let a = c.args in
     let u = c.not_done in (
       lw.not_more u.result a.s u.ensures.1,
-      λ ss g own T. let d = desk ss a.board in lw.undone _ g _ ss a.i a.s a.board u.result _ _ _ own u.ensures (lw.ahead_full g d a.stores.now a.lines.now T a.i c.requires.0 a.s own a.plot a.value a.out.now _ c.next_of-next.ensures c.write_ahead-ahead.result (c.write_ahead-ahead.ensures a.out.now c.requires.1) c.enum_told-1.given.1),
+      λ ss g own T. let d = desk ss a.board in lw.undone _ g _ ss a.i a.s a.board u.result _ _ _ own u.ensures (lw.ahead_full g d a.stores.now a.lines.now T a.i c.requires.0 a.s own a.plot a.value a.out.now _ c.next_of-next.ensures c.write_ahead-ahead.result (c.write_ahead-ahead.ensures a.out.now c.requires.1) c.in-Full.is),
     )
 
 pub returns-in-Refused : goal.returns-in-Refused
 returns-in-Refused c = let a = c.args in
     let u = c.not_done-in-Refused in (
       lw.not_more u.result a.s u.ensures.1,
-      λ ss g own T. let d = desk ss a.board in lw.undone _ g _ ss a.i a.s a.board u.result _ _ _ own u.ensures (lw.ahead_refused g d a.stores.now a.lines.now T a.i c.requires.0 a.s own a.plot a.value a.out.now _ c.next_of-next.ensures c.write_ahead-ahead.result (c.write_ahead-ahead.ensures a.out.now c.requires.1) c.ahead-1.given.0.0 c.ahead-1.given.1),
+      λ ss g own T. let d = desk ss a.board in lw.undone _ g _ ss a.i a.s a.board u.result _ _ _ own u.ensures (lw.ahead_refused g d a.stores.now a.lines.now T a.i c.requires.0 a.s own a.plot a.value a.out.now _ c.next_of-next.ensures c.write_ahead-ahead.result (c.write_ahead-ahead.ensures a.out.now c.requires.1) c.in-Refused.code c.in-Refused.is),
     )
 
 pub returns-in-NotWritten : goal.returns-in-NotWritten
 returns-in-NotWritten c = let a = c.args in
     let u = c.not_done-in-NotWritten in (
       lw.not_more u.result a.s u.ensures.1,
-      λ ss g own T. let d = desk ss a.board in lw.undone _ g _ ss a.i a.s a.board u.result _ _ _ own u.ensures (lw.line_refused g d a.stores.now a.lines.now T a.i c.requires.0 a.s own a.plot a.value a.out.now _ c.next_of-next.ensures c.write_at-made.result.written c.write_at-made.result.entry c.write_at-made.new.stores c.write_at-made.new.out c.write_at-made.ensures.0 c.write_at-made.ensures.1 c.written-1.given.0.0 c.number_of-code.result c.written-1.given.1 c.number_of-code.ensures),
+      λ ss g own T. let d = desk ss a.board in lw.undone _ g _ ss a.i a.s a.board u.result _ _ _ own u.ensures (lw.line_refused g d a.stores.now a.lines.now T a.i c.requires.0 a.s own a.plot a.value a.out.now _ c.next_of-next.ensures c.write_at-made.result.written c.write_at-made.result.entry c.write_at-made.new.stores c.write_at-made.new.out c.write_at-made.ensures.0 c.write_at-made.ensures.1 c.in-NotWritten.refusal c.number_of-code.result c.in-NotWritten.is c.number_of-code.ensures),
     )
 
 pub returns-in-Words : goal.returns-in-Words
 returns-in-Words c = let a = c.args in (
-      (λ (_ : true ≡ true). let d = desk c.requires.2.0 a.board in lw.few c.requires.2.2.0 d a.stores.now a.lines.now c.requires.2.2.1 a.i c.requires.0 a.s c.requires.2.1 a.plot a.value a.out.now _ c.next_of-next.ensures c.write_at-made.result.written c.write_at-made.result.entry c.write_at-made.new.stores c.write_at-made.new.out c.write_at-made.ensures.0 c.write_at-made.ensures.1 c.written-in-Words-1.given.0.0 c.written-in-Words-1.given.1),
+      (λ (_ : true ≡ true). let d = desk c.requires.2.0 a.board in lw.few c.requires.2.2.0 d a.stores.now a.lines.now c.requires.2.2.1 a.i c.requires.0 a.s c.requires.2.1 a.plot a.value a.out.now _ c.next_of-next.ensures c.write_at-made.result.written c.write_at-made.result.entry c.write_at-made.new.stores c.write_at-made.new.out c.write_at-made.ensures.0 c.write_at-made.ensures.1 c.in-Words.words c.in-Words.is),
       λ ss g own T.
           let d = desk ss a.board in
-          let D = c.deliver-after.ensures _ (lw.cut g d a.stores.now a.lines.now T a.i c.requires.0 a.s own a.plot a.value a.out.now _ c.next_of-next.ensures c.write_at-made.result.written c.write_at-made.result.entry c.write_at-made.new.stores c.write_at-made.new.out c.write_at-made.ensures.0 c.write_at-made.ensures.1 c.written-in-Words-1.given.0.0 c.written-in-Words-1.given.1) in
-          lw.line_done g d a.stores.now a.lines.now T a.i c.requires.0 a.s own a.plot a.value a.out.now _ c.next_of-next.ensures c.write_at-made.result.written c.write_at-made.result.entry c.write_at-made.new.stores c.write_at-made.new.out c.write_at-made.ensures.0 c.write_at-made.ensures.1 c.written-in-Words-1.given.0.0 c.written-in-Words-1.given.1 (lw.ahead_goes g d a.stores.now a.lines.now T a.i c.requires.0 a.s own a.plot a.value a.out.now _ c.next_of-next.ensures c.write_ahead-ahead.result (c.write_ahead-ahead.ensures a.out.now c.requires.1) c.enum_told-in-Goes-1.given.1 (lw.code g d a.stores.now a.lines.now T a.i c.requires.0 a.s own a.plot a.value a.out.now _ c.next_of-next.ensures c.write_at-made.result.written c.write_at-made.result.entry c.write_at-made.new.stores c.write_at-made.new.out c.write_at-made.ensures.0 c.write_at-made.ensures.1 c.written-in-Words-1.given.0.0 c.written-in-Words-1.given.1)) (desk ss c.deliver-after.result) _ (D.0 ss) D.1,
+          let D = c.deliver-after.ensures _ (lw.cut g d a.stores.now a.lines.now T a.i c.requires.0 a.s own a.plot a.value a.out.now _ c.next_of-next.ensures c.write_at-made.result.written c.write_at-made.result.entry c.write_at-made.new.stores c.write_at-made.new.out c.write_at-made.ensures.0 c.write_at-made.ensures.1 c.in-Words.words c.in-Words.is) in
+          lw.line_done g d a.stores.now a.lines.now T a.i c.requires.0 a.s own a.plot a.value a.out.now _ c.next_of-next.ensures c.write_at-made.result.written c.write_at-made.result.entry c.write_at-made.new.stores c.write_at-made.new.out c.write_at-made.ensures.0 c.write_at-made.ensures.1 c.in-Words.words c.in-Words.is (lw.ahead_goes g d a.stores.now a.lines.now T a.i c.requires.0 a.s own a.plot a.value a.out.now _ c.next_of-next.ensures c.write_ahead-ahead.result (c.write_ahead-ahead.ensures a.out.now c.requires.1) c.in-Goes.is (lw.code g d a.stores.now a.lines.now T a.i c.requires.0 a.s own a.plot a.value a.out.now _ c.next_of-next.ensures c.write_at-made.result.written c.write_at-made.result.entry c.write_at-made.new.stores c.write_at-made.new.out c.write_at-made.ensures.0 c.write_at-made.ensures.1 c.in-Words.words c.in-Words.is)) (desk ss c.deliver-after.result) _ (D.0 ss) D.1,
     )
