@@ -1,7 +1,6 @@
 use Prim.Native.Nat.{ℕ, ◌+◌, ◌-◌, ◌≤◌}
 use mathlib.Core.Bool.{true}
 use mathlib.Core.List.{List}
-use mathlib.Core.Logic.{⊎_elim}
 use mathlib.Core.Path.{◌∙◌, ◌≡◌, ap, refl, subst}
 use native.Mathlib.Omega.{arith}
 use lib.ListN.{length, set}
@@ -12,11 +11,11 @@ use Rattle.script.specs.Pendings.{pending_of}
 use Rattle.player.specs.Desks.{desk}
 use Rattle.player.specs.Play.{Scene}
 use Rattle.player.specs.Shows.{Shows}
-use Rattle.player.proofs.PlayMove.{no_session}
 use Rattle.ring_program.specs.Fed.{Follows, fed}
 use Rattle.ring_program.proofs.Feeding as fd
 use borrow.Author.Rules.{rules}
 use Rattle.ring_program.proofs.feed.feed_some.Goals as goal
+use Rattle.ring_program.proofs.feed.feed_some.Goals.{else-turn, in-Read, in-Write, in_default, then-turn}
 
 pub loop-i-init : goal.loop-i-init
 loop-i-init c = let a = c.args in
@@ -74,58 +73,58 @@ returns-then-not-taken c = let L = c.loop-i in
     )
 
 pub offset_bounds-sessions-who : goal.offset_bounds-sessions-who
-offset_bounds-sessions-who c = let low = subst Named c.line-1.given.1 c.parse-line.ensures.1 in omega arith
+offset_bounds-sessions-who c = let low = subst Named c.in-Write.is c.parse-line.ensures.1 in omega arith
 
 pub bounds-sessions-who : goal.bounds-sessions-who
-bounds-sessions-who c = let low = subst Named c.line-1.given.1 c.parse-line.ensures.1 in omega arith
+bounds-sessions-who c = let low = subst Named c.in-Write.is c.parse-line.ensures.1 in omega arith
 
 pub write_line-turn-requires : goal.write_line-turn-requires
 write_line-turn-requires c = let L = c.loop-i in
     let X = L.invariant.8 c.requires.3.0 c.requires.3.1 c.requires.3.2 c.requires.3.3 in
-    let low = subst Named c.line-1.given.1 c.parse-line.ensures.1 in
+    let low = subst Named c.in-Write.is c.parse-line.ensures.1 in
     (low, L.invariant.2 ∙ c.requires.0, (L.sessions, refl, (_, X.shows)))
 
 pub offset_bounds-sessions-who-then-turn : goal.offset_bounds-sessions-who-then-turn
-offset_bounds-sessions-who-then-turn c = let low = subst Named c.line-1.given.1 c.parse-line.ensures.1 in omega arith
+offset_bounds-sessions-who-then-turn c = let low = subst Named c.in-Write.is c.parse-line.ensures.1 in omega arith
 
 pub bounds-sessions-who-then-turn : goal.bounds-sessions-who-then-turn
-bounds-sessions-who-then-turn c = let low = subst Named c.line-1.given.1 c.parse-line.ensures.1 in omega arith
+bounds-sessions-who-then-turn c = let low = subst Named c.in-Write.is c.parse-line.ensures.1 in omega arith
 
 pub extended-grown-requires : goal.extended-grown-requires
 extended-grown-requires c = c.write_line-turn.ensures.0 c.if-turn.true
 
 pub offset_bounds-sessions-who-then-turn-2 : goal.offset_bounds-sessions-who-then-turn-2
-offset_bounds-sessions-who-then-turn-2 c = let low = subst Named c.line-1.given.1 c.parse-line.ensures.1 in omega arith
+offset_bounds-sessions-who-then-turn-2 c = let low = subst Named c.in-Write.is c.parse-line.ensures.1 in omega arith
 
 pub bounds-sessions-who-then-turn-2 : goal.bounds-sessions-who-then-turn-2
-bounds-sessions-who-then-turn-2 c = let low = subst Named c.line-1.given.1 c.parse-line.ensures.1 in omega arith
+bounds-sessions-who-then-turn-2 c = let low = subst Named c.in-Write.is c.parse-line.ensures.1 in omega arith
 
 pub put_reply-at-requires : goal.put_reply-at-requires
 put_reply-at-requires c = let L = c.loop-i in omega (arith, c.if-text-at-lt40.false, L.invariant.6)
 
 pub offset_bounds-sessions-who-in-Read : goal.offset_bounds-sessions-who-in-Read
-offset_bounds-sessions-who-in-Read c = let low = subst Named c.line-in-Read-1.given.1 c.parse-line.ensures.1 in omega arith
+offset_bounds-sessions-who-in-Read c = let low = subst Named c.in-Read.is c.parse-line.ensures.1 in omega arith
 
 pub bounds-sessions-who-in-Read : goal.bounds-sessions-who-in-Read
-bounds-sessions-who-in-Read c = let low = subst Named c.line-in-Read-1.given.1 c.parse-line.ensures.1 in omega arith
+bounds-sessions-who-in-Read c = let low = subst Named c.in-Read.is c.parse-line.ensures.1 in omega arith
 
 pub read_line-turn-requires : goal.read_line-turn-requires
 read_line-turn-requires c = let L = c.loop-i in
     let X = L.invariant.8 c.requires.3.0 c.requires.3.1 c.requires.3.2 c.requires.3.3 in
-    let low = subst Named c.line-in-Read-1.given.1 c.parse-line.ensures.1 in
+    let low = subst Named c.in-Read.is c.parse-line.ensures.1 in
     (low, (L.sessions, L.lines, refl, (_, X.shows)))
 
 pub offset_bounds-sessions-who-in-Read-2 : goal.offset_bounds-sessions-who-in-Read-2
-offset_bounds-sessions-who-in-Read-2 c = let low = subst Named c.line-in-Read-1.given.1 c.parse-line.ensures.1 in omega arith
+offset_bounds-sessions-who-in-Read-2 c = let low = subst Named c.in-Read.is c.parse-line.ensures.1 in omega arith
 
 pub bounds-sessions-who-in-Read-2 : goal.bounds-sessions-who-in-Read-2
-bounds-sessions-who-in-Read-2 c = let low = subst Named c.line-in-Read-1.given.1 c.parse-line.ensures.1 in omega arith
+bounds-sessions-who-in-Read-2 c = let low = subst Named c.in-Read.is c.parse-line.ensures.1 in omega arith
 
 pub offset_bounds-sessions-who-in-Read-3 : goal.offset_bounds-sessions-who-in-Read-3
-offset_bounds-sessions-who-in-Read-3 c = let low = subst Named c.line-in-Read-1.given.1 c.parse-line.ensures.1 in omega arith
+offset_bounds-sessions-who-in-Read-3 c = let low = subst Named c.in-Read.is c.parse-line.ensures.1 in omega arith
 
 pub bounds-sessions-who-in-Read-3 : goal.bounds-sessions-who-in-Read-3
-bounds-sessions-who-in-Read-3 c = let low = subst Named c.line-in-Read-1.given.1 c.parse-line.ensures.1 in omega arith
+bounds-sessions-who-in-Read-3 c = let low = subst Named c.in-Read.is c.parse-line.ensures.1 in omega arith
 
 pub put_reply-at-requires-in-Read : goal.put_reply-at-requires-in-Read
 put_reply-at-requires-in-Read c = let L = c.loop-i in omega (arith, c.if-text-at-lt40.false, L.invariant.6)
@@ -148,29 +147,30 @@ loop-i-preserved c = let a = c.args in
     let p = c.parse-line in
     let M = c.match-line in
     let T : fd.Turn p.result L.sessions L.board L.at L.stores L.lines L.out L.text M.sessions M.board M.at M.stores M.lines M.out M.text =
-    ⊎_elim
-    (λ w.
-    let q = w.7 in
-    let y = w.17 in
-    fd.turn_of _ _ _ _ _ _ _ _ q.result.reply _ q.result.board y.result _ _ _ _ q.kept.1.1.1.1.1.0 q.kept.1.1.1.1.1.1.0 q.kept.1.1.1.1.1.1.1.0 y.kept.1.0
-    (λ g S. rw w.1.given.1 (q.ensures.1 L.sessions g refl S)) y.ensures _ _ _ _ _ _ _
-    (w.24 ∙ ⊎_elim (λ v. fd.put_done L.sessions _ _ q.result.entry q.result.done _ v.0.taken v.3.ensures v.4) (λ v. fd.not_put L.sessions _ _ q.result.entry q.result.done v.0.left v.1) w.14.came)
-    w.25 w.26 w.20 w.21 w.22 w.23)
-    (λ v.
-    ⊎_elim
-    (λ w.
-    let q = w.5 in
-    let y = w.12 in
-    fd.turn_of _ _ _ _ _ _ _ _ q.result.reply _ L.board y.result _ _ _ _ q.kept.1.1.1.1.0 refl refl y.kept.1.0
-    (λ g S. rw w.1.given.1 (q.ensures L.sessions L.out L.lines g refl S)) y.ensures _ _ _ _ _ _ _
-    (w.19 ∙ ap (set L.sessions _) w.10.ensures) w.20 w.21 w.15 w.16 w.17 w.18)
-    (λ w.
-    let q = w.4 in
-    let y = w.13 in
-    fd.turn_of _ _ _ _ _ _ _ _ q.result.reply L.sessions q.result.board y.result _ _ _ _ q.kept.1.1.0 q.kept.1.1.1.0 q.kept.1.1.1.1.0 y.kept.1.0
-    (λ g S. rw (no_session p.result w.0.keys3) at (q.ensures L.sessions g S)) y.ensures _ _ _ _ _ _ _ w.20 w.21 w.22 w.16 w.17 w.18 w.19)
-    v)
-    M.branch
+    elim M.branch [
+      in-Write w ↦
+          let q = w.write_line-turn in
+          let y = w.put_reply-at in
+          fd.turn_of _ _ _ _ _ _ _ _ q.result.reply _ q.result.board y.result _ _ _ _ q.auto.stores q.auto.lines q.auto.out y.auto.text
+          (λ g S. rw w.in-Write.is (q.ensures.1 L.sessions g refl S)) y.ensures _ _ _ _ _ _ _
+          (w.sessions-is ∙ elim w.if-turn.branch [
+            then-turn v ↦ fd.put_done L.sessions _ _ q.result.entry q.result.done _ v.if-turn.true v.extended-grown.ensures v.sessions-is
+            | else-turn v ↦ fd.not_put L.sessions _ _ q.result.entry q.result.done v.if-turn.false v.sessions-is
+          ])
+          w.board-is w.at-is w.stores-is w.lines-is w.out-is w.text-is
+      | in-Read w ↦
+          let q = w.read_line-turn in
+          let y = w.put_reply-at-in-Read in
+          fd.turn_of _ _ _ _ _ _ _ _ q.result.reply _ L.board y.result _ _ _ _ q.auto.stores refl refl y.auto.text
+          (λ g S. rw w.in-Read.is (q.ensures L.sessions L.out L.lines g refl S)) y.ensures _ _ _ _ _ _ _
+          (w.sessions-is ∙ ap (set L.sessions _) w.with_seen-noted.ensures) w.board-is w.at-is w.stores-is w.lines-is w.out-is w.text-is
+      | in_default w ↦
+          let q = w.play_other-turn in
+          let y = w.put_reply-at-in_default in
+          fd.turn_of _ _ _ _ _ _ _ _ q.result.reply L.sessions q.result.board y.result _ _ _ _ q.auto.stores q.auto.lines q.auto.out y.auto.text
+          (λ g S. rw (fd.other_line p.result w.in_default.not-Write w.in_default.not-Read) at (q.ensures L.sessions g S)) y.ensures _ _ _ _ _ _ _
+          w.sessions-is w.board-is w.at-is w.stores-is w.lines-is w.out-is w.text-is
+    ]
     in (
       omega (arith, fd.taken_some _ _ _ _ k.ensures c.loop-i-test.true, L.invariant.0),
       k.ensures.within,
