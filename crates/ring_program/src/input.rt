@@ -1,6 +1,6 @@
 // Bytes of standard input.
 ghost use Rattle.std.specs.Prelude.{◌≡◌, ◌+◌, ◌≤◌, length};
-ghost use Rattle.core.specs.Result.{is_err, result_unwrap_or};
+ghost use Rattle.std.specs.Result.{is_err, result_unwrap_or};
 
 use std::io;
 use std::io::{Read, Stdin};

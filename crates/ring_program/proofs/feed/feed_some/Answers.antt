@@ -151,7 +151,7 @@ loop-i-preserved c = let a = c.args in
       in-Write w ↦
           let q = w.write_line-turn in
           let y = w.put_reply-at in
-          fd.turn_of _ _ _ _ _ _ _ _ q.result.reply _ q.result.board y.result _ _ _ _ q.auto.stores q.auto.lines q.auto.out y.auto.text
+          fd.turn_of _ _ _ _ _ _ _ _ q.result.reply _ q.result.board y.result _ _ _ _ q.auto.stores q.auto.lines q.auto.out y.auto.out
           (λ g S. rw w.in-Write.is (q.ensures.1 L.sessions g refl S)) y.ensures _ _ _ _ _ _ _
           (w.sessions-is ∙ elim w.if-turn.branch [
             then-turn v ↦ fd.put_done L.sessions _ _ q.result.entry q.result.done _ v.if-turn.true v.extended-grown.ensures v.sessions-is
@@ -161,13 +161,13 @@ loop-i-preserved c = let a = c.args in
       | in-Read w ↦
           let q = w.read_line-turn in
           let y = w.put_reply-at-in-Read in
-          fd.turn_of _ _ _ _ _ _ _ _ q.result.reply _ L.board y.result _ _ _ _ q.auto.stores refl refl y.auto.text
+          fd.turn_of _ _ _ _ _ _ _ _ q.result.reply _ L.board y.result _ _ _ _ q.auto.stores refl refl y.auto.out
           (λ g S. rw w.in-Read.is (q.ensures L.sessions L.out L.lines g refl S)) y.ensures _ _ _ _ _ _ _
           (w.sessions-is ∙ ap (set L.sessions _) w.with_seen-noted.ensures) w.board-is w.at-is w.stores-is w.lines-is w.out-is w.text-is
       | in_default w ↦
           let q = w.play_other-turn in
           let y = w.put_reply-at-in_default in
-          fd.turn_of _ _ _ _ _ _ _ _ q.result.reply L.sessions q.result.board y.result _ _ _ _ q.auto.stores q.auto.lines q.auto.out y.auto.text
+          fd.turn_of _ _ _ _ _ _ _ _ q.result.reply L.sessions q.result.board y.result _ _ _ _ q.auto.stores q.auto.lines q.auto.out y.auto.out
           (λ g S. rw (fd.other_line p.result w.in_default.not-Write w.in_default.not-Read) at (q.ensures L.sessions g S)) y.ensures _ _ _ _ _ _ _
           w.sessions-is w.board-is w.at-is w.stores-is w.lines-is w.out-is w.text-is
     ]
