@@ -1,11 +1,10 @@
-use mathlib.Core.Path.{◌∙◌, ◌≡◌, refl, sym}
+use mathlib.Core.Path.{◌∙◌, refl, sym}
 use native.Mathlib.Omega.{arith}
-use lib.ListN.{length, take}
+use lib.ListN.{take}
 use lib.Seq.{length-take-le}
 use borrow.Author.Tests.{not-false, not-true}
 use Rattle.ring_program.proofs.Running as rn
 use Rattle.ring_program.proofs.Running.{Running}
-use borrow.Author.Rules.{rules}
 use Rattle.ring_program.proofs.run.Goals as goal
 
 pub open_ring-opened-requires : goal.open_ring-opened-requires

@@ -1,11 +1,6 @@
-use mathlib.Core.Path.{◌∙◌, ◌≡◌, refl, sym}
-use native.Mathlib.Omega.{arith}
-use lib.ListN.{length, take}
-use lib.Seq.{length-take-le}
-use borrow.Author.Tests.{not-false, not-true}
-use Rattle.ring_program.proofs.Running as rn
+use mathlib.Core.Path.{◌≡◌}
+use lib.ListN.{length}
 use Rattle.ring_program.proofs.Running.{Running}
-use borrow.Author.Rules.{rules}
 use Rattle.ring_program.proofs.run.Given as goal
 
 abbrev pub invariant-loop-left : goal.invariant-loop-left

@@ -1,7 +1,6 @@
 use Prim.Native.Nat.{ℕ}
 use mathlib.Core.List.{List}
 use Rattle.player.specs.Play.{Scene}
-use borrow.Author.Rules.{rules}
 use Rattle.ring_program.proofs.ending.close.Goals as goal
 
 pub returns-then-last : goal.returns-then-last

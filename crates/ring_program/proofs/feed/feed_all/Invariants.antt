@@ -1,16 +1,12 @@
 use Prim.Native.Nat.{ℕ, ◌-◌, ◌≤◌}
 use mathlib.Core.Bool.{true}
 use mathlib.Core.List.{List}
-use mathlib.Core.Path.{◌∙◌, ◌≡◌, refl, sym}
-use native.Mathlib.Omega.{arith}
+use mathlib.Core.Path.{◌≡◌}
 use lib.ListN.{length}
-use borrow.Author.Tests.{not-false, not-true}
-use Rattle.causal.proofs.Tests.{false_true}
 use Rattle.causal.specs.Lists.{part}
 use Rattle.script.specs.Pendings.{pending_of}
 use Rattle.player.specs.Play.{Scene}
 use Rattle.player.specs.Shows.{Shows}
-use Rattle.ring_program.proofs.Feeding as fd
 use Rattle.ring_program.specs.Fed.{Leads, desk_of, fed}
 use Rattle.ring_program.proofs.feed.feed_all.Given as goal
 

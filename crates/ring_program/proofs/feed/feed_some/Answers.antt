@@ -1,19 +1,10 @@
-use Prim.Native.Nat.{ℕ, ◌+◌, ◌-◌, ◌≤◌}
 use mathlib.Core.Bool.{true}
-use mathlib.Core.List.{List}
 use mathlib.Core.Path.{◌∙◌, ◌≡◌, ap, refl, subst}
 use native.Mathlib.Omega.{arith}
 use lib.ListN.{length, set}
 use borrow.Author.Tests.{not-false, not-true}
-use Rattle.causal.specs.Lists.{part}
 use Rattle.script.specs.Lines.{Named}
-use Rattle.script.specs.Pendings.{pending_of}
-use Rattle.player.specs.Desks.{desk}
-use Rattle.player.specs.Play.{Scene}
-use Rattle.player.specs.Shows.{Shows}
-use Rattle.ring_program.specs.Fed.{Follows, fed}
 use Rattle.ring_program.proofs.Feeding as fd
-use borrow.Author.Rules.{rules}
 use Rattle.ring_program.proofs.feed.feed_some.Goals as goal
 use Rattle.ring_program.proofs.feed.feed_some.Goals.{else-turn, in-Read, in-Write, in_default, then-turn}
 

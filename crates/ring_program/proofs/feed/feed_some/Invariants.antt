@@ -1,21 +1,14 @@
 use Prim.Native.Nat.{ℕ, ◌+◌, ◌-◌, ◌≤◌}
 use mathlib.Core.Bool.{true}
 use mathlib.Core.List.{List}
-use mathlib.Core.Logic.{⊎_elim}
-use mathlib.Core.Path.{◌∙◌, ◌≡◌, ap, refl, subst}
-use native.Mathlib.Omega.{arith}
-use lib.ListN.{length, set}
-use borrow.Author.Tests.{not-false, not-true}
+use mathlib.Core.Path.{◌≡◌}
+use lib.ListN.{length}
 use Rattle.causal.specs.Lists.{part}
-use Rattle.script.specs.Lines.{Named}
 use Rattle.script.specs.Pendings.{pending_of}
 use Rattle.player.specs.Desks.{desk}
 use Rattle.player.specs.Play.{Scene}
 use Rattle.player.specs.Shows.{Shows}
-use Rattle.player.proofs.PlayMove.{no_session}
 use Rattle.ring_program.specs.Fed.{Follows, fed}
-use Rattle.ring_program.proofs.Feeding as fd
-use borrow.Author.Rules.{rules}
 use Rattle.ring_program.proofs.feed.feed_some.Given as goal
 
 abbrev pub invariant-loop-i : goal.invariant-loop-i

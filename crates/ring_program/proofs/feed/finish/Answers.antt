@@ -3,7 +3,6 @@ use mathlib.Core.List.{List}
 use mathlib.Core.Path.{◌∙◌, sym}
 use Rattle.player.specs.Play.{Scene}
 use Rattle.ring_program.proofs.Feeding as fd
-use borrow.Author.Rules.{rules}
 use Rattle.ring_program.proofs.feed.finish.Goals as goal
 
 pub returns-then-is_empty : goal.returns-then-is_empty
