@@ -63,10 +63,16 @@ pub fn say(mut stderr: Stderr, ending: Ending) {
     match ending {
         Ending::Done => {}
         Ending::ReadFailed => {
-            write_all(&mut stderr, b"ring_program: standard input cannot be read\n");
+            write_all(
+                &mut stderr,
+                b"ring_program: standard input cannot be read\n",
+            );
         }
         Ending::WriteFailed => {
-            write_all(&mut stderr, b"ring_program: standard output cannot be written\n");
+            write_all(
+                &mut stderr,
+                b"ring_program: standard output cannot be written\n",
+            );
         }
         Ending::TooLong => {
             write_all(&mut stderr, b"ring_program: standard input is too long\n");

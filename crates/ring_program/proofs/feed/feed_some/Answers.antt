@@ -139,13 +139,13 @@ loop-i-preserved c = let a = c.args in
     let M = c.match-line in
     let T : fd.Turn p.result L.sessions L.board L.at L.stores L.lines L.out L.text M.sessions M.board M.at M.stores M.lines M.out M.text =
     elim M.branch [
-      in-Write w ↦
+      | in-Write w ↦
           let q = w.write_line-turn in
           let y = w.put_reply-at in
           fd.turn_of _ _ _ _ _ _ _ _ q.result.reply _ q.result.board y.result _ _ _ _ q.auto.stores q.auto.lines q.auto.out y.auto.out
           (λ g S. rw w.in-Write.is (q.ensures.1 L.sessions g refl S)) y.ensures _ _ _ _ _ _ _
           (w.sessions-is ∙ elim w.if-turn.branch [
-            then-turn v ↦ fd.put_done L.sessions _ _ q.result.entry q.result.done _ v.if-turn.true v.extended-grown.ensures v.sessions-is
+            | then-turn v ↦ fd.put_done L.sessions _ _ q.result.entry q.result.done _ v.if-turn.true v.extended-grown.ensures v.sessions-is
             | else-turn v ↦ fd.not_put L.sessions _ _ q.result.entry q.result.done v.if-turn.false v.sessions-is
           ])
           w.board-is w.at-is w.stores-is w.lines-is w.out-is w.text-is
