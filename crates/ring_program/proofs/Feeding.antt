@@ -20,6 +20,7 @@ use Rattle.script.specs.Lines.{line_of}
 use Rattle.script.specs.Pendings.{Takes, first_line, has_end, is_empty, line_size, parsed, pending_of}
 use Rattle.script.specs.Replies.{reply_bytes}
 use Rattle.script.specs.declared.line.Line.{Line}
+use Rattle.script.specs.declared.line.Line.TheVariants.{Move, Other, Read, Receive, Write}
 use Rattle.script.specs.declared.pending.Pending.{Pending}
 use Rattle.script.specs.declared.pending.Taken.{Taken}
 use Rattle.script.specs.declared.reply.Reply.{Reply}
@@ -28,7 +29,7 @@ use Rattle.player.specs.declared.board.Board.{Board}
 use Rattle.player.specs.Desks.{Desk, desk, no_session}
 use Rattle.player.specs.Play.{Scene, play}
 use Rattle.player.specs.Shows.{Shows}
-use Rattle.player.specs.Steps.{Plays}
+use Rattle.player.specs.Steps.{Plays, sessionless}
 use Rattle.player.proofs.Rows.{Plays-alike, play_alike, shows_alike}
 use Rattle.ring_program.specs.declared.feed.Stage.{Stage}
 use Rattle.ring_program.specs.Fed.{Fed, Finishes, Follows, Leads, after, desk_of, fed, last_fed, out_row}
@@ -138,6 +139,14 @@ turn_of line ss b at stores lines out text reply ss₁ b₁ n s₁ l₁ o₁ t�
       at_is = en ∙ R.0;
       text_is = et ∙ R.1;
     }
+
+-- a line that is neither a write nor a reading names no session
+pub other_line : (line : Line) → ((i plot value : ℕ) → line ≡ Write i plot value → ⊥) → ((i plot : ℕ) → line ≡ Read i plot → ⊥) → sessionless line ≡ line
+other_line (Write i plot value) h k = absurd (h i plot value refl)
+other_line (Read i plot) h k = absurd (k i plot refl)
+other_line (Move i o) h k = refl
+other_line (Receive o) h k = refl
+other_line Other h k = refl
 
 -- the sessions after a write: the one that wrote is put in its place only if the write was done
 module _ (ss ss' : List Session) (i : ℕ) (e : Entry) (done : Bool) where

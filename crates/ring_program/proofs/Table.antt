@@ -103,7 +103,7 @@ table =
           ∙ bytes.text;
       replies_unended =
           (whole_plays start [] unended).text
-          ∙ ap (λ (ls : List Line). text_of (play_all start (rowed ls)).1) bytes.whole-unended ∙ ap text_of table_plays.replies ∙ bytes.text;
+          ∙ ap (λ (ls : List Line). text_of (play_all start (rowed ls)).1) bytes.whole_unended ∙ ap text_of table_plays.replies ∙ bytes.text;
       entry_2_0 = three_clocks.keeps_2_0;
       entry_0_3 = three_clocks.keeps_0_3;
       entry_2_1 = three_clocks.keeps_2_1;

@@ -8,6 +8,8 @@ ghost use Rattle.ring_program.specs.Promises.{Closes};
 
 use crate::feed::{Stage, finish};
 use crate::input::Chunk;
+use crate::output::write_all;
+use std::io::{Stderr, Stdout};
 
 #[derive(Clone, Copy)]
 pub enum Ending {
@@ -26,6 +28,7 @@ pub struct Closed {
 // The last chunk, which has no bytes. At the input's end what is pending is the last line; before a failed read it may be half a line, and is
 // not played.
 pub fn close(
+    stdout: Stdout,
     stage: Stage,
     chunk: Chunk,
     stores: &mut [u32],
@@ -42,7 +45,7 @@ pub fn close(
             stage,
         };
     }
-    let last = finish(stage, stores, lines, out, text);
+    let last = finish(stdout, stage, stores, lines, out, text);
     if last.wrote {
         return Closed {
             ending: Ending::Done,
@@ -55,18 +58,24 @@ pub fn close(
     }
 }
 
-// A program has no exit status, so a failure is said on standard error.
-pub fn say(ending: Ending) {
+// A failure is said on standard error, and the exit status is 0 however the program ends.
+pub fn say(mut stderr: Stderr, ending: Ending) {
     match ending {
         Ending::Done => {}
         Ending::ReadFailed => {
-            io::write_all(2, b"ring_program: standard input cannot be read\n");
+            write_all(
+                &mut stderr,
+                b"ring_program: standard input cannot be read\n",
+            );
         }
         Ending::WriteFailed => {
-            io::write_all(2, b"ring_program: standard output cannot be written\n");
+            write_all(
+                &mut stderr,
+                b"ring_program: standard output cannot be written\n",
+            );
         }
         Ending::TooLong => {
-            io::write_all(2, b"ring_program: standard input is too long\n");
+            write_all(&mut stderr, b"ring_program: standard input is too long\n");
         }
     }
 }

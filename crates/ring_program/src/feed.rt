@@ -6,6 +6,7 @@ ghost use Rattle.player.specs.Play.{Scene};
 ghost use Rattle.player.specs.Shows.{Shows};
 ghost use Rattle.ring_program.specs.Fed.{Finishes, Follows, Leads, Staged, desk_of, fed};
 
+use crate::output::write_all;
 use frame::session::Session;
 use office::note::with_seen;
 use player::board::Board;
@@ -13,6 +14,7 @@ use player::play::{play_other, read_line, write_line};
 use script::line::Line;
 use script::pending::{Pending, is_empty, nothing, parse, take};
 use script::reply::put_reply;
+use std::io::Stdout;
 use writing::write::extended;
 
 // Between two bytes: the sessions and the board, the line whose end has not come, how many bytes of text there are, and whether every write so far
@@ -130,12 +132,12 @@ pub fn feed_some(
 }
 
 // The text goes out: the one place that writes replies.
-pub fn write_out(stage: Stage, text: &[u8]) -> Stage
+pub fn write_out(mut stdout: Stdout, stage: Stage, text: &[u8]) -> Stage
     requires { stage.at ≤ length text.now }
     ensures { (desk_of result ≡ desk_of stage) × (result.pending ≡ stage.pending) × (result.at ≡ 0) }
 {
     let at = stage.at;
-    let wrote = io::write_all(1, &text[..at]);
+    let wrote = write_all(&mut stdout, &text[..at]);
     let mut s = stage;
     s.at = 0;
     s.wrote = wrote;
@@ -144,6 +146,7 @@ pub fn write_out(stage: Stage, text: &[u8]) -> Stage
 
 // All bytes of a chunk, or those up to a failed write. The text is written out when it has less than 40 bytes of room, and at the end.
 pub fn feed_all(
+    stdout: Stdout,
     stage: Stage,
     bytes: &[u8],
     stores: &mut [u32],
@@ -167,7 +170,7 @@ pub fn feed_all(
             &mut *text,
         );
         let reached = some.stage;
-        let next = write_out(reached, text);
+        let next = write_out(stdout, reached, text);
         cur = next;
         from = some.next;
         if !cur.wrote {
@@ -185,6 +188,7 @@ pub fn feed_all(
 
 // The input has ended: "a line ends at a newline or the input's end, and no line begins at the input's end".
 pub fn finish(
+    stdout: Stdout,
     stage: Stage,
     stores: &mut [u32],
     lines: &mut [u32],
@@ -201,5 +205,5 @@ pub fn finish(
     let newline = [10u8; 1];
     let last = feed_some(stage, &newline, 0, stores, lines, out, &mut *text);
     let reached = last.stage;
-    write_out(reached, text)
+    write_out(stdout, reached, text)
 }

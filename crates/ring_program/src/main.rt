@@ -7,12 +7,14 @@ ghost use Rattle.ring_program.specs.Promises.{RunPromise};
 mod ending;
 mod feed;
 mod input;
+mod output;
 
 use ending::{Ending, close, say};
 use feed::{Stage, feed_all};
 use input::read_chunk;
 use player::opening::open_ring;
 use script::pending::nothing;
+use std::io::{Stdin, Stdout};
 
 // `brought` and `failed` are what the last read said.
 #[derive(Clone, Copy)]
@@ -26,6 +28,8 @@ pub struct Outcome {
 
 // A proved loop has to end, and nothing says that the input does: bytes are counted down from a number that no input has.
 fn run(
+    stdin: Stdin,
+    stdout: Stdout,
     stores: &mut [u32],
     lines: &mut [u32],
     out: &mut [u32],
@@ -48,11 +52,11 @@ fn run(
     };
     let mut left = u64::MAX;
     while left >= 4096 {
-        let chunk = read_chunk(&mut *input, left);
+        let chunk = read_chunk(stdin, &mut *input, left);
         left = chunk.left;
         let n = chunk.n;
         if n == 0 {
-            let closed = close(stage, chunk, stores, lines, out, text);
+            let closed = close(stdout, stage, chunk, stores, lines, out, text);
             let ending = closed.ending;
             let last = closed.stage;
             return Outcome {
@@ -64,6 +68,7 @@ fn run(
             };
         }
         let fed = feed_all(
+            stdout,
             stage,
             &input[..n],
             &mut *stores,
@@ -92,13 +97,21 @@ fn run(
     }
 }
 
-fn main() {
+fn main(rt: HostRuntime) {
     let mut stores = [0u32; 5241];
     let mut lines = [0u32; 9984];
     let mut out = [0u32; 1751];
     let mut input = [0u8; 4096];
     let mut text = [0u8; 8192];
-    let outcome = run(&mut stores, &mut lines, &mut out, &mut input, &mut text);
+    let outcome = run(
+        rt.stdin(),
+        rt.stdout(),
+        &mut stores,
+        &mut lines,
+        &mut out,
+        &mut input,
+        &mut text,
+    );
     let ending = outcome.ending;
-    say(ending);
+    say(rt.stderr(), ending);
 }

@@ -2,7 +2,6 @@ use borrow.Author.Tests.{not-true, not-false}
 use Rattle.host.proofs.Bytes.{bytes_1, bytes_odd, bytes_long, bytes_words}
 use native.Mathlib.Omega.{arith}
 use mathlib.Core.Path.{sym, ◌∙◌}
-use borrow.Author.Rules.{rules}
 use Rattle.host.proofs.frames.burial_check_frame.Goals as goal
 
 pub returns-then-not-ring_ok : goal.returns-then-not-ring_ok

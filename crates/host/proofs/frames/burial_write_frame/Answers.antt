@@ -1,5 +1,4 @@
 use mathlib.Core.Path.{◌∙◌}
-use borrow.Author.Rules.{rules}
 use Rattle.host.proofs.frames.burial_write_frame.Goals as goal
 
 pub returns : goal.returns

@@ -1,16 +1,15 @@
 use mathlib.Core.List.{List}
 use native.Mathlib.Nat.{zero-add}
-use lib.ListN.{length, set, replicate, length-set}
+use lib.ListN.{set, replicate, length-set}
 use lib.Seq.{sets, length-take-le}
 use Rattle.causal.proofs.Lists.{sets_tab}
 use Rattle.frame.specs.Calls.{read_frame_code}
 use Rattle.host.proofs.Bytes.{filled}
 use native.Mathlib.Omega.{arith}
-use Prim.Native.Nat.{ℕ, ◌-◌, ◌≤◌}
+use Prim.Native.Nat.{ℕ}
 use mathlib.Core.Path.{◌≡◌, refl, sym, ap, ◌∙◌}
 use Rattle.causal.specs.Lists.{tab}
 use Rattle.host.specs.Bytes.{word_at}
-use borrow.Author.Rules.{rules}
 use Rattle.host.proofs.frames.check_words.Goals as goal
 
 pub loop-i-init : goal.loop-i-init

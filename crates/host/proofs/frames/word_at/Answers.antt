@@ -1,6 +1,5 @@
 use native.Mathlib.Omega.{arith}
 use Rattle.host.specs.Bytes.{word_at}
-use borrow.Author.Rules.{rules}
 use Rattle.host.proofs.frames.word_at.Goals as goal
 
 pub returns : goal.returns

@@ -1,5 +1,4 @@
-use Rattle.std.proofs.Common.{List, ℕ, ◌<◌, ◌≡◌, get_or, refl, subst}
-use Rattle.frame.specs.Sessions.{nobody}
+use Rattle.std.proofs.Common.{List, ℕ, ◌<◌, refl, subst}
 use Rattle.frame.specs.declared.session.Session.{Session}
 use Rattle.office.specs.Promises.{WritePromise}
 use Rattle.office.proofs.Alone.{is_alone}

@@ -1,6 +1,5 @@
 use mathlib.Core.Path.{ap, ◌∙◌}
 use Rattle.office.specs.Decide.{with_seen}
-use borrow.Author.Rules.{rules}
 use Rattle.host.proofs.lent.joint_by_value.Goals as goal
 
 pub returns : goal.returns

@@ -1,6 +1,5 @@
 use mathlib.Core.Path.{ap, ◌∙◌}
 use Rattle.office.specs.Decide.{alone, with_seen}
-use borrow.Author.Rules.{rules}
 use Rattle.host.proofs.lent.plot_alone.Goals as goal
 
 pub returns : goal.returns

@@ -1,6 +1,5 @@
 use mathlib.Core.Path.{refl}
 use Rattle.host.proofs.Flags.{flag_low, flag_set}
-use borrow.Author.Rules.{rules}
 use Rattle.host.proofs.lent.plot_done.Goals as goal
 
 pub returns : goal.returns

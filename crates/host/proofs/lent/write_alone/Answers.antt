@@ -1,7 +1,6 @@
 use mathlib.Core.Path.{refl, ◌∙◌}
 use native.Mathlib.Omega.{arith}
 use Rattle.office.specs.Decide.{alone}
-use borrow.Author.Rules.{rules}
 use Rattle.host.proofs.lent.write_alone.Goals as goal
 
 pub write_done-requires : goal.write_done-requires

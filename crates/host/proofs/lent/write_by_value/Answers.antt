@@ -1,6 +1,5 @@
 use mathlib.Core.Path.{refl, ◌∙◌}
 use Rattle.writing.proofs.Writes.{wrote_few}
-use borrow.Author.Rules.{rules}
 use Rattle.host.proofs.lent.write_by_value.Goals as goal
 
 pub write_done-requires : goal.write_done-requires

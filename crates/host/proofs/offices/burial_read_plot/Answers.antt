@@ -1,5 +1,4 @@
 use mathlib.Core.Path.{◌∙◌}
-use borrow.Author.Rules.{rules}
 use Rattle.host.proofs.Flags.{flag_low, flag_set}
 use Rattle.host.proofs.offices.burial_read_plot.Goals as goal
 
