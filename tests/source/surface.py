@@ -4,7 +4,7 @@
 Contract.antt in the proofs of a crate ties each call to its promise and refuses a `requires`, but only of the calls that
 stand there. So here: each listed call is a public function, has no `requires`, has an `ensures` and is tied; each tied
 call and each export is listed. Crate host_c exports the calls of host: each export calls host's function of its module and
-name with its own arguments, has the same clauses, and no listed call of host is without one.
+name with its own arguments, has the same clauses and is tied to it, and no listed call of host is without one.
 """
 
 import pathlib
@@ -37,6 +37,16 @@ def ties_of(source):
     found = [m.groups() for m in TIE.finditer(source)]
     lines = set(source.split("\n"))
     return ["::".join(path) for *path, name in found if "use Rattle.{}.specs.contracts.{}.{} as {}Contract".format(*path, name) in lines]
+
+
+def ties_of_exports(source):
+    """The exports whose proof and clauses are named, beside the clauses of the function that they stand for."""
+    found = [m.groups() for m in TIE.finditer(source) if m.group(1) == EXPORTER and m.group(4).endswith("Export")]
+    lines = set(source.split("\n"))
+    for crate, module, name, export in found:
+        wanted = {(crate, f"{export}ed"), (EXPORTED, export.removesuffix("Export"))}
+        if all(f"use Rattle.{of}.specs.contracts.{module}.{name} as {known}" in lines for of, known in wanted):
+            yield f"{crate}::{module}::{name}"
 
 
 def functions_in(tree):
@@ -125,9 +135,10 @@ def forwards(function, to, file, crates):
     return [rattle.written(a) for a in rattle.split(body[end + 1 : -1])] == [field.name for field in function.fields]
 
 
-def unlike(function, functions, crates):
-    """Why an export is not the function that it stands for."""
-    name = exported("::".join(function.path))
+def unlike(function, functions, tied, crates):
+    """Why an export is not the function that it stands for, or not tied to it."""
+    own = "::".join(function.path)
+    name = exported(own)
     if function.path[0] != EXPORTER:
         return f"is an export, and not in {EXPORTER}"
     if name not in functions:
@@ -139,11 +150,11 @@ def unlike(function, functions, crates):
         return f"takes or gives other than {name}"
     if ours.clauses(function) != theirs.clauses(to):
         return f"has other clauses than {name}"
-    return None
+    return None if own in tied else f"is not in the Contract.antt of {EXPORTER}"
 
 
-def faults_of_exports(exports, functions, calls, crates):
-    wrong = [(f, why) for f in exports.values() if (why := unlike(f, functions, crates))]
+def faults_of_exports(exports, functions, calls, tied, crates):
+    wrong = [(f, why) for f in exports.values() if (why := unlike(f, functions, tied, crates))]
     faults = [f"{at(f)}: {'::'.join(f.path)} {why}" for f, why in wrong]
     there = {exported(name) for name in exports}
     lacking = [n for n in calls if n.startswith(f"{EXPORTED}::") and n in functions and n not in there]
@@ -169,6 +180,7 @@ def check(tree):
     there = {name: functions[name] for name in calls if name in functions}
     exports = {n: f for n, f in functions.items() if f.export}
     tied = {n: path for path, source in tree.items() if path.endswith(".antt") for n in ties_of(source)}
+    sent = {n for path, source in tree.items() if path.endswith(".antt") for n in ties_of_exports(source)}
     missing = [f"{LIST}:{line}: there is no `pub fn` {name}" for name, line in calls.items() if name not in there]
     if not calls:
         missing = [f"{LIST}:1: there is no table of calls in a section '{SECTION}'"]
@@ -184,7 +196,7 @@ def check(tree):
         (SAYS, len(there), silent),
         (TIED, len(there), loose),
         (LISTED, len(exports) + len(tied), unlisted),
-        (FORWARDS, len(exports), faults_of_exports(exports, functions, calls, Crates(tree))),
+        (FORWARDS, len(exports), faults_of_exports(exports, functions, calls, sent, Crates(tree))),
         (READ, len(functions), unread),
     ]
 
@@ -209,6 +221,9 @@ SENT = "crates/host_c/src/x.rt"
 CONTRACT = "crates/host/proofs/Contract.antt"
 PROOF = "use Rattle.host.proofs.x.burial_a as A\n"
 TIES = PROOF + "use Rattle.host.specs.contracts.x.burial_a as AContract\n"
+SENT_CONTRACT = "crates/host_c/proofs/Contract.antt"
+SENT_PROOF = "use Rattle.host_c.proofs.x.burial_a as AExport\nuse Rattle.host_c.specs.contracts.x.burial_a as AExported\n"
+SENT_TIES = "use Rattle.host.specs.contracts.x.burial_a as A\n" + SENT_PROOF
 ROWS = """# A
 
 ## Public calls
@@ -224,8 +239,8 @@ ROWS = """# A
 SAME = [(FORWARDS, f"{SENT}:2:")]
 
 
-def small(source=GOOD, rows=ROWS, ties=TIES, sent=EXPORT):
-    return {LIST: rows, SOURCE: source, CONTRACT: ties, SENT: sent}
+def small(source=GOOD, rows=ROWS, ties=TIES, sent=EXPORT, sent_ties=SENT_TIES):
+    return {LIST: rows, SOURCE: source, CONTRACT: ties, SENT: sent, SENT_CONTRACT: sent_ties}
 
 
 def contract(clauses):
@@ -255,7 +270,7 @@ TRIALS = [
     ("a private function", small(GOOD.replace("pub ", "")), [*UNREAD, *SAME]),
     (
         "an export that is not listed",
-        small(GOOD + GOOD.replace("_a", "_b"), sent=EXPORT + EXPORT.replace("_a", "_b")),
+        small(GOOD + GOOD.replace("_a", "_b"), sent=EXPORT + EXPORT.replace("_a", "_b"), sent_ties=SENT_TIES + SENT_TIES.replace("_a", "_b")),
         [(LISTED, f"{SENT}:8:")],
     ),
     ("an export in another form", small(sent=EXPORT + EXPORT.replace("pub ", "pub unsafe ")), [*NO_EXPORT, (READ, f"{SENT}:7:")]),
@@ -299,6 +314,9 @@ TRIALS = [
         small(GOOD.replace(ENSURES, NAMED), sent=EXPORT.replace(ENSURES, NAMED.replace("low", "lows"))),
         SAME,
     ),
+    ("an export that is not tied", small(sent_ties=""), SAME),
+    ("an export that is tied to no other function", small(sent_ties=SENT_PROOF), SAME),
+    ("an export that is tied to another function", small(sent_ties=SENT_TIES.replace("x.burial_a as A\n", "x.burial_b as A\n")), SAME),
     ("a clause with an operator brought in", small(GHOST + GOOD, sent=GHOST + EXPORT), []),
     (
         "a clause with an operator of another name",
