@@ -1,5 +1,5 @@
--- The calls that lend a session make the same steps of a run: the code of each meets its contract (`-met`), which is the promise of the call by
--- value, of the session as it is left (`-is`), and asks for nothing (`-asks`). Assumes nothing.
+-- The calls that lend a session make the same steps of a run: the code of each meets its contract (`_met`), which is the promise of the call by
+-- value, of the session as it is left (`_is`), and asks for nothing (`_asks`). Assumes nothing.
 use Rattle.std.specs.Prelude.{◌≡◌, ℕ}
 use mathlib.Core.Path.{refl}
 use base.Logic.{SProp, emp}
