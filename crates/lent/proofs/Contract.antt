@@ -13,7 +13,7 @@ use Rattle.frame.specs.declared.refusal.Status.{Status}
 use Rattle.frame.specs.declared.refusal.Written.{Written}
 use Rattle.frame.proofs.Contract.{Four, Lent, MutRow, Row, Three, Two}
 use Rattle.office.specs.Promises.{JointPromise, ReadPromise, WritePromise}
-use Rattle.lent.specs.declared.core.PlotAnswer.{PlotAnswer}
+use Rattle.lent.specs.declared.by_value.PlotAnswer.{PlotAnswer}
 use Rattle.lent.proofs.calls.read_joint as ReadJoint
 use Rattle.lent.specs.contracts.calls.read_joint as ReadJointContract
 use Rattle.lent.proofs.calls.read_plot as ReadPlot
