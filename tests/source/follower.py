@@ -4,7 +4,7 @@ import collections
 
 import rattle
 from crates import Values
-from rattle import Array, Named, Ref
+from rattle import Applied, Array, Named, Ref
 from rows import Rows, base_of, is_row
 
 FOLLOWED = "every call is followed"
@@ -82,7 +82,7 @@ class Follower:
             total = self.look_at_values(function)
             if self.walk.words & set(rows.of.values()):
                 self.sizes[name] = total
-        for what, line in rattle.odd_calls(function.body):
+        for what, line in rattle.odd_calls(function):
             self.fault(FOLLOWED, function.file, line, f"{what} in {function.path[-1]} is not followed")
         others = self.others(function, rows)
         self.look_at_words(function, rows, others)
@@ -217,7 +217,8 @@ class Follower:
         made = set()
         for name, line in rows.odd:
             at = next(i for i, t in enumerate(function.body) if t.line == line and t.text == name)
-            if not function.fields and rattle.before(function.body, at).text == "mut" and name not in made:
+            lent = any(isinstance(field.type, Ref) for field in function.fields)
+            if not lent and rattle.before(function.body, at).text == "mut" and name not in made:
                 made.add(name)
                 continue
             what = f"{function.path[-1]} names the row `{name}` otherwise than to lend, index or measure it"
@@ -252,6 +253,8 @@ class Follower:
         if callee is None or len(callee.fields) != len(call.arguments):
             self.not_found(call, path, function)
             return None
+        if callee.generic:
+            self.fault(FOLLOWED, function.file, call.line, f"{function.path[-1]} calls {callee.path[-1]}, which takes values of any type")
         tells = callee.result is not None or any(isinstance(f.type, Ref) and f.type.mutable and not is_row(f.type) for f in callee.fields)
         if others and lent & self.walk.words and tells and "::".join(callee.path) not in self.walk.tellers:
             what = f"is told by {callee.path[-1]}, which has a frame's words, and has {quoted(others)} to put them into"
@@ -281,7 +284,7 @@ class Follower:
                 continue
             if base in rows.of:
                 inner[field.name] = rows.of[base]
-            elif not self.walk.narrow or field.type.mutable and field.type.to.of == Named(("u32",)):
+            elif not self.walk.narrow or field.type.mutable and (isinstance(field.type.to, Applied) or field.type.to.of == Named(("u32",))):
                 what = f"{function.path[-1]} lends `{rattle.written(argument)}` to {callee.path[-1]}: no row that it was lent"
                 self.fault(LENT, function.file, call.line, what)
         return inner

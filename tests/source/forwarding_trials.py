@@ -11,6 +11,7 @@ MADE = "a hearing is made only by what is followed"
 Trial = collections.namedtuple("Trial", "name rule edits at", defaults=[None])
 
 HOST = "crates/host/src/offices.rt"
+EXPORTS = "crates/host_c/src/offices.rt"
 RECEIVE = "crates/hearing/src/receive.rt"
 FORWARD = "crates/hearing/src/forward.rt"
 HEARING = "crates/hearing/src/lib.rt"
@@ -18,7 +19,7 @@ ROW = "crates/causal/src/row.rt"
 PLAY = "crates/player/src/play.rt"
 FEED = "crates/ring_program/src/feed.rt"
 MAIN = "crates/ring_program/src/main.rt"
-UNREAD = "crates/host/src/hear.rt"  # not there
+UNREAD = "crates/host_c/src/hear.rt"  # not there
 
 # Lines of the source, in front of which or in place of which something is put.
 TAKEN = "    taken(store, frame, f, out)\n"
@@ -102,6 +103,8 @@ ROWS = [
         "a second row lent to the writer",
         LENT,
         [
+            (EXPORTS, "frame: &[u32], out: &mut [u32]) -> WordsAnswer", "frame: &[u32], out: &mut [u32], more: &mut [u32]) -> WordsAnswer"),
+            (EXPORTS, "receive(store, frame, out)\n", "receive(store, frame, out, more)\n"),
             (HOST, "frame: &[u32], out: &mut [u32]) -> WordsAnswer", "frame: &[u32], out: &mut [u32], more: &mut [u32]) -> WordsAnswer"),
             (HOST, "receive(store, frame, out);", "receive(store, frame, out, more);"),
             (RECEIVE, "frame: &[u32], out: &mut [u32]) -> Written", "frame: &[u32], out: &mut [u32], more: &mut [u32]) -> Written"),
@@ -110,7 +113,7 @@ ROWS = [
             (RECEIVE, SENT_ON, "    crate::forward::put_onward(frame, out, more);\n"),
             (FORWARD, WRITER, "pub fn put_onward(frame: &[u32], out: &mut [u32], more: &mut [u32])\n"),
         ],
-        (HOST, "more: &mut [u32]"),
+        (EXPORTS, "more: &mut [u32]"),
     ),
     Trial(
         "a local lent to the writer",
@@ -154,7 +157,7 @@ STORE = [
         STRAIGHT,
         taken("    let some = first_of(frame);\n"),
         before(RECEIVE, REVEALS, "struct Written {\n    a: u32,\n}\n\nfn first_of(frame: &[u32]) -> Written {}\n\n"),
-        (RECEIVE, "use frame::refusal::Written;\n", ""),
+        (RECEIVE, "use frame::refusal::{Refusal, Written};\n", "use frame::refusal::Refusal;\n"),
     ),
     hidden("another name for the row", LENT, taken("    let words = frame;\n" + TO_STORE)),
     Trial("another name with a type", STRAIGHT, [taken("    let words: &[u32] = &frame[..];\n" + TO_STORE)], (RECEIVE, "words[j]")),
@@ -341,15 +344,15 @@ BEHIND = [
     Trial(
         "another export lends a row of its own",
         MADE,
-        [before(HOST, EXPORT, f"fn hear(store: &mut [u32], {TWO_ROWS[1:]} {{\n    burial_receive(store, frame, &mut some);\n}}\n\n")],
-        (HOST, "burial_receive(store, frame, &mut some)"),
+        [before(EXPORTS, EXPORT, f"fn hear(store: &mut [u32], {TWO_ROWS[1:]} {{\n    burial_receive(store, frame, &mut some);\n}}\n\n")],
+        (EXPORTS, "burial_receive(store, frame, &mut some)"),
     ),
     Trial("an export in a file that is not read", MADE, [(UNREAD, "", "type Word = u32;\n")], (UNREAD, "type")),
     Trial(
         "another export hears",
         MADE,
-        [before(HOST, EXPORT, f"fn hear(store: &mut [u32], {TWO_ROWS[1:]} {{\n{EXPORTED}}}\n\n")],
-        (HOST, EXPORTED + "}"),
+        [before(EXPORTS, EXPORT, f"fn hear(store: &mut [u32], {TWO_ROWS[1:]} {{\n{EXPORTED}}}\n\n")],
+        (EXPORTS, EXPORTED + "}"),
     ),
 ]
 
@@ -376,3 +379,44 @@ FINE = [
 ]
 
 TRIALS = [*ROWS, *STORE, *FORMS, *CALLS, *BEHIND, *FINE]
+
+# Forms that the language has of late: types and functions with parameters, functions as values, groups of names, attributes, handles.
+REFUSALS = "use frame::refusal::{Refusal, Written};\n"
+NEWER = [
+    hidden("a row lent as any type", FOLLOWED, put("    keep(&mut *out, frame);\n"), declared("fn keep<T>(row: &mut T, frame: &[u32]) {}\n\n")),
+    Trial(
+        "the program lends a row as any type",
+        FOLLOWED,
+        [(FEED, PLAYED, PLAYED + "                keep(&mut *out);\n"), before(FEED, FEED_FIRST, "fn keep<T>(row: &mut T) {}\n\n")],
+        (FEED, "keep(&mut *out)"),
+    ),
+    hidden("a local vector", FOLLOWED, put("    let some: Vec<u32> = zeros();\n")),
+    Trial(
+        "a vector in a struct",
+        SMALL,
+        [declared("struct Row {\n    words: Vec<u32>,\n}\n\nfn keep(row: Row) {}\n\n"), put("    keep(other);\n")],
+        (FORWARD, "words: Vec<u32>"),
+    ),
+    Trial(
+        "the program lends a vector",
+        LENT,
+        [
+            (FEED, PLAYED, PLAYED + "                keep(&mut some, out);\n"),
+            before(FEED, FEED_FIRST, "fn keep(row: &mut Vec<u32>, out: &[u32]) {}\n\n"),
+        ],
+        (FEED, "keep(&mut some, out)"),
+    ),
+    Trial("a closure", FOLLOWED, [put("    let f = || frame[0];\n    let some = f();\n")], (FORWARD, "let some = f()")),
+    hidden("a function as a value", FOLLOWED, put("    let some = causal::row::copy_words;\n")),
+    Trial(
+        "another export names a hearing",
+        MADE,
+        [before(EXPORTS, EXPORT, "fn hear() {\n    let heard = hearing::receive::receive;\n}\n\n")],
+        (EXPORTS, "let heard"),
+    ),
+    hidden("another name in a group", FOLLOWED, (RECEIVE, REFUSALS, "use frame::refusal::{Refusal, Written as Wrote};\n")),
+    hidden("all names of a module", FOLLOWED, (RECEIVE, REFUSALS, "use frame::refusal::*;\n")),
+    hidden("an attribute that is not read", FOLLOWED, declared("#[cfg(other)]\n")),
+    hidden("a handle's method on a row", FOLLOWED, put("    out.stdin();\n")),
+    Trial("a group in a group", None, [(RECEIVE, REFUSALS, "use frame::{refusal::{self, Refusal, Written}, word};\n")]),
+]

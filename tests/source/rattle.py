@@ -18,6 +18,10 @@ TOKEN = re.compile(
 KEYWORDS = frozenset("as break const continue crate else enum extern fn for ghost if impl in let loop match mod mut pub".split())
 KEYWORDS |= frozenset("return self static struct super trait type unsafe use where while".split())
 CLOSING = {"(": ")", "[": "]", "{": "}"}
+HANDLES = frozenset("stdin stdout stderr".split())
+# What an attribute begins with; the one that gives a function its name in C is written in full.
+ATTRIBUTES = frozenset("derive inline repr tactic".split())
+NO_MANGLE = "unsafe ( no_mangle )"
 # How many words of 32 bits a number has.
 WIDTHS = {"bool": 1, "u8": 1, "u16": 1, "u32": 1, "i8": 1, "i16": 1, "i32": 1, "f32": 1}
 WIDTHS |= {"u64": 2, "usize": 2, "i64": 2, "isize": 2, "f64": 2}
@@ -28,11 +32,14 @@ Ref = collections.namedtuple("Ref", "mutable to")
 Slice = collections.namedtuple("Slice", "of")
 Array = collections.namedtuple("Array", "of length")
 Named = collections.namedtuple("Named", "path")
+# A type with arguments; they are kept as they are written.
+Applied = collections.namedtuple("Applied", "path arguments")
 Field = collections.namedtuple("Field", "name type line")
 Constant = collections.namedtuple("Constant", "name type line value")
 # A struct has one group of fields, an enum one for each variant.
 Declared = collections.namedtuple("Declared", "path file line groups choice")
-Function = collections.namedtuple("Function", "path file line public export fields result clauses body")
+Clause = collections.namedtuple("Clause", "kind name tokens line")
+Function = collections.namedtuple("Function", "path file line public export generic fields result clauses body")
 Call = collections.namedtuple("Call", "path arguments line")
 
 
@@ -103,7 +110,23 @@ def type_of(tokens):
         return Slice(type_of(parts[0])) if len(parts) == 1 else Array(type_of(parts[0]), tuple(parts[1]))
     if all(t.kind == "name" for t in tokens[::2]) and all(t.text == "::" for t in tokens[1::2]):
         return Named(tuple(t.text for t in tokens[::2]))
+    if first.kind == "name":
+        path, end = path_at(tokens, 0)
+        if behind(tokens, end).text == "<" and angle_end(tokens, end) == len(tokens):
+            return Applied(path, tuple(tokens[end + 1 : -1]))
     raise Unread(first.line, f"the type {written(tokens)}")
+
+
+def angle_end(tokens, at):
+    """The place behind the arguments that open at a `<`."""
+    depth = 0
+    for i in range(at, len(tokens)):
+        depth += {"<": 1, ">": -1, ">>": -2}.get(tokens[i].text, 0)
+        if depth <= 0 or not (tokens[i].kind in ("name", "lifetime") or tokens[i].text in ("<", ">", ">>", "::", ":", "+", ",", "(", ")")):
+            break
+    if depth:
+        raise Unread(tokens[at].line, "arguments of a type in this form")
+    return i + 1
 
 
 def written(tokens):
@@ -118,6 +141,8 @@ def shown(kind):
         return f"[{shown(kind.of)}]"
     if isinstance(kind, Array):
         return f"[{shown(kind.of)}; {written(kind.length)}]"
+    if isinstance(kind, Applied):
+        return f"{'::'.join(kind.path)}<{written(kind.arguments)}>"
     return "::".join(kind.path)
 
 
@@ -149,21 +174,29 @@ class File:
 
     def __init__(self, path, text):
         self.path, self.module = path, module_of(path)
-        self.functions, self.declared, self.constants, self.imports = {}, {}, {}, {}
+        self.functions, self.declared, self.constants, self.imports, self.ghosts = {}, {}, {}, {}, []
         tokens = tokens_of(text)
         at = 0
+        while written(tokens[at : at + 4]) == "# ! [ tactic":  # asks the prover for something, of the whole crate
+            at = end_of(tokens, at + 2)
         while at < len(tokens):
             at = self.item(tokens, at)
 
     def item(self, tokens, at):
         """Reads one item and gives the place behind it."""
-        first, words = tokens[at], []
+        first, words, marks = tokens[at], [], []
         while tokens[at].text == "#":
-            at = end_of(tokens, at + 1)
+            end = end_of(tokens, at + 1)
+            marks.append(written(tokens[at + 2 : end - 1]))
+            if marks[-1] != NO_MANGLE and marks[-1].split(" ")[0] not in ATTRIBUTES:
+                raise Unread(tokens[at].line, f"the attribute `{marks[-1]}`")
+            at = end
         while tokens[at].text in ("pub", "extern", "ghost") or tokens[at].kind == "text":
             words.append(tokens[at].text)
             at += 1
         keyword = tokens[at].text
+        if ("extern" in words or NO_MANGLE in marks) and not ('extern "C"' in " ".join(words) and NO_MANGLE in marks and keyword == "fn"):
+            raise Unread(first.line, "an export in this form")
         if keyword == "fn":
             return self.function(tokens, at, "pub" in words, "extern" in words)
         if keyword in ("struct", "enum"):
@@ -173,15 +206,27 @@ class File:
             raise Unread(first.line, f"an item that begins with `{tokens[at].text}`")
         if keyword == "const":
             self.constant(tokens[at + 1 : end])
-        if keyword == "use" and "ghost" not in words:
+        if keyword == "use" and "ghost" in words:
+            self.ghosts.append(tokens[at + 1 : end])
+        elif keyword == "use":
             self.named(tokens[at + 1 : end])
         return end + 1
 
-    def named(self, tokens):
-        kind = type_of(tokens)
-        if not isinstance(kind, Named):
+    def named(self, tokens, inside=()):
+        """Takes in the names of a `use`: a path, or a path and a group of such, `self` for the path before the group."""
+        group = next((at for at, token in enumerate(tokens) if token.text == "{"), len(tokens))
+        path = (*inside, *(t.text for t in tokens[:group:2]))
+        signs = [t.text for t in tokens[1:group:2]]
+        if not tokens or not all(t.kind == "name" for t in tokens[:group:2]) or signs != ["::"] * len(signs):
+            raise Unread(tokens[0].line if tokens else 0, "a `use` of this form")
+        if group == len(tokens):
+            path = path[:-1] if inside and path[-1] == "self" else path
+            self.imports[path[-1]] = path
+            return
+        if len(signs) != len(tokens[:group:2]) or end_of(tokens, group) != len(tokens):
             raise Unread(tokens[0].line, "a `use` of this form")
-        self.imports[kind.path[-1]] = kind.path
+        for part in split(tokens[group + 1 : -1]):
+            self.named(part, path)
 
     def constant(self, tokens):
         kind, value = split(tokens[2:], "=")
@@ -201,24 +246,34 @@ class File:
 
     def function(self, tokens, at, public, export):
         name, opening = tokens[at + 1], at + 2
+        generic = tokens[opening].text == "<"
+        opening = angle_end(tokens, opening) if generic else opening
         if tokens[opening].text != "(":
             raise Unread(name.line, f"the function {name.text}")
         at = end_of(tokens, opening)
         fields = fields_of(tokens[opening + 1 : at - 1])
-        result, clauses = None, {}
+        result, clauses = None, []
         if tokens[at].text == "->":
             end = at + next((i for i in top(tokens[at:]) if tokens[at + i].text in ("{", "requires", "ensures")), 0)
             result, at = type_of(tokens[at + 1 : end]), end
         while tokens[at].text in ("requires", "ensures"):
-            clauses.setdefault(tokens[at].text, tokens[at].line)
-            at = end_of(tokens, at + 1)
-        end = end_of(tokens, at)
+            kind, named = tokens[at], tokens[at + 1].kind == "name"
+            opening = at + 2 if named else at + 1
+            at = self.group(tokens, opening, name)
+            clauses.append(Clause(kind.text, tokens[opening - 1].text if named else None, tokens[opening + 1 : at - 1], kind.line))
+        end = self.group(tokens, at, name)
         path = (*self.module, name.text)
         if path in self.functions:
             raise Unread(name.line, f"a second function {name.text}")
         body = tokens[at + 1 : end - 1]
-        self.functions[path] = Function(path, self.path, name.line, public, export, fields, result, clauses, body)
+        self.functions[path] = Function(path, self.path, name.line, public, export, generic, fields, result, clauses, body)
         return end
+
+    def group(self, tokens, at, name):
+        """The place behind a clause or a body of a function."""
+        if tokens[at].text != "{":
+            raise Unread(tokens[at].line, f"what stands in front of the body of {name.text}")
+        return end_of(tokens, at)
 
 
 def module_of(path):
@@ -271,15 +326,23 @@ def calls_of(body):
             yield Call(path, split(body[end + 1 : end_of(body, end) - 1]), body[at].line)
 
 
-def odd_calls(body):
+def takes_handle(body, at, runtime):
+    """Is a method one of `rt.stdin()`, `rt.stdout()` and `rt.stderr()`, of the parameter that a program is run with? It takes and gives no row."""
+    asked = written(body[max(at - 3, 0) : at + 3]).split(" ")
+    return len(asked) == 6 and asked[0] != "." and asked[1:3] == [runtime, "."] and asked[3] in HANDLES and asked[4:] == ["(", ")"]
+
+
+def odd_calls(function):
     """What would be called, or brought in, in a form that is not followed: what it is, and its line."""
+    body = function.body
+    runtime = next((field.name for field in function.fields if field.type == Named(("HostRuntime",))), None)
     for at, token in enumerate(body):
         ahead, back = behind(body, at + 1).text, before(body, at)
         if token.text in ("use", "fn", "struct", "enum", "const", "type", "impl", "static", "unsafe"):
             yield f"`{token.text}` in a body", token.line
         if token.text == "(" and back.text in (")", "]"):
             yield "a call of what is no name", token.line
-        if is_name(token) and back.text == "." and ahead == "(" and token.text != "len":
+        if is_name(token) and back.text == "." and ahead == "(" and token.text != "len" and not takes_handle(body, at, runtime):
             yield f"the method {token.text}", token.line
         if is_name(token) and ahead == "!" and behind(body, at + 2).text in CLOSING:
             yield f"the macro {token.text}", token.line

@@ -3,7 +3,8 @@
 
 Contract.antt in the proofs of a crate ties each call to its promise and refuses a `requires`, but only of the calls that
 stand there. So here: each listed call is a public function, has no `requires`, has an `ensures` and is tied; each tied
-call and each export of crates/host is listed.
+call and each export is listed. Crate host_c exports the calls of host: each export calls host's function of its module and
+name with its own arguments, has the same clauses and is tied to it, and no listed call of host is without one.
 """
 
 import pathlib
@@ -13,23 +14,39 @@ import sys
 sys.dont_write_bytecode = True
 
 import rattle
+from crates import Crates
+from rattle import Applied, Array, Named, Ref, Slice
 
 LIST = "docs/ARCHITECTURE.md"
 SECTION = "## Public calls"
 ROW = re.compile(r"\|\s*`([a-z0-9_]+(?:::[a-z0-9_]+)+)`\s*\|")
-EXPORTS = "crates/host/src/"
-TIE = re.compile(r"^use Rattle·(\w+)·proofs\.proofs\.(\w+)\.(\w+) as ", re.MULTILINE)
+EXPORTER, EXPORTED = "host_c", "host"
+TIE = re.compile(r"^use Rattle\.(\w+)\.proofs\.(\w+)\.(\w+) as (\w+)$", re.MULTILINE)
 
 PUBLIC = "a listed call is a public function"
 ASKS = "a listed call requires nothing"
 SAYS = "a listed call ensures something"
 TIED = "a listed call is tied to its promise"
 LISTED = "an export and a tied call are listed"
+FORWARDS = "an export calls the function of its name, with its clauses"
 READ = "every file is read"
 
 
 def ties_of(source):
-    return ["::".join(m.groups()) for m in TIE.finditer(source)]
+    """The calls whose proof and whose clauses are named, the clauses as the proof with `Contract`."""
+    found = [m.groups() for m in TIE.finditer(source)]
+    lines = set(source.split("\n"))
+    return ["::".join(path) for *path, name in found if "use Rattle.{}.specs.contracts.{}.{} as {}Contract".format(*path, name) in lines]
+
+
+def ties_of_exports(source):
+    """The exports whose proof and clauses are named, beside the clauses of the function that they stand for."""
+    found = [m.groups() for m in TIE.finditer(source) if m.group(1) == EXPORTER and m.group(4).endswith("Export")]
+    lines = set(source.split("\n"))
+    for crate, module, name, export in found:
+        wanted = {(crate, f"{export}ed"), (EXPORTED, export.removesuffix("Export"))}
+        if all(f"use Rattle.{of}.specs.contracts.{module}.{name} as {known}" in lines for of, known in wanted):
+            yield f"{crate}::{module}::{name}"
 
 
 def functions_in(tree):
@@ -47,8 +64,101 @@ def functions_in(tree):
 
 
 def at(function, clause=None):
-    """File and line of a function, or of a clause of its contract."""
-    return f"{function.file}:{function.clauses[clause] if clause else function.line}"
+    """File and line of a function, or of its first clause of a kind."""
+    return f"{function.file}:{clauses(function, clause)[0].line if clause else function.line}"
+
+
+def clauses(function, kind):
+    return [clause for clause in function.clauses if clause.kind == kind]
+
+
+# ---- what an export is, beside the function that it exports
+
+
+def exported(path):
+    """The name of the function that an export stands for."""
+    crate, _, rest = path.partition("::")
+    return f"{EXPORTED}::{rest}" if crate == EXPORTER else path
+
+
+def brought(file):
+    """What a clause can name of the proofs: each word, of an operator too, with the whole of what it is."""
+    words = {}
+    for tokens in file.ghosts:
+        text = "".join(token.text if token.text != "as" else " as " for token in tokens)
+        path, group, inner = text.partition(".{")
+        items = inner.rstrip("}").split(",") if group else [path.rpartition(".")[2]]
+        path = path if group else path.rpartition(".")[0]
+        words.update((word, f"{path}.{item}") for item in items for word in item.replace("◌", " ").split())
+    return words
+
+
+class Meanings:
+    """What names stand for in the file of a function."""
+
+    def __init__(self, crates, function):
+        self.crates, self.file = crates, crates.files[function.file]
+        self.ghosts = brought(self.file)
+
+    def type_of(self, kind):
+        """A type with full paths."""
+        if isinstance(kind, Ref):
+            return Ref(kind.mutable, self.type_of(kind.to))
+        if isinstance(kind, Slice):
+            return Slice(self.type_of(kind.of))
+        if isinstance(kind, Array):
+            return Array(self.type_of(kind.of), rattle.written(kind.length))
+        if isinstance(kind, Named):
+            return Named(kind.path if kind.path[-1] in rattle.WIDTHS else self.crates.resolved(kind.path, self.file))
+        return Applied(self.crates.resolved(kind.path, self.file), rattle.written(kind.arguments)) if kind else None
+
+    def takes_and_gives(self, function):
+        return [(f.name, self.type_of(f.type)) for f in function.fields], self.type_of(function.result)
+
+    def word(self, text):
+        """A word of a clause, with what it stands for where the file brings it in."""
+        known = self.crates.resolved((text,), self.file) if text in self.file.imports else None
+        return text, self.ghosts.get(text), known
+
+    def clauses(self, function):
+        return [(c.kind, c.name, [self.word(token.text) for token in c.tokens]) for c in function.clauses]
+
+
+def forwards(function, to, file, crates):
+    """Is the body one call of `to`, with the function's arguments in their order?"""
+    body = function.body
+    if not body or not rattle.is_name(body[0]):
+        return False
+    path, end = rattle.path_at(body, 0)
+    if crates.resolved(path, file) != to.path or rattle.behind(body, end).text != "(" or rattle.end_of(body, end) != len(body):
+        return False
+    return [rattle.written(a) for a in rattle.split(body[end + 1 : -1])] == [field.name for field in function.fields]
+
+
+def unlike(function, functions, tied, crates):
+    """Why an export is not the function that it stands for, or not tied to it."""
+    own = "::".join(function.path)
+    name = exported(own)
+    if function.path[0] != EXPORTER:
+        return f"is an export, and not in {EXPORTER}"
+    if name not in functions:
+        return f"exports {name}, which is not there"
+    ours, theirs, to = Meanings(crates, function), Meanings(crates, functions[name]), functions[name]
+    if not forwards(function, to, ours.file, crates):
+        return f"is not one call of {name} with its arguments"
+    if ours.takes_and_gives(function) != theirs.takes_and_gives(to):
+        return f"takes or gives other than {name}"
+    if ours.clauses(function) != theirs.clauses(to):
+        return f"has other clauses than {name}"
+    return None if own in tied else f"is not in the Contract.antt of {EXPORTER}"
+
+
+def faults_of_exports(exports, functions, calls, tied, crates):
+    wrong = [(f, why) for f in exports.values() if (why := unlike(f, functions, tied, crates))]
+    faults = [f"{at(f)}: {'::'.join(f.path)} {why}" for f, why in wrong]
+    there = {exported(name) for name in exports}
+    lacking = [n for n in calls if n.startswith(f"{EXPORTED}::") and n in functions and n not in there]
+    return faults + [f"{at(functions[n])}: {n} is exported by nothing" for n in lacking]
 
 
 def listed_in(text):
@@ -68,22 +178,25 @@ def check(tree):
     calls = listed_in(tree.get(LIST, ""))
     functions, unread = functions_in(tree)
     there = {name: functions[name] for name in calls if name in functions}
-    exports = {n: f for n, f in functions.items() if f.export and f.file.startswith(EXPORTS)}
+    exports = {n: f for n, f in functions.items() if f.export}
     tied = {n: path for path, source in tree.items() if path.endswith(".antt") for n in ties_of(source)}
+    sent = {n for path, source in tree.items() if path.endswith(".antt") for n in ties_of_exports(source)}
     missing = [f"{LIST}:{line}: there is no `pub fn` {name}" for name, line in calls.items() if name not in there]
     if not calls:
         missing = [f"{LIST}:1: there is no table of calls in a section '{SECTION}'"]
-    asking = [f"{at(f, 'requires')}: {n} has a `requires`" for n, f in there.items() if "requires" in f.clauses]
-    silent = [f"{at(f)}: {n} has no `ensures`" for n, f in there.items() if "ensures" not in f.clauses]
+    asking = [f"{at(f, 'requires')}: {n} has a `requires`" for n, f in there.items() if clauses(f, "requires")]
+    silent = [f"{at(f)}: {n} has no `ensures`" for n, f in there.items() if not clauses(f, "ensures")]
     loose = [f"{at(f)}: {n} is not in the Contract.antt of its crate" for n, f in there.items() if n not in tied]
-    unlisted = [f"{at(f)}: {n} is not in {LIST}" for n, f in exports.items() if n not in calls]
-    unlisted += [f"{path}:1: {n} is not in {LIST}" for n, path in tied.items() if n not in calls and n not in exports]
+    unlisted = [f"{at(f)}: {exported(n)} is not in {LIST}" for n, f in exports.items() if exported(n) not in calls]
+    known = {*calls, *map(exported, exports)}
+    unlisted += [f"{path}:1: {n} is not in {LIST}" for n, path in tied.items() if n not in known]
     return [
         (PUBLIC, len(calls), missing),
         (ASKS, len(there), asking),
         (SAYS, len(there), silent),
         (TIED, len(there), loose),
         (LISTED, len(exports) + len(tied), unlisted),
+        (FORWARDS, len(exports), faults_of_exports(exports, functions, calls, sent, Crates(tree))),
         (READ, len(functions), unread),
     ]
 
@@ -95,13 +208,22 @@ def read_tree(root):
 
 # ---- the check itself is tried on small trees
 
-ENSURES = "    ensures { λ r. ⌜ r ≡ record { a = 1; b = n } ⌝ }\n"
-REQUIRES = "    requires { ⌜ n ≤ 3 ⌝ }\n"
-GOOD = f'#[no_mangle]\npub extern "C" fn burial_a(n: u32) -> u32\n{ENSURES}{{\n    n\n}}\n'
+ENSURES = "    ensures { result ≡ record { a = 1; b = n } }\n"
+REQUIRES = "    requires { n ≤ 3 }\n"
+NAMED = "    ensures low { result ≤ n }\n    ensures high { n ≤ result }\n"
+GHOST = "ghost use Rattle.std.specs.Prelude.{◌≡◌, ◌≤◌};\n"
+GOOD = f"#[inline(always)]\npub fn burial_a(n: u32) -> u32\n{ENSURES}{{\n    n\n}}\n"
+MARK = '#[unsafe(no_mangle)]\npub extern "C" '
+EXPORT = f"{MARK}fn burial_a(n: u32) -> u32\n{ENSURES}{{\n    host::x::burial_a(n)\n}}\n"
 OTHER = f"\nfn b(n: u32) -> u32\n{REQUIRES}{{\n    n\n}}\n"
 SOURCE = "crates/host/src/x.rt"
+SENT = "crates/host_c/src/x.rt"
 CONTRACT = "crates/host/proofs/Contract.antt"
-TIES = "use Rattle·host·proofs.proofs.x.burial_a as a\n"
+PROOF = "use Rattle.host.proofs.x.burial_a as A\n"
+TIES = PROOF + "use Rattle.host.specs.contracts.x.burial_a as AContract\n"
+SENT_CONTRACT = "crates/host_c/proofs/Contract.antt"
+SENT_PROOF = "use Rattle.host_c.proofs.x.burial_a as AExport\nuse Rattle.host_c.specs.contracts.x.burial_a as AExported\n"
+SENT_TIES = "use Rattle.host.specs.contracts.x.burial_a as A\n" + SENT_PROOF
 ROWS = """# A
 
 ## Public calls
@@ -114,33 +236,93 @@ ROWS = """# A
 
 | `host::x::other` | two |
 """
+SAME = [(FORWARDS, f"{SENT}:2:")]
 
 
-def small(source=GOOD, rows=ROWS, ties=TIES):
-    return {LIST: rows, SOURCE: source, CONTRACT: ties}
+def small(source=GOOD, rows=ROWS, ties=TIES, sent=EXPORT, sent_ties=SENT_TIES):
+    return {LIST: rows, SOURCE: source, CONTRACT: ties, SENT: sent, SENT_CONTRACT: sent_ties}
 
 
 def contract(clauses):
-    return small(GOOD.replace(ENSURES, clauses))
+    return small(GOOD.replace(ENSURES, clauses), sent=EXPORT.replace(ENSURES, clauses))
+
+
+def sent(old, new, there=GOOD):
+    """With another export."""
+    return small(there, sent=EXPORT.replace(old, new))
 
 
 # Where a file is not read, its functions are missing.
 UNREAD = [(PUBLIC, f"{LIST}:7:")]
+NO_EXPORT = [(FORWARDS, f"{SOURCE}:2:")]
 TRIALS = [
     ("nothing is wrong", contract(ENSURES), []),
     ("a `requires`", contract(REQUIRES + ENSURES), [(ASKS, f"{SOURCE}:3:")]),
     ("a `requires` behind the `ensures`", contract(ENSURES + REQUIRES), [(ASKS, f"{SOURCE}:4:")]),
     ("a `requires` in a comment", contract("    // requires { nothing }\n" + ENSURES), []),
-    ("an array among the parameters", small(GOOD.replace("n: u32", "n: [u32; 8]")), []),
+    (
+        "an array among the parameters",
+        small(GOOD.replace("n: u32", "n: [u32; 8]"), sent=EXPORT.replace("n: u32", "n: [u32; 8]")),
+        [],
+    ),
     ("a `requires` of another function", small(GOOD + OTHER), []),
     ("no `ensures`", contract(""), [(SAYS, f"{SOURCE}:2:")]),
-    ("a private function", small(GOOD.replace('#[no_mangle]\npub extern "C" ', "")), [(PUBLIC, f"{LIST}:7:")]),
-    ("an export that is not listed", small(GOOD + GOOD.replace("_a", "_b")), [(LISTED, f"{SOURCE}:8:")]),
-    ("an export in another form", small(GOOD + GOOD.replace("pub ", "pub unsafe ")), UNREAD + [(READ, f"{SOURCE}:7:")]),
-    ("two functions of a name", small(GOOD + GOOD), UNREAD + [(READ, f"{SOURCE}:8:")]),
+    ("a private function", small(GOOD.replace("pub ", "")), [*UNREAD, *SAME]),
+    (
+        "an export that is not listed",
+        small(GOOD + GOOD.replace("_a", "_b"), sent=EXPORT + EXPORT.replace("_a", "_b"), sent_ties=SENT_TIES + SENT_TIES.replace("_a", "_b")),
+        [(LISTED, f"{SENT}:8:")],
+    ),
+    ("an export in another form", small(sent=EXPORT + EXPORT.replace("pub ", "pub unsafe ")), [*NO_EXPORT, (READ, f"{SENT}:7:")]),
+    ("two functions of a name", small(GOOD + GOOD), [*UNREAD, *SAME, (READ, f"{SOURCE}:8:")]),
     ("a call that is not tied", small(ties=""), [(TIED, f"{SOURCE}:2:")]),
     ("a tied call that is not listed", small(ties=TIES + TIES.replace("_a", "_b")), [(LISTED, f"{CONTRACT}:1:")]),
-    ("no list", small(rows="# A\n"), [(PUBLIC, f"{LIST}:1:"), (LISTED, f"{SOURCE}:2:")]),
+    ("no list", small(rows="# A\n"), [(PUBLIC, f"{LIST}:1:"), (LISTED, f"{SENT}:2:")]),
+    # clauses with names, and ties
+    ("clauses with names", contract(NAMED), []),
+    ("a named `requires`", contract(REQUIRES.replace("{", "low {", 1) + ENSURES), [(ASKS, f"{SOURCE}:3:")]),
+    ("a call whose clauses are not tied", small(ties=PROOF), [(TIED, f"{SOURCE}:2:")]),
+    ("clauses that are tied under another name", small(ties=TIES.replace("AContract", "BContract")), [(TIED, f"{SOURCE}:2:")]),
+    # exports
+    ("a function that is not exported", sent(EXPORT, ""), NO_EXPORT),
+    ("an export without its name in C", sent("#[unsafe(no_mangle)]\n", ""), [*NO_EXPORT, (READ, f"{SENT}:1:")]),
+    ("an export without its calling convention", sent('extern "C" ', ""), [*NO_EXPORT, (READ, f"{SENT}:1:")]),
+    ("an export by an attribute that is not read", sent("no_mangle", 'export_name = "b"'), [*NO_EXPORT, (READ, f"{SENT}:1:")]),
+    ("an export in host", small(GOOD.replace("#[inline(always)]\npub ", MARK)), [(FORWARDS, f"{SOURCE}:2:")]),
+    ("an export of another name", sent("fn burial_a", "fn burial_b"), [(LISTED, f"{SENT}:2:"), *SAME, *NO_EXPORT]),
+    (
+        "an export that calls its neighbour",
+        small(GOOD + GOOD.replace("_a", "_b"), sent=EXPORT.replace("x::burial_a(n)", "x::burial_b(n)")),
+        SAME,
+    ),
+    ("an export that does more", sent("    host::", "    let n = 1;\n    host::"), SAME),
+    ("an export that changes what it gives", sent("(n)\n", "(n) + 1\n"), SAME),
+    ("an export that changes an argument", sent("(n)\n", "(n + 1)\n"), SAME),
+    (
+        "an export with its arguments in another order",
+        small(GOOD.replace("n: u32", "n: u32, m: u32"), sent=EXPORT.replace("n: u32", "n: u32, m: u32").replace("(n)\n", "(m, n)\n")),
+        SAME,
+    ),
+    ("an export with another type", sent("n: u32", "n: u64"), SAME),
+    ("an export that gives another type", sent("-> u32", "-> u64"), SAME),
+    ("an export with no clause", sent(ENSURES, ""), SAME),
+    ("an export with another clause", sent("a = 1", "a = 2"), SAME),
+    ("an export with a clause more", sent(ENSURES, ENSURES + REQUIRES), SAME),
+    ("an export with a clause less", small(GOOD.replace(ENSURES, NAMED), sent=EXPORT.replace(ENSURES, NAMED.split("\n")[0] + "\n")), SAME),
+    (
+        "an export with a clause of another name",
+        small(GOOD.replace(ENSURES, NAMED), sent=EXPORT.replace(ENSURES, NAMED.replace("low", "lows"))),
+        SAME,
+    ),
+    ("an export that is not tied", small(sent_ties=""), SAME),
+    ("an export that is tied to no other function", small(sent_ties=SENT_PROOF), SAME),
+    ("an export that is tied to another function", small(sent_ties=SENT_TIES.replace("x.burial_a as A\n", "x.burial_b as A\n")), SAME),
+    ("a clause with an operator brought in", small(GHOST + GOOD, sent=GHOST + EXPORT), []),
+    (
+        "a clause with an operator of another name",
+        small(GHOST + GOOD, sent=GHOST.replace("std.specs.Prelude", "host.specs.Other") + EXPORT),
+        [(FORWARDS, f"{SENT}:3:")],
+    ),
 ]
 
 

@@ -193,7 +193,7 @@ has_rest w ws j =
     let m : (j + 32) % 32 ≡ j % 32 = omega arith in
     rw (e, m)
 
--- what lowestIn answers, over words that fit
+-- what lowest_in answers, over words that fit
 pub lowest_at : (s : List ℕ) (base k : ℕ) → ((i : ℕ) → get_or s i 0 < 2 ^ 32) → lowest_in s base ≡ At k → (m : ℕ) × (k ≡ m + base) × IsLowest s m
 unfolding lowest_in
 lowest_at [] base k f h = let z : ◌≡◌ {A = ℕ} 0 1 = cc in absurd (omega arith)

@@ -1,4 +1,4 @@
--- The code of each call meets its contract (`-met`), which is its promise in specs/Promises.antt (`-is`) and asks for nothing (`-asks`): a
+-- The code of each call meets its contract (`_met`), which is its promise in specs/Promises.antt (`_is`) and asks for nothing (`_asks`): a
 -- changed `ensures` or an added `requires` breaks this file. Assumes nothing.
 use Rattle.std.proofs.Common.{◌≡◌, ℕ, List, refl, Bor, MutBor}
 use base.Fml.{Lft}

@@ -29,7 +29,7 @@ content_of s =
 unfoldable pub filled : List Entry → List Entry
 filled es = es ++ replicate (16 - length es) blank_entry
 
--- the session that says a content of at most 16 own writes, with blanks behind them: `contentOf (sessionOf c) ≡ c`
+-- the session that says a content of at most 16 own writes, with blanks behind them: `content_of (session_of c) ≡ c`
 unfoldable pub session_of : Content → Session
 session_of c = record { offices = c.offices; clock = c.clock; read = c.read; count = length c.own; own = filled c.own }
 

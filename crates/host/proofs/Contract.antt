@@ -1,6 +1,6 @@
--- The exports make the same calls: the code of each meets its contract (`-met`), which is the promise of the call that it exports, of the answer
--- as C has it (`-is`; of a frame as bytes `CheckPromise`, specs/Bytes.antt; of the version `VersionPromise`, specs/Version.antt), and asks for
--- nothing (`-asks`). Assumes nothing.
+-- The calls that host_c exports: the code of each meets its contract (`_met`), which is the promise of the call that it exports, of the answer
+-- as C has it (`_is`; of a frame as bytes `CheckPromise`, specs/Bytes.antt; of the version `VersionPromise`, specs/Version.antt), and asks for
+-- nothing (`_asks`). Assumes nothing.
 use Prim.Native.Nat.{ℕ, ◌≤◌}
 use mathlib.Core.Path.{◌≡◌, refl}
 use base.Logic.{SProp, emp}

@@ -1,5 +1,5 @@
--- The calls that lend a session make the same steps of a run: the code of each meets its contract (`-met`), which is the promise of the call by
--- value, of the session as it is left (`-is`), and asks for nothing (`-asks`). Assumes nothing.
+-- The calls that lend a session make the same steps of a run: the code of each meets its contract (`_met`), which is the promise of the call by
+-- value, of the session as it is left (`_is`), and asks for nothing (`_asks`). Assumes nothing.
 use Rattle.std.specs.Prelude.{◌≡◌, ℕ}
 use mathlib.Core.Path.{refl}
 use base.Logic.{SProp, emp}
@@ -13,7 +13,7 @@ use Rattle.frame.specs.declared.refusal.Status.{Status}
 use Rattle.frame.specs.declared.refusal.Written.{Written}
 use Rattle.frame.proofs.Contract.{Four, Lent, MutRow, Row, Three, Two}
 use Rattle.office.specs.Promises.{JointPromise, ReadPromise, WritePromise}
-use Rattle.lent.specs.declared.core.PlotAnswer.{PlotAnswer}
+use Rattle.lent.specs.declared.by_value.PlotAnswer.{PlotAnswer}
 use Rattle.lent.proofs.calls.read_joint as ReadJoint
 use Rattle.lent.specs.contracts.calls.read_joint as ReadJointContract
 use Rattle.lent.proofs.calls.read_plot as ReadPlot

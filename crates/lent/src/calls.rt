@@ -2,7 +2,7 @@
 ghost use Rattle.frame.specs.Refusals.{code_of, reply_of};
 ghost use Rattle.office.specs.Promises.{JointPromise, ReadPromise, WritePromise};
 
-use crate::core::PlotAnswer;
+use crate::by_value::PlotAnswer;
 use frame::refusal::{Status, Written};
 use frame::session::Session;
 
@@ -10,7 +10,7 @@ use frame::session::Session;
 pub fn read_plot(store: &mut [u32], s: &mut Session, plot: u32) -> PlotAnswer
     ensures { ReadPromise store.old s.old plot (code_of result.status) result.found result.entry s.new store.new }
 {
-    let done = crate::core::read_plot_by_value(store, *s, plot);
+    let done = crate::by_value::read_plot_by_value(store, *s, plot);
     *s = done.session;
     done.answer
 }

@@ -1,7 +1,7 @@
 -- THE THIRD DEMAND, as one statement: code → contract → promise → run → Holds. Its one theorem is `third_demand`, proofs/Demand.antt. The links meet
 -- in the promises, which contracts and claim cite by name.
 --   code → contract → promise   `frame`, `joining`, `office`, `reading`, `writing`, `hearing`, `lent`, `host`: the code of each call, lent call
---                               and export meets its contract; that asks for nothing, and ensures the promise (frame/specs/Promises.antt,
+--                               and call of host meets its contract; that asks for nothing, and ensures the promise (frame/specs/Promises.antt,
 --                               joining/specs/Promises.antt, office/specs/Promises.antt; of bytes and version host/specs/Bytes.antt,
 --                               Version.antt; the links are in Contract.antt, in the proofs of each of these crates)
 --   promise → run               `claim`, `answered`: whatever the answers, if they keep the promises, a list of calls leads to its run; and

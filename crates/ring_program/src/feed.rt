@@ -173,7 +173,8 @@ pub fn feed_all(
         let next = write_out(stdout, reached, text);
         cur = next;
         from = some.next;
-        if !cur.wrote {
+        let broken = !cur.wrote;
+        if broken {
             return Reached {
                 stage: cur,
                 next: from,

@@ -78,7 +78,8 @@ fn run(
         );
         let next = fed.stage;
         stage = next;
-        if !stage.wrote {
+        let broken = !stage.wrote;
+        if broken {
             return Outcome {
                 ending: Ending::WriteFailed,
                 left,

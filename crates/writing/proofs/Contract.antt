@@ -1,4 +1,4 @@
--- The code of each call meets its contract (`-met`), which is its promise in office/specs/Promises.antt (`-is`) and asks for nothing (`-asks`): a
+-- The code of each call meets its contract (`_met`), which is its promise in office/specs/Promises.antt (`_is`) and asks for nothing (`_asks`): a
 -- changed `ensures` or an added `requires` breaks this file. Assumes nothing.
 use Prim.Native.Nat.{ℕ}
 use mathlib.Core.Path.{◌≡◌, refl}

@@ -50,26 +50,26 @@ pub feed_all-fed-requires : goal.feed_all-fed-requires
 feed_all-fed-requires c = let L = c.loop-left in
     (L.invariant.2 ∙ c.requires.2, L.invariant.4 ∙ c.requires.4, L.invariant.5, rn.stands _ _ _ _ _ _ _ _ L.invariant.6 _ (c.open_ring-opened.ensures c.args.lines.now c.requires.1) c.nothing-none.ensures, L.invariant.6.wrote)
 
-pub shape_of-stores-then-not-stage : goal.shape_of-stores-then-not-stage
-shape_of-stores-then-not-stage c = c.feed_all-fed.auto.stores ∙ c.loop-left.invariant.0 ∙ c.open_ring-opened.auto.stores
+pub shape_of-stores-then-broken : goal.shape_of-stores-then-broken
+shape_of-stores-then-broken c = c.feed_all-fed.auto.stores ∙ c.loop-left.invariant.0 ∙ c.open_ring-opened.auto.stores
 
-pub shape_of-lines-then-not-stage : goal.shape_of-lines-then-not-stage
-shape_of-lines-then-not-stage c = c.feed_all-fed.auto.lines ∙ c.loop-left.invariant.1
+pub shape_of-lines-then-broken : goal.shape_of-lines-then-broken
+shape_of-lines-then-broken c = c.feed_all-fed.auto.lines ∙ c.loop-left.invariant.1
 
-pub shape_of-out-then-not-stage : goal.shape_of-out-then-not-stage
-shape_of-out-then-not-stage c = c.feed_all-fed.auto.out ∙ c.loop-left.invariant.2
+pub shape_of-out-then-broken : goal.shape_of-out-then-broken
+shape_of-out-then-broken c = c.feed_all-fed.auto.out ∙ c.loop-left.invariant.2
 
-pub shape_of-input-then-not-stage : goal.shape_of-input-then-not-stage
-shape_of-input-then-not-stage c = c.read_chunk-chunk.auto.input ∙ c.loop-left.invariant.3
+pub shape_of-input-then-broken : goal.shape_of-input-then-broken
+shape_of-input-then-broken c = c.read_chunk-chunk.auto.input ∙ c.loop-left.invariant.3
 
-pub shape_of-text-then-not-stage : goal.shape_of-text-then-not-stage
-shape_of-text-then-not-stage c = c.feed_all-fed.auto.text ∙ c.loop-left.invariant.4
+pub shape_of-text-then-broken : goal.shape_of-text-then-broken
+shape_of-text-then-broken c = c.feed_all-fed.auto.text ∙ c.loop-left.invariant.4
 
-pub returns-then-not-stage : goal.returns-then-not-stage
-returns-then-not-stage c = let L = c.loop-left in
+pub returns-then-broken : goal.returns-then-broken
+returns-then-broken c = let L = c.loop-left in
     let q = c.read_chunk-chunk in
     let f = c.feed_all-fed in
-    rn.breaks _ _ _ _ _ _ _ _ L.invariant.6 (take q.result.n q.new.input) q.result.left (omega (arith, q.ensures.1, length-take-le q.result.n q.new.input (omega (arith, q.ensures.0, q.auto.input, c.loop-left.invariant.3, c.requires.3)))) f.result.next f.result.stage _ _ f.ensures.3 c.args.stores.now (c.open_ring-opened.ensures c.args.lines.now c.requires.1) c.nothing-none.ensures refl (not-true f.result.stage.wrote c.if-not-stage.true) _ _ _
+    rn.breaks _ _ _ _ _ _ _ _ L.invariant.6 (take q.result.n q.new.input) q.result.left (omega (arith, q.ensures.1, length-take-le q.result.n q.new.input (omega (arith, q.ensures.0, q.auto.input, c.loop-left.invariant.3, c.requires.3)))) f.result.next f.result.stage _ _ f.ensures.3 c.args.stores.now (c.open_ring-opened.ensures c.args.lines.now c.requires.1) c.nothing-none.ensures refl (not-true f.result.stage.wrote c.if-broken.true) _ _ _
 
 pub loop-left-smaller : goal.loop-left-smaller
 loop-left-smaller c = omega (arith, c.read_chunk-chunk.ensures.1, c.if-n-eq0.false)
@@ -78,7 +78,7 @@ pub loop-left-preserved : goal.loop-left-preserved
 loop-left-preserved c = let L = c.loop-left in
     let q = c.read_chunk-chunk in
     let f = c.feed_all-fed in
-    let w = not-false f.result.stage.wrote c.if-not-stage.false in (
+    let w = not-false f.result.stage.wrote c.if-broken.false in (
       f.auto.stores ∙ L.invariant.0,
       f.auto.lines ∙ L.invariant.1,
       f.auto.out ∙ L.invariant.2,

@@ -97,9 +97,9 @@ returns-in-NotWritten c = let a = c.args in
 
 pub returns-in-Words : goal.returns-in-Words
 returns-in-Words c = let a = c.args in (
-      (λ (_ : true ≡ true). let d = desk c.requires.2.0 a.board in lw.few c.requires.2.2.0 d a.stores.now a.lines.now c.requires.2.2.1 a.i c.requires.0 a.s c.requires.2.1 a.plot a.value a.out.now _ c.next_of-next.ensures c.write_at-made.result.written c.write_at-made.result.entry c.write_at-made.new.stores c.write_at-made.new.out c.write_at-made.ensures.0 c.write_at-made.ensures.1 c.in-Words.words c.in-Words.is),
-      λ ss g own T.
-          let d = desk ss a.board in
-          let D = c.deliver-after.ensures _ (lw.cut g d a.stores.now a.lines.now T a.i c.requires.0 a.s own a.plot a.value a.out.now _ c.next_of-next.ensures c.write_at-made.result.written c.write_at-made.result.entry c.write_at-made.new.stores c.write_at-made.new.out c.write_at-made.ensures.0 c.write_at-made.ensures.1 c.in-Words.words c.in-Words.is) in
-          lw.line_done g d a.stores.now a.lines.now T a.i c.requires.0 a.s own a.plot a.value a.out.now _ c.next_of-next.ensures c.write_at-made.result.written c.write_at-made.result.entry c.write_at-made.new.stores c.write_at-made.new.out c.write_at-made.ensures.0 c.write_at-made.ensures.1 c.in-Words.words c.in-Words.is (lw.ahead_goes g d a.stores.now a.lines.now T a.i c.requires.0 a.s own a.plot a.value a.out.now _ c.next_of-next.ensures c.write_ahead-ahead.result (c.write_ahead-ahead.ensures a.out.now c.requires.1) c.in-Goes.is (lw.code g d a.stores.now a.lines.now T a.i c.requires.0 a.s own a.plot a.value a.out.now _ c.next_of-next.ensures c.write_at-made.result.written c.write_at-made.result.entry c.write_at-made.new.stores c.write_at-made.new.out c.write_at-made.ensures.0 c.write_at-made.ensures.1 c.in-Words.words c.in-Words.is)) (desk ss c.deliver-after.result) _ (D.0 ss) D.1,
-    )
+  (λ (_ : true ≡ true). let d = desk c.requires.2.0 a.board in lw.few c.requires.2.2.0 d a.stores.now a.lines.now c.requires.2.2.1 a.i c.requires.0 a.s c.requires.2.1 a.plot a.value a.out.now _ c.next_of-next.ensures c.write_at-made.result.written c.write_at-made.result.entry c.write_at-made.new.stores c.write_at-made.new.out c.write_at-made.ensures.0 c.write_at-made.ensures.1 c.in-Words.words c.in-Words.is),
+  λ ss g own T.
+      let d = desk ss a.board in
+      let D = c.deliver-after.ensures _ (lw.cut g d a.stores.now a.lines.now T a.i c.requires.0 a.s own a.plot a.value a.out.now _ c.next_of-next.ensures c.write_at-made.result.written c.write_at-made.result.entry c.write_at-made.new.stores c.write_at-made.new.out c.write_at-made.ensures.0 c.write_at-made.ensures.1 c.in-Words.words c.in-Words.is) in
+      lw.line_done g d a.stores.now a.lines.now T a.i c.requires.0 a.s own a.plot a.value a.out.now _ c.next_of-next.ensures c.write_at-made.result.written c.write_at-made.result.entry c.write_at-made.new.stores c.write_at-made.new.out c.write_at-made.ensures.0 c.write_at-made.ensures.1 c.in-Words.words c.in-Words.is (lw.ahead_goes g d a.stores.now a.lines.now T a.i c.requires.0 a.s own a.plot a.value a.out.now _ c.next_of-next.ensures c.write_ahead-ahead.result (c.write_ahead-ahead.ensures a.out.now c.requires.1) c.in-Goes.is (lw.code g d a.stores.now a.lines.now T a.i c.requires.0 a.s own a.plot a.value a.out.now _ c.next_of-next.ensures c.write_at-made.result.written c.write_at-made.result.entry c.write_at-made.new.stores c.write_at-made.new.out c.write_at-made.ensures.0 c.write_at-made.ensures.1 c.in-Words.words c.in-Words.is)) (desk ss c.deliver-after.result) _ (D.0 ss) D.1,
+)

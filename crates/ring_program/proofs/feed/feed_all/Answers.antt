@@ -18,25 +18,25 @@ feed_some-some-requires c = let L = c.loop-from in
 pub write_out-next-requires : goal.write_out-next-requires
 write_out-next-requires c = let q = c.feed_some-some in omega (arith, q.ensures.2, q.auto.text)
 
-pub shape_of-stores-then-not-cur : goal.shape_of-stores-then-not-cur
-shape_of-stores-then-not-cur c = c.feed_some-some.auto.stores ∙ c.loop-from.invariant.3
+pub shape_of-stores-then-broken : goal.shape_of-stores-then-broken
+shape_of-stores-then-broken c = c.feed_some-some.auto.stores ∙ c.loop-from.invariant.3
 
-pub shape_of-lines-then-not-cur : goal.shape_of-lines-then-not-cur
-shape_of-lines-then-not-cur c = c.feed_some-some.auto.lines ∙ c.loop-from.invariant.4
+pub shape_of-lines-then-broken : goal.shape_of-lines-then-broken
+shape_of-lines-then-broken c = c.feed_some-some.auto.lines ∙ c.loop-from.invariant.4
 
-pub shape_of-out-then-not-cur : goal.shape_of-out-then-not-cur
-shape_of-out-then-not-cur c = c.feed_some-some.auto.out ∙ c.loop-from.invariant.1
+pub shape_of-out-then-broken : goal.shape_of-out-then-broken
+shape_of-out-then-broken c = c.feed_some-some.auto.out ∙ c.loop-from.invariant.1
 
-pub shape_of-text-then-not-cur : goal.shape_of-text-then-not-cur
-shape_of-text-then-not-cur c = c.feed_some-some.auto.text ∙ c.loop-from.invariant.2
+pub shape_of-text-then-broken : goal.shape_of-text-then-broken
+shape_of-text-then-broken c = c.feed_some-some.auto.text ∙ c.loop-from.invariant.2
 
-pub returns-then-not-cur : goal.returns-then-not-cur
-returns-then-not-cur c = let L = c.loop-from in
+pub returns-then-broken : goal.returns-then-broken
+returns-then-broken c = let L = c.loop-from in
     let q = c.feed_some-some in
     let w = c.write_out-next in (
       w.ensures.2,
       q.ensures.1,
-      (λ (t : w.result.wrote ≡ true). false_true (sym (not-true w.result.wrote c.if-not-cur.true) ∙ t)),
+      (λ (t : w.result.wrote ≡ true). false_true (sym (not-true w.result.wrote c.if-broken.true) ∙ t)),
       λ g l S e.
           let X = L.invariant.7 g l S e in
           fd.leads_then c.args.bytes.now L.from q.result.next (omega (arith, q.ensures.0)) g l L.cur.at _ q.result.stage w.result _ _ _ (q.ensures.4 _ _ X.shows X.pending) w.ensures.0 w.ensures.1,
@@ -55,7 +55,7 @@ loop-from-preserved c = let L = c.loop-from in
       q.auto.stores ∙ L.invariant.3,
       q.auto.lines ∙ L.invariant.4,
       w.ensures.2,
-      not-false w.result.wrote c.if-not-cur.false,
+      not-false w.result.wrote c.if-broken.false,
       λ g l S e.
           let X = L.invariant.7 g l S e in
           fd.leads_then c.args.bytes.now L.from q.result.next (omega (arith, q.ensures.0)) g l L.cur.at _ q.result.stage w.result _ _ _ (q.ensures.4 _ _ X.shows X.pending) w.ensures.0 w.ensures.1,
