@@ -1,7 +1,8 @@
 #!/usr/bin/env python3
 """Brings the must-fail edits to the spelling that port.py, tools/respell.py and rt fmt gave the texts they change.
 
-usage: python3 tools/edits.py [ROOT]     at the top of a tree that both have turned; writes each edit anew from LANDED's (the first line of docs/PORT.md)
+usage: python3 tools/edits.py [ROOT]     once, at the top of a tree that both have turned; writes each edit anew from LANDED's (LANDED is the commit in the
+first line of docs/PORT.md, or HEAD where that page is not there). What was mended by hand since is lost by a second run.
 
 A pair of lines stays as it is where its `old:` text still stands exactly once and neither line has a clause in the old form. Else both are turned alike.
 The rest is only looked at: each `old:` text must stand exactly once in its file, after the pairs before it, and each is told that does not, or that stands
@@ -54,8 +55,10 @@ def same_line(before, after, i, j):
 
 
 def main(root="."):
-    with open(f"{root}/docs/PORT.md", encoding="utf-8") as f:
-        commit = f.readline().strip()
+    commit = "HEAD"
+    if os.path.isfile(f"{root}/docs/PORT.md"):
+        with open(f"{root}/docs/PORT.md", encoding="utf-8") as f:
+            commit = f.readline().strip()
     told = kept = changed = 0
     for edit in sorted(glob.glob(f"{root}/crates/*/must-fail/*.edit")):
         path = os.path.relpath(edit, root)
