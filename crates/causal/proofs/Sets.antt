@@ -1,4 +1,5 @@
 -- Laws of sets of ids, by membership. Assumes nothing.
+use Rattle.std.proofs.Common.{None, Some}
 use mathlib.Core.Path.{◌≡◌, refl, sym, ap, ◌∙◌}
 use mathlib.Core.Bool.{Bool, true, false, cond}
 use mathlib.Core.List.{List, [], ◌∷◌}
@@ -16,7 +17,6 @@ use borrow.Author.Tests.{eq-eqb, ne_eqb, eqb-true, eqb-false}
 use Rattle.causal.specs.Tests.{both, all_below}
 use Rattle.causal.specs.Lists.{zip8, zeros, sum_below}
 use Rattle.causal.specs.Sets.{bit, has, is_in, IdSet, unite, minus, inserted, is_empty, word_in, subset_of, size_of, Within, lowest_in, lowest_of}
-use Rattle.causal.specs.declared.set.Lowest.TheVariants.{At, Empty}
 use Rattle.causal.proofs.Tests.{lt_or_le, eq_or_ne, same_test, both_intro, both_true, all_at, all_both, all_intro, split}
 use Rattle.causal.proofs.Lists.{zip8_at, sum_le}
 use Rattle.causal.proofs.Bits.{bit_lt, bit_or_lem, bit_minus, bit_pow, bit_zero_word, bits_ext, same, same_eq, same_ne, tz_below, tz_at, or_is_zero, none_left}
@@ -194,14 +194,14 @@ has_rest w ws j =
     rw (e, m)
 
 -- what lowest_in answers, over words that fit
-pub lowest_at : (s : List ℕ) (base k : ℕ) → ((i : ℕ) → get_or s i 0 < 2 ^ 32) → lowest_in s base ≡ At k → (m : ℕ) × (k ≡ m + base) × IsLowest s m
+pub lowest_at : (s : List ℕ) (base k : ℕ) → ((i : ℕ) → get_or s i 0 < 2 ^ 32) → lowest_in s base ≡ Some k → (m : ℕ) × (k ≡ m + base) × IsLowest s m
 unfolding lowest_in
 lowest_at [] base k f h = let z : ◌≡◌ {A = ℕ} 0 1 = cc in absurd (omega arith)
 lowest_at (w ∷ ws) base k f h = go (lowest_at ws (base + 32) k (λ i. f (suc i))) (eqb w 0) refl
   where
-    go : (lowest_in ws (base + 32) ≡ At k → (m : ℕ) × (k ≡ m + (base + 32)) × IsLowest ws m) → (t : Bool) → eqb w 0 ≡ t → (m : ℕ) × (k ≡ m + base) × IsLowest (w ∷ ws) m
+    go : (lowest_in ws (base + 32) ≡ Some k → (m : ℕ) × (k ≡ m + (base + 32)) × IsLowest ws m) → (t : Bool) → eqb w 0 ≡ t → (m : ℕ) × (k ≡ m + base) × IsLowest (w ∷ ws) m
     go ih true e =
-        let h' : lowest_in ws (base + 32) ≡ At k = rw e at h in
+        let h' : lowest_in ws (base + 32) ≡ Some k = rw e at h in
         let r = ih h' in
         let z : w ≡ 0 = eqb-true w 0 e in (
           r.0 + 32,
@@ -217,7 +217,7 @@ lowest_at (w ∷ ws) base k f h = go (lowest_at ws (base + 32) k (λ i. f (suc i
           },
         )
     go ih false e =
-        let h' : At (base + count_trailing_zeros 32 w) ≡ At k = rw e at h in
+        let h' : Some (base + count_trailing_zeros 32 w) ≡ Some k = rw e at h in
         let q : base + count_trailing_zeros 32 w ≡ k = cc in
         let n : w ≡ 0 → ⊥ = eqb-false w 0 e in
         let t = tz_at 32 w (omega arith) (f 0) in (
@@ -229,14 +229,14 @@ lowest_at (w ∷ ws) base k f h = go (lowest_at ws (base + 32) k (λ i. f (suc i
           },
         )
 
-pub lowest_none : (s : List ℕ) (base : ℕ) → lowest_in s base ≡ Empty → (j : ℕ) → has s j ≡ 0
+pub lowest_none : (s : List ℕ) (base : ℕ) → lowest_in s base ≡ None → (j : ℕ) → has s j ≡ 0
 unfolding lowest_in
 lowest_none [] base h j = has_none j
 lowest_none (w ∷ ws) base h j = go (lowest_none ws (base + 32)) (eqb w 0) refl
   where
-    go : (lowest_in ws (base + 32) ≡ Empty → (i : ℕ) → has ws i ≡ 0) → (t : Bool) → eqb w 0 ≡ t → has (w ∷ ws) j ≡ 0
+    go : (lowest_in ws (base + 32) ≡ None → (i : ℕ) → has ws i ≡ 0) → (t : Bool) → eqb w 0 ≡ t → has (w ∷ ws) j ≡ 0
     go ih true e =
-        let h' : lowest_in ws (base + 32) ≡ Empty = rw e at h in
+        let h' : lowest_in ws (base + 32) ≡ None = rw e at h in
         let z : w ≡ 0 = eqb-true w 0 e in
         ⊎_elim (λ p. has_first w ws j p ∙ ap (λ (n : ℕ). bit n j) z ∙ bit_zero_word j)
         (λ p.
@@ -244,18 +244,18 @@ lowest_none (w ∷ ws) base h j = go (lowest_none ws (base + 32)) (eqb w 0) refl
         ap (has (w ∷ ws)) q ∙ has_rest w ws (j - 32) ∙ ih h' (j - 32))
         (lt_or_le j 32)
     go ih false e =
-        let h' : At (base + count_trailing_zeros 32 w) ≡ Empty = rw e at h in
+        let h' : Some (base + count_trailing_zeros 32 w) ≡ None = rw e at h in
         let z : ◌≡◌ {A = ℕ} 0 1 = cc in
         omega arith
 
-pub lowest_of_at : (s : List ℕ) (k : ℕ) → IdSet s → lowest_of s ≡ At k → IsLowest s k
+pub lowest_of_at : (s : List ℕ) (k : ℕ) → IdSet s → lowest_of s ≡ Some k → IsLowest s k
 unfolding lowest_of
 lowest_of_at s k w h =
     let r = lowest_at s 0 k w.fits h in
     let e : r.0 ≡ k = omega (arith, r.1) in
     rw e at r.2
 
-pub lowest_of_none : (s : List ℕ) → lowest_of s ≡ Empty → (j : ℕ) → has s j ≡ 0
+pub lowest_of_none : (s : List ℕ) → lowest_of s ≡ None → (j : ℕ) → has s j ≡ 0
 unfolding lowest_of
 lowest_of_none s h = lowest_none s 0 h
 
@@ -266,11 +266,11 @@ lowest_skip s i h e =
     let b : 32 * (i + 1) ≡ 32 * i + 32 = omega arith in
     rw (drop-cons s i 0 h, eq-eqb (get_or s i 0) 0 e, b, add-one)
 
-pub lowest_hit : (s : List ℕ) (i : ℕ) → i < length s → (get_or s i 0 ≡ 0 → ⊥) → lowest_in (drop i s) (32 * i) ≡ At (32 * i + count_trailing_zeros 32 (get_or s i 0))
+pub lowest_hit : (s : List ℕ) (i : ℕ) → i < length s → (get_or s i 0 ≡ 0 → ⊥) → lowest_in (drop i s) (32 * i) ≡ Some (32 * i + count_trailing_zeros 32 (get_or s i 0))
 unfolding lowest_in
 lowest_hit s i h e = rw (drop-cons s i 0 h, ne_eqb (get_or s i 0) 0 e)
 
-pub lowest_end : (s : List ℕ) (i : ℕ) → length s ≤ i → lowest_in (drop i s) (32 * i) ≡ Empty
+pub lowest_end : (s : List ℕ) (i : ℕ) → length s ≤ i → lowest_in (drop i s) (32 * i) ≡ None
 unfolding lowest_in
 lowest_end s i h = rw (drop_of_length-le s {i = i} h)
 

@@ -1,12 +1,10 @@
 -- Sets of ids (01: of names). An id is a number k < 256, 32 to an office; a set is eight words of 32 bits, k at bit k % 32 of word k / 32.
 -- Assumes nothing.
-use Rattle.std.specs.Prelude.{ℕ, ◌+◌, ◌/◌, ◌%◌, ◌^◌, ◌<◌, ◌≡◌, Bool, cond, List, [], ◌∷◌, eqb, length, get_or, set}
+use Rattle.std.specs.Prelude.{ℕ, ◌+◌, ◌/◌, ◌%◌, ◌^◌, ◌<◌, ◌≡◌, Bool, cond, List, [], ◌∷◌, eqb, length, get_or, set, None, Option, Some}
 use Rattle.std.specs.Int.Bits.{bit_or, bit_xor}
 use Rattle.std.specs.Int.Count.{count_trailing_zeros}
 use Rattle.causal.specs.Tests.{all_below}
 use Rattle.causal.specs.Lists.{zip8, sum_below}
-use Rattle.causal.specs.declared.set.Lowest.{Lowest}
-use Rattle.causal.specs.declared.set.Lowest.TheVariants.{At, Empty}
 
 -- bit i of a word, 0 or 1
 unfoldable pub bit : ℕ → ℕ → ℕ
@@ -53,9 +51,9 @@ abbrev pub Within : List ℕ → List ℕ → Type 0
 Within a b = (k : ℕ) → has a k ≡ 1 → has b k ≡ 1
 
 -- the lowest member of the words s, the first of which stands for base and what follows
-unfoldable pub lowest_in : List ℕ → ℕ → Lowest
-lowest_in [] base = Empty
-lowest_in (w ∷ ws) base = cond (eqb w 0) (lowest_in ws (base + 32)) (At (base + count_trailing_zeros 32 w))
+unfoldable pub lowest_in : List ℕ → ℕ → Option ℕ
+lowest_in [] base = None
+lowest_in (w ∷ ws) base = cond (eqb w 0) (lowest_in ws (base + 32)) (Some (base + count_trailing_zeros 32 w))
 
-unfoldable pub lowest_of : List ℕ → Lowest
+unfoldable pub lowest_of : List ℕ → Option ℕ
 lowest_of s = lowest_in s 0

@@ -2,12 +2,6 @@
 ghost use Rattle.std.specs.Prelude.{◌≡◌, cond, eqb};
 ghost use Rattle.causal.specs.Sets.{is_in, inserted, unite, minus, is_empty, subset_of, size_of, lowest_of};
 
-#[derive(Clone, Copy)]
-pub enum Lowest {
-    At(usize),
-    Empty,
-}
-
 // Is k a member? A number from 256 on is none.
 pub fn contains(set: [u32; 8], k: usize) -> bool
     ensures { result ≡ is_in set k }
@@ -107,16 +101,16 @@ pub fn size(set: [u32; 8]) -> usize
 }
 
 // The least member.
-pub fn lowest_of(set: [u32; 8]) -> Lowest
+pub fn lowest_of(set: [u32; 8]) -> Option<usize>
     ensures { result ≡ lowest_of set }
 {
     let mut i = 0;
     while i < 8 {
         let w = set[i];
         if w != 0 {
-            return Lowest::At(32 * i + u32::trailing_zeros(w) as usize);
+            return Some(32 * i + u32::trailing_zeros(w) as usize);
         }
         i += 1;
     }
-    Lowest::Empty
+    None
 }

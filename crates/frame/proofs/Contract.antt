@@ -1,6 +1,6 @@
 -- The code of each call meets its contract (`_met`), which is its promise in specs/Promises.antt (`_is`) and asks for nothing (`_asks`): a
 -- changed `ensures` or an added `requires` breaks this file. Assumes nothing.
-use Rattle.std.proofs.Common.{◌≡◌, ℕ, List, refl, Bor, MutBor}
+use Rattle.std.proofs.Common.{◌≡◌, ℕ, List, refl, Bor, MutBor, Result}
 use base.Fml.{Lft}
 use base.Logic.{SProp, emp}
 use contract.Monad.{Fun, fact}
@@ -12,7 +12,6 @@ use Rattle.frame.specs.Promises.{ReadFramePromise, ReadTokenPromise, WriteFrameP
 use Rattle.frame.specs.Refusals.{code_of, reply_of}
 use Rattle.frame.specs.declared.entry.Frame.{Frame}
 use Rattle.frame.specs.declared.reader.FrameRead.{FrameRead}
-use Rattle.frame.specs.declared.refusal.Written.{Written}
 use Rattle.frame.specs.declared.session.Session.{Session}
 use Rattle.frame.specs.declared.token.TokenRead.{TokenRead}
 use Rattle.frame.proofs.reader.read_frame as ReadFrame
@@ -55,7 +54,7 @@ module _ {M : Type 1} {𝓤 : Ura M} (𝓛 : Logic 𝓤) (mem : Memory → SProp
         ≡ fact 𝓤 (ReadFramePromise words.now n p (code_of r.status) r.frame)
     pub read_frame_asks : (κs : One) (words : Row) (n p : ℕ) → (ReadFrameContract.clauses 𝓛 mem run κs (words, (n, (p, tt)))).requires tt ≡ emp 𝓤
     pub write_frame_met : WriteFrame.Statement.statement M
-    pub write_frame_is : (κs : One) (f : Frame) (row : MutRow) (r : Written) (row' : MutRow)
+    pub write_frame_is : (κs : One) (f : Frame) (row : MutRow) (r : Result ℕ Refusal) (row' : MutRow)
         → (WriteFrameContract.clauses 𝓛 mem run κs (f, (row, tt))).ensures tt r (f, (row', tt))
         ≡ fact 𝓤 (WriteFramePromise f row.now (reply_of r) row'.now)
     pub write_frame_asks : (κs : One) (f : Frame) (row : MutRow) → (WriteFrameContract.clauses 𝓛 mem run κs (f, (row, tt))).requires tt ≡ emp 𝓤
@@ -65,7 +64,7 @@ module _ {M : Type 1} {𝓤 : Ura M} (𝓛 : Logic 𝓤) (mem : Memory → SProp
         ≡ fact 𝓤 (ReadTokenPromise words.now n p (code_of r.status) r.session)
     pub read_token_asks : (κs : One) (words : Row) (n p : ℕ) → (ReadTokenContract.clauses 𝓛 mem run κs (words, (n, (p, tt)))).requires tt ≡ emp 𝓤
     pub write_token_met : WriteToken.Statement.statement M
-    pub write_token_is : (κs : One) (s : Session) (row : MutRow) (r : Written) (row' : MutRow)
+    pub write_token_is : (κs : One) (s : Session) (row : MutRow) (r : Result ℕ Refusal) (row' : MutRow)
         → (WriteTokenContract.clauses 𝓛 mem run κs (s, (row, tt))).ensures tt r (s, (row', tt))
         ≡ fact 𝓤 (WriteTokenPromise s row.now (reply_of r) row'.now)
     pub write_token_asks : (κs : One) (s : Session) (row : MutRow) → (WriteTokenContract.clauses 𝓛 mem run κs (s, (row, tt))).requires tt ≡ emp 𝓤

@@ -1,5 +1,5 @@
 -- The calls on frames: "Read frame or slip; write frame or slip". Assumes nothing.
-use Rattle.std.specs.Prelude.{ℕ, zero, suc, List, ◌++◌, length, drop, nat_le}
+use Rattle.std.specs.Prelude.{ℕ, zero, suc, cond, List, ◌++◌, length, drop, nat_le, None, Option, Some}
 use Rattle.causal.specs.Codes.{check}
 use Rattle.frame.specs.declared.entry.Frame.{Frame}
 use Rattle.frame.specs.Refusals.{Reply, replied}
@@ -25,6 +25,10 @@ frame_if (suc c) ws = blank_frame
 
 unfoldable pub read_frame : ℕ → ℕ → List ℕ → Frame
 read_frame n p ws = frame_if (read_frame_code n p ws) ws
+
+-- the frame that a row has, where it is one for n offices and p plots
+unfoldable pub frame_in : ℕ → ℕ → List ℕ → Option Frame
+frame_in n p ws = cond (accepts n p ws) (Some (frame_of ws)) None
 
 -- "Writing: 3 for content that no frame or slip of its ring size with 64 plots has, then 8"
 unfoldable pub write_frame_code : Frame → ℕ → ℕ

@@ -1,12 +1,8 @@
 -- Refusals and answers: "a definition gives this paper's number and values for each of its cases, and the promises use that definition".
 -- Assumes nothing.
-use Rattle.std.specs.Prelude.{ℕ, zero, suc}
+use Rattle.std.specs.Prelude.{ℕ, zero, suc, Err, Ok, Result}
 use Rattle.frame.specs.declared.refusal.Refusal.{Refusal}
 use Rattle.frame.specs.declared.refusal.Refusal.TheVariants.{Settings, Store, Content, Plot, Value, OfficeFull, SessionFull, Room, Format, Unmade, Different, Missing}
-use Rattle.frame.specs.declared.refusal.Status.{Status}
-use Rattle.frame.specs.declared.refusal.Status.TheVariants.{Accepted, Refused}
-use Rattle.frame.specs.declared.refusal.Written.{Written}
-use Rattle.frame.specs.declared.refusal.Written.TheVariants.{Words, NotWritten}
 
 -- the paper's number of a refusal
 unfoldable pub number_of : Refusal → ℕ
@@ -24,9 +20,9 @@ number_of Different = 11
 number_of Missing = 12
 
 -- the refusal number of an answer, 0 for none
-unfoldable pub code_of : Status → ℕ
-code_of Accepted = 0
-code_of (Refused x) = number_of x
+unfoldable pub code_of : {A : Type 0} → Result A Refusal → ℕ
+code_of (Ok _) = 0
+code_of (Err x) = number_of x
 
 -- what a call that writes words answers: the refusal number, 0 for none, and "the number of words written"; or, where it says how many words a
 -- store needs, that number
@@ -34,9 +30,9 @@ pub record Reply : Type 0 where
   pub code : ℕ
   pub words : ℕ
 
-unfoldable pub reply_of : Written → Reply
-reply_of (Words n) = record { code = 0; words = n }
-reply_of (NotWritten x) = record { code = number_of x; words = 0 }
+unfoldable pub reply_of : Result ℕ Refusal → Reply
+reply_of (Ok n) = record { code = 0; words = n }
+reply_of (Err x) = record { code = number_of x; words = 0 }
 
 -- n words, or "a refusal number with nothing else"
 unfoldable pub replied : ℕ → ℕ → Reply

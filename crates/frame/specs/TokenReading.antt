@@ -1,8 +1,9 @@
 -- What the reader of a token checks, word by word. `token_checks_accept` of proofs/TokenChecks.antt: these checks accept a row just where it is
 -- the writing of a sound session (`accepts_token`). Assumes nothing.
-use Rattle.std.specs.Prelude.{ℕ, zero, suc, ◌+◌, ◌/◌, ◌%◌, Bool, List, length, take, drop, ◌==◌, nat_le, nat_lt, slice_index}
+use Rattle.std.specs.Prelude.{ℕ, zero, suc, ◌+◌, ◌/◌, ◌%◌, Bool, cond, List, length, take, drop, ◌==◌, nat_le, nat_lt, slice_index, None, Option, Some}
 use Rattle.causal.specs.Tests.{both}
 use Rattle.causal.specs.Lists.{part, zeros}
+use Rattle.frame.specs.declared.entry.Entry.{Entry}
 use Rattle.frame.specs.Words.{pay_at, kind_is, clock_from, ids_from}
 use Rattle.frame.specs.Frames.{frame_of, accepts}
 use Rattle.frame.specs.Reading.{clock_kinds, ascends, sum_ok}
@@ -23,6 +24,11 @@ unfoldable pub own_frame_ok : ℕ → ℕ → List ℕ → Bool
 own_frame_ok n p ws =
     both (nat_le (frame_length n ws) (length ws))
     (both (accepts n p (take (frame_length n ws) ws)) ((frame_of (take (frame_length n ws) ws)).hops == 0))
+
+-- the entry of that frame, and how many words it has
+unfoldable pub own_in : ℕ → ℕ → List ℕ → Option (Entry × ℕ)
+own_in n p ws =
+    cond (own_frame_ok n p ws) (Some ((frame_of (take (frame_length n ws) ws)).entry, frame_length n ws)) None
 
 -- k such frames, and behind them the check
 unfoldable pub own_frames_ok : ℕ → ℕ → ℕ → List ℕ → Bool

@@ -2,11 +2,11 @@
 ghost use Rattle.std.specs.Prelude.{◌≡◌, ℕ, ◌+◌, ◌-◌, ◌*◌, ◌<◌, ◌≤◌, not, ltb, List, if◌then◌else◌, ◌==◌, nat_le, nat_lt, slice_index};
 ghost use Rattle.causal.specs.Tests.{both, either};
 ghost use Rattle.causal.specs.Sets.{bit, is_empty, is_in};
-ghost use Rattle.frame.specs.Entries.{id_of, clock_ok, under_ok, ids_ok, bounds_ok, entry_ok, outranks as outranksOf, blank_entry};
-ghost use Rattle.frame.specs.Frames.{ring_ok, frame_ok};
+ghost use Rattle.frame.specs.Entries.{id_of, clock_ok, under_ok, ids_ok, bounds_ok, entry_ok, outranks as outranksOf, same_content, blank_entry};
+ghost use Rattle.frame.specs.Frames.{ring_ok, frame_ok, blank_frame};
 
 #[repr(C)]
-#[derive(Clone, Copy)]
+#[derive(Clone, Copy, Debug, PartialEq, Eq)]
 pub struct Entry {
     pub office: u32,
     pub serial: u32,
@@ -17,7 +17,7 @@ pub struct Entry {
 }
 
 #[repr(C)]
-#[derive(Clone, Copy)]
+#[derive(Clone, Copy, Debug, PartialEq, Eq)]
 pub struct Frame {
     pub offices: u32,
     pub hops: u32, // 01: offices still to hear after the receiver
@@ -28,16 +28,7 @@ pub struct Frame {
 pub fn ring_ok(offices: u32, plots: u32) -> bool
     ensures { result ≡ ring_ok offices plots }
 {
-    if offices < 2 {
-        return false;
-    }
-    if offices > 8 {
-        return false;
-    }
-    if plots < 1 {
-        return false;
-    }
-    plots <= 64
+    2 <= offices && offices <= 8 && 1 <= plots && plots <= 64
 }
 
 // The greatest number that place j of a clock may have, in a ring of n offices.
@@ -129,22 +120,10 @@ pub fn ids_ok(n: usize, ids: [u32; 8]) -> bool
 }
 
 // The bounds of the numbers.
-pub fn bounds_ok(n: u32, p: u32, office: u32, serial: u32, plot: u32, value: u32) -> bool
-    ensures { result ≡ bounds_ok n p office serial plot value }
+pub fn bounds_ok(n: u32, p: u32, e: &Entry) -> bool
+    ensures { result ≡ bounds_ok n p e.now.office e.now.serial e.now.plot e.now.value }
 {
-    if office >= n {
-        return false;
-    }
-    if serial < 1 {
-        return false;
-    }
-    if serial > 32 {
-        return false;
-    }
-    if plot >= p {
-        return false;
-    }
-    value < 0x1000_0000
+    e.office < n && 1 <= e.serial && e.serial <= 32 && e.plot < p && e.value < 0x1000_0000
 }
 
 // Is the entry of this serial in its office's word of a set?
@@ -160,57 +139,36 @@ fn past_ok(n: usize, office: usize, serial: u32, clock: [u32; 8], deps: [u32; 8]
     requires { (office < 8) × (1 ≤ serial) × (serial ≤ 32) }
     ensures { result ≡ both (slice_index clock office == serial) (both (not (is_in deps (32 * office + (serial - 1)))) (both (clock_ok n clock) (ids_ok n deps))) }
 {
-    if clock[office] != serial {
-        return false;
-    }
-    if in_word(deps[office], serial) {
-        return false;
-    }
-    if !clock_ok(n, clock) {
-        return false;
-    }
-    ids_ok(n, deps)
+    clock[office] == serial
+        && !in_word(deps[office], serial)
+        && clock_ok(n, clock)
+        && ids_ok(n, deps)
 }
 
 // The entry rules.
-pub fn entry_ok(n: u32, p: u32, e: Entry) -> bool
-    ensures { result ≡ entry_ok n p e }
+pub fn entry_ok(n: u32, p: u32, e: &Entry) -> bool
+    ensures { result ≡ entry_ok n p e.now }
 {
-    if !bounds_ok(n, p, e.office, e.serial, e.plot, e.value) {
+    if !bounds_ok(n, p, e) {
         return false;
     }
     // No clock has a number for a ninth office.
     if e.office > 7 {
         return false;
     }
-    let clock = e.clock;
-    let deps = e.deps;
-    past_ok(n as usize, e.office as usize, e.serial, clock, deps)
+    past_ok(n as usize, e.office as usize, e.serial, e.clock, e.deps)
 }
 
 // What a frame may say.
-pub fn frame_ok(n: u32, p: u32, f: Frame) -> bool
-    ensures { result ≡ frame_ok n p f }
+pub fn frame_ok(n: u32, p: u32, f: &Frame) -> bool
+    ensures { result ≡ frame_ok n p f.now }
 {
-    if f.offices != n {
-        return false;
-    }
-    if n < 2 {
-        return false;
-    }
-    if n > 8 {
-        return false;
-    }
-    if f.hops > n - 2 {
-        return false;
-    }
-    let e = f.entry;
-    entry_ok(n, p, e)
+    f.offices == n && 2 <= n && n <= 8 && f.hops <= n - 2 && entry_ok(n, p, &f.entry)
 }
 
 // The id of an entry: 32 to an office.
-pub fn id_of(e: Entry) -> usize
-    ensures { result ≡ id_of e }
+pub fn id_of(e: &Entry) -> usize
+    ensures { result ≡ id_of e.now }
 {
     let first = 32 * e.office as usize;
     if e.serial < 1 {
@@ -219,27 +177,41 @@ pub fn id_of(e: Entry) -> usize
     first + (e.serial - 1) as usize
 }
 
-// Does e outrank f?
-pub fn outranks(e: Entry, f: Entry) -> bool
-    ensures { result ≡ outranksOf e f }
+// Have two entries the same content?
+pub fn same_content(e: &Entry, f: &Entry) -> bool
+    ensures { result ≡ same_content e.now f.now }
 {
-    let c = e.clock;
-    let d = f.clock;
-    causal::rank::outranks(c, e.office, d, f.office)
+    e.plot == f.plot && e.value == f.value && e.clock == f.clock && e.deps == f.deps
+}
+
+// Does e outrank f?
+pub fn outranks(e: &Entry, f: &Entry) -> bool
+    ensures { result ≡ outranksOf e.now f.now }
+{
+    causal::rank::outranks(e.clock, e.office, f.clock, f.office)
+}
+
+// What stands where there is no frame.
+pub fn blank_frame() -> Frame
+    ensures { result ≡ blank_frame }
+{
+    Frame {
+        offices: 0,
+        hops: 0,
+        entry: blank_entry(),
+    }
 }
 
 // What stands where there is no entry.
 pub fn blank_entry() -> Entry
     ensures { result ≡ blank_entry }
 {
-    let clock = [0u32; 8];
-    let deps = [0u32; 8];
     Entry {
         office: 0,
         serial: 0,
         plot: 0,
         value: 0,
-        clock,
-        deps,
+        clock: [0; 8],
+        deps: [0; 8],
     }
 }

@@ -1,9 +1,10 @@
 // Reading a frame: each word is checked where it stands.
 ghost use Rattle.std.specs.Prelude.{◌≡◌, ◌+◌, ◌-◌, ◌*◌, ◌<◌, ◌≤◌, true, not, length, ◌==◌, nat_le, slice_index};
 ghost use Rattle.causal.specs.Sets.{is_in};
-ghost use Rattle.frame.specs.Refusals.{number_of, code_of};
+ghost use Rattle.std.specs.Result.{result_unwrap_or};
+ghost use Rattle.frame.specs.Refusals.{code_of};
 ghost use Rattle.frame.specs.Frames.{ring_ok, blank_frame};
-ghost use Rattle.frame.specs.Calls.{read_frame};
+ghost use Rattle.frame.specs.Calls.{frame_in};
 ghost use Rattle.causal.specs.Tests.{both};
 ghost use Rattle.frame.specs.Entries.{clock_ok, ids_ok, entry_ok};
 ghost use Rattle.frame.specs.Words.{clock_from};
@@ -11,35 +12,7 @@ ghost use Rattle.frame.specs.Reading.{shape_ok, kinds_ok, sum_ok, frame_at};
 ghost use Rattle.frame.specs.Promises.{ReadFramePromise};
 
 use crate::entry::{Entry, Frame};
-use crate::refusal::{Refusal, Status};
-
-#[derive(Clone, Copy)]
-pub struct FrameRead {
-    pub status: Status,
-    pub frame: Frame, // all zeros on a refusal
-}
-
-// What stands where there is no frame.
-fn blank_frame() -> Frame
-    ensures { result ≡ blank_frame }
-{
-    let entry = crate::entry::blank_entry();
-    Frame {
-        offices: 0,
-        hops: 0,
-        entry,
-    }
-}
-
-fn refused(refusal: Refusal) -> FrameRead
-    ensures { (code_of result.status ≡ number_of refusal) × (result.frame ≡ blank_frame) }
-{
-    let frame = blank_frame();
-    FrameRead {
-        status: Status::Refused(refusal),
-        frame,
-    }
-}
+use crate::refusal::Refusal;
 
 // The head is one, for n offices, and the length is exact.
 fn shape_ok(ws: &[u32], n: u32) -> bool
@@ -105,23 +78,21 @@ fn past_ok(office: usize, serial: u32, clock: [u32; 8], deps: [u32; 8]) -> bool
     !crate::entry::in_word(deps[office], serial)
 }
 
-// The entry rules, where clock and dependencies are in range. Not by `entry_ok`, which would copy the entry.
-fn rules_ok(n: u32, p: u32, e: Entry) -> bool
-    requires { (n ≤ 8) × (clock_ok n e.clock ≡ true) × (ids_ok n e.deps ≡ true) }
-    ensures { result ≡ entry_ok n p e }
+// The entry rules, where clock and dependencies are in range. Not by `entry_ok`, which would ask for that again.
+fn rules_ok(n: u32, p: u32, e: &Entry) -> bool
+    requires { (n ≤ 8) × (clock_ok n e.now.clock ≡ true) × (ids_ok n e.now.deps ≡ true) }
+    ensures { result ≡ entry_ok n p e.now }
 {
-    if !crate::entry::bounds_ok(n, p, e.office, e.serial, e.plot, e.value) {
+    if !crate::entry::bounds_ok(n, p, e) {
         return false;
     }
-    let clock = e.clock;
-    let deps = e.deps;
-    past_ok(e.office as usize, e.serial, clock, deps)
+    past_ok(e.office as usize, e.serial, e.clock, e.deps)
 }
 
 // May the frame say what it says, and is the check word right?
-fn content_ok(ws: &[u32], n: u32, p: u32, f: Frame) -> bool
-    requires { (2 ≤ n) × (n ≤ 8) × (1 ≤ length ws.now) × (clock_ok n f.entry.clock ≡ true) × (ids_ok n f.entry.deps ≡ true) }
-    ensures { result ≡ both (nat_le f.hops (n - 2)) (both (sum_ok ws.now) (entry_ok n p f.entry)) }
+fn content_ok(ws: &[u32], n: u32, p: u32, f: &Frame) -> bool
+    requires { (2 ≤ n) × (n ≤ 8) × (1 ≤ length ws.now) × (clock_ok n f.now.entry.clock ≡ true) × (ids_ok n f.now.entry.deps ≡ true) }
+    ensures { result ≡ both (nat_le f.now.hops (n - 2)) (both (sum_ok ws.now) (entry_ok n p f.now.entry)) }
 {
     if f.hops > n - 2 {
         return false;
@@ -129,51 +100,40 @@ fn content_ok(ws: &[u32], n: u32, p: u32, f: Frame) -> bool
     if !crate::word::sum_ok(ws) {
         return false;
     }
-    let e = f.entry;
-    rules_ok(n, p, e)
+    rules_ok(n, p, &f.entry)
 }
 
-// The frame that a row has, all zeros where it has none.
-pub fn frame_from(ws: &[u32], offices: u32, plots: u32) -> Frame
+// The frame that a row has.
+pub fn frame_from(ws: &[u32], offices: u32, plots: u32) -> Option<Frame>
     requires { ring_ok offices plots ≡ true }
-    ensures { result ≡ read_frame offices plots ws.now }
+    ensures { result ≡ frame_in offices plots ws.now }
 {
     if !shape_ok(ws, offices) {
-        return blank_frame();
+        return None;
     }
     if !kinds_ok(ws, offices) {
-        return blank_frame();
+        return None;
     }
     let from = 3 + offices as usize;
     let end = ws.len() - 1;
     if !crate::word::ids_ascend(&ws[from..end], offices) {
-        return blank_frame();
+        return None;
     }
     let clock = crate::word::clock_from(ws, 3, offices as usize);
     let deps = crate::word::ids_from(&ws[from..end]);
     let frame = frame_of(ws, offices, clock, deps);
-    if !content_ok(ws, offices, plots, frame) {
-        return blank_frame();
+    if !content_ok(ws, offices, plots, &frame) {
+        return None;
     }
-    frame
+    Some(frame)
 }
 
 // 01: read a frame. Only the answer is made here; a hearing, whose settings are in range, reads by `frame_from`.
-pub fn read_frame(ws: &[u32], offices: u32, plots: u32) -> FrameRead
-    ensures { ReadFramePromise ws.now offices plots (code_of result.status) result.frame }
+pub fn read_frame(ws: &[u32], offices: u32, plots: u32) -> Result<Frame, Refusal>
+    ensures { ReadFramePromise ws.now offices plots (code_of result) (result_unwrap_or result blank_frame) }
 {
     if !crate::entry::ring_ok(offices, plots) {
-        return refused(Refusal::Settings);
+        return Err(Refusal::Settings);
     }
-    let frame = frame_from(ws, offices, plots);
-    if frame.offices == 0 {
-        return FrameRead {
-            status: Status::Refused(Refusal::Format),
-            frame,
-        };
-    }
-    FrameRead {
-        status: Status::Accepted,
-        frame,
-    }
+    frame_from(ws, offices, plots).ok_or(Refusal::Format)
 }

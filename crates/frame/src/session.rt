@@ -18,20 +18,24 @@ pub struct Session {
     pub own: [Entry; 16], // the first `count` are its own writes, in order; the rest means nothing
 }
 
+// The own writes of a session, in order.
+pub fn own_writes(s: &Session) -> &[Entry]
+    requires { s.now.count ≤ 16 }
+    ensures { result.now ≡ (content_of s.now).own }
+{
+    &s.own[..s.count]
+}
+
 // What stands where there is no session: all zeros.
 pub fn blank_session() -> Session
     ensures { result ≡ session_of (fresh_content 0) }
 {
-    let clock = [0u32; 8];
-    let read = [0u32; 8];
-    let entry = crate::entry::blank_entry();
-    let own = [entry; 16];
     Session {
         offices: 0,
-        clock,
-        read,
+        clock: [0; 8],
+        read: [0; 8],
         count: 0,
-        own,
+        own: [crate::entry::blank_entry(); 16],
     }
 }
 
@@ -67,100 +71,73 @@ fn own_past_ok(
 
 // One own write: the entry rules, an id that is not among the earlier ones, and no dependency but on what was read or written before. All of
 // that is of offices that the ring has, so its dependencies are, too.
-fn own_ok(n: u32, p: u32, most: [u32; 8], read: [u32; 8], seen: [u32; 8], e: Entry) -> bool
+fn own_ok(n: u32, p: u32, most: [u32; 8], read: [u32; 8], seen: [u32; 8], e: &Entry) -> bool
     requires { ((c : List ℕ) → under_ok most c ≡ clock_ok n c) × (ids_ok n read ≡ true) × (ids_ok n seen ≡ true) }
-    ensures { result ≡ own_turn n p read seen e }
+    ensures { result ≡ own_turn n p read seen e.now }
 {
-    if !crate::entry::bounds_ok(n, p, e.office, e.serial, e.plot, e.value) {
+    if !crate::entry::bounds_ok(n, p, e) {
         return false;
     }
     // No clock has a number for a ninth office.
     if e.office > 7 {
         return false;
     }
-    let clock = e.clock;
-    let deps = e.deps;
-    own_past_ok(most, e.office as usize, e.serial, clock, deps, read, seen)
+    own_past_ok(
+        most,
+        e.office as usize,
+        e.serial,
+        e.clock,
+        e.deps,
+        read,
+        seen,
+    )
 }
 
 // The own writes, with the set of the ids seen so far.
-pub fn owns_ok(n: u32, p: u32, read: [u32; 8], own: [Entry; 16], count: usize) -> bool
-    requires { (count ≤ 16) × (ids_ok n read ≡ true) }
-    ensures { result ≡ own_ok n p read zeros (tab count (λ i. slice_index_or own i nobody)) }
+pub fn owns_ok(n: u32, p: u32, read: [u32; 8], own: &[Entry]) -> bool
+    requires { ids_ok n read ≡ true }
+    ensures { result ≡ own_ok n p read zeros own.now }
 {
     let most = crate::entry::mosts(n as usize);
     let mut seen = [0u32; 8];
-    for i in 0..count {
-        let e = own[i];
+    for e in own {
         if !own_ok(n, p, most, read, seen, e) {
             return false;
         }
-        let id = crate::entry::id_of(e);
-        let more = causal::set::insert(seen, id);
+        let more = causal::set::insert(seen, crate::entry::id_of(e));
         seen = more;
     }
     true
 }
 
 // All of a session but its own writes: the ring size, how many it carries, clock and read ids.
-pub fn head_ok(offices: u32, count: usize, clock: [u32; 8], read: [u32; 8], n: u32) -> bool
-    ensures { result ≡ head_ok n offices count clock read }
+fn head_ok(s: &Session, n: u32) -> bool
+    ensures { result ≡ head_ok n s.now.offices s.now.count s.now.clock s.now.read }
 {
-    if offices != n {
-        return false;
-    }
-    if count > 16 {
-        return false;
-    }
-    if !crate::entry::clock_ok(n as usize, clock) {
-        return false;
-    }
-    crate::entry::ids_ok(n as usize, read)
+    s.offices == n
+        && s.count <= 16
+        && crate::entry::clock_ok(n as usize, s.clock)
+        && crate::entry::ids_ok(n as usize, s.read)
 }
 
-// 01: is a session sound for a ring of so many offices, with so many plots? The own writes are taken out only where there are any: they are
-// 1,280 bytes.
-pub fn session_ok(s: Session, offices: u32, plots: u32) -> bool
-    ensures { result ≡ session_ok offices plots (content_of s) }
+// 01: is a session sound for a ring of so many offices, with so many plots?
+pub fn session_ok(s: &Session, offices: u32, plots: u32) -> bool
+    ensures { result ≡ session_ok offices plots (content_of s.now) }
 {
-    let count = s.count;
-    let clock = s.clock;
-    let read = s.read;
-    if !head_ok(s.offices, count, clock, read, offices) {
+    if !head_ok(s, offices) {
         return false;
     }
-    if count == 0 {
-        return true;
-    }
-    let own = s.own;
-    owns_ok(offices, plots, read, own, count)
+    owns_ok(offices, plots, s.read, own_writes(s))
 }
 
-// The ids of the first `count` of own.
-fn ids_of(own: [Entry; 16], count: usize) -> [u32; 8]
-    requires { count ≤ 16 }
-    ensures { result ≡ ids_of (tab count (λ i. slice_index_or own i nobody)) }
+// The ids of entries.
+pub fn ids_of(own: &[Entry]) -> [u32; 8]
+    ensures { result ≡ ids_of own.now }
 {
     let mut ids = [0u32; 8];
-    for i in 0..count {
-        let e = own[i];
-        let id = crate::entry::id_of(e);
-        let more = causal::set::insert(ids, id);
+    for e in own {
+        let more = causal::set::insert(ids, crate::entry::id_of(e));
         ids = more;
     }
     ids
-}
-
-// The ids of a session's own writes.
-pub fn own_ids(s: Session) -> [u32; 8]
-    requires { s.count ≤ 16 }
-    ensures { result ≡ ids_of (content_of s).own }
-{
-    let count = s.count;
-    if count == 0 {
-        let none = [0u32; 8];
-        return none;
-    }
-    let own = s.own;
-    ids_of(own, count)
 }

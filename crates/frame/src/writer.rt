@@ -7,7 +7,7 @@ ghost use Rattle.frame.specs.Promises.{WriteFramePromise};
 ghost use Rattle.frame.specs.Refusals.{reply_of};
 
 use crate::entry::Frame;
-use crate::refusal::{Refusal, Written};
+use crate::refusal::Refusal;
 
 fn put_head(out: &mut [u32], head: u32, plot: u32, value: u32)
     requires { (3 ≤ length out.old) × (plot < 268435456) × (value < 268435456) }
@@ -30,44 +30,39 @@ fn head_word(office: u32, serial: u32, hops: u32, offices: u32, count: u32) -> u
 fn check_word(head: u32, fields: u32, clocks: u32, deps: u32) -> u32
     ensures { result ≡ 4026531840 + (head + fields + clocks + deps) % 268435456 }
 {
-    let a = std::num::wrapping_add_u32(head, fields);
-    let b = std::num::wrapping_add_u32(clocks, deps);
-    0xF000_0000 + std::num::wrapping_add_u32(a, b) % crate::word::LOW
+    let sum = head
+        .wrapping_add(fields)
+        .wrapping_add(clocks)
+        .wrapping_add(deps);
+    0xF000_0000 + sum % crate::word::LOW
 }
 
 // How many words a frame takes.
-pub fn words_of(f: Frame) -> usize
-    requires { f.offices ≤ 8 }
-    ensures { result ≡ length (frame_words f) }
+pub fn words_of(f: &Frame) -> usize
+    requires { f.now.offices ≤ 8 }
+    ensures { result ≡ length (frame_words f.now) }
 {
-    let e = f.entry;
-    let deps = e.deps;
-    f.offices as usize + causal::set::size(deps) + 4
+    f.offices as usize + causal::set::size(f.entry.deps) + 4
 }
 
 // Has a row of so many words room for a frame? No frame has more than 268: what it depends on is counted only for a shorter row.
-fn has_room(f: Frame, room: usize) -> bool
-    requires { f.offices ≤ 8 }
-    ensures { result ≡ nat_le (length (frame_words f)) room }
+fn has_room(f: &Frame, room: usize) -> bool
+    requires { f.now.offices ≤ 8 }
+    ensures { result ≡ nat_le (length (frame_words f.now)) room }
 {
-    if room >= 268 {
-        return true;
-    }
-    words_of(f) <= room
+    room >= 268 || words_of(f) <= room
 }
 
 // The words of a frame that may be written, where there is room for them: nothing is asked again. Gives how many. The head is put behind what
 // it counts.
-fn put(f: Frame, out: &mut [u32]) -> usize
-    requires { (frame_ok f.offices 64 f ≡ true) × (length (frame_words f) ≤ length out.old) }
-    ensures { (result ≡ length (frame_words f)) × (out.new ≡ laid (frame_words f) out.old) }
+fn put(f: &Frame, out: &mut [u32]) -> usize
+    requires { (frame_ok f.now.offices 64 f.now ≡ true) × (length (frame_words f.now) ≤ length out.old) }
+    ensures { (result ≡ length (frame_words f.now)) × (out.new ≡ laid (frame_words f.now) out.old) }
 {
-    let e = f.entry;
-    let clock = e.clock;
-    let deps = e.deps;
+    let e = &f.entry;
     let offices = f.offices;
-    let clocks = crate::word::put_clock(clock, offices as usize, out, 3);
-    let put = crate::word::put_ids(deps, out, 3 + offices as usize);
+    let clocks = crate::word::put_clock(e.clock, offices as usize, out, 3);
+    let put = crate::word::put_ids(e.deps, out, 3 + offices as usize);
     let end = put.to;
     let count = end - 3 - offices as usize;
     let head = head_word(e.office, e.serial, f.hops, offices, count as u32);
@@ -77,24 +72,23 @@ fn put(f: Frame, out: &mut [u32]) -> usize
 }
 
 // A frame that may be written, from at on: the rest of out is lent to the frame writer. Gives the place behind it.
-pub fn put_frame(f: Frame, out: &mut [u32], at: usize) -> usize
-    requires { (frame_ok f.offices 64 f ≡ true) × (at + length (frame_words f) ≤ length out.old) }
-    ensures { (result ≡ at + length (frame_words f)) × (out.new ≡ sets out.old at (frame_words f)) }
+pub fn put_frame(f: &Frame, out: &mut [u32], at: usize) -> usize
+    requires { (frame_ok f.now.offices 64 f.now ≡ true) × (at + length (frame_words f.now) ≤ length out.old) }
+    ensures { (result ≡ at + length (frame_words f.now)) × (out.new ≡ sets out.old at (frame_words f.now)) }
 {
     let words = put(f, &mut out[at..]);
     at + words
 }
 
 // 01: write a frame.
-pub fn write_frame(f: Frame, out: &mut [u32]) -> Written
+pub fn write_frame(f: Frame, out: &mut [u32]) -> Result<usize, Refusal>
     ensures { WriteFramePromise f out.old (reply_of result) out.new }
 {
-    if !crate::entry::frame_ok(f.offices, 64, f) {
-        return Written::NotWritten(Refusal::Content);
+    if !crate::entry::frame_ok(f.offices, 64, &f) {
+        return Err(Refusal::Content);
     }
-    if !has_room(f, out.len()) {
-        return Written::NotWritten(Refusal::Room);
+    if !has_room(&f, out.len()) {
+        return Err(Refusal::Room);
     }
-    let n = put(f, out);
-    Written::Words(n)
+    Ok(put(&f, out))
 }

@@ -1,12 +1,17 @@
 // Answers as C has them: a refusal number, 0 for none, and the values beside it.
 ghost use Rattle.std.specs.Prelude.{◌≡◌};
-ghost use Rattle.frame.specs.Refusals.{reply_of};
+ghost use Rattle.std.specs.Result.{result_unwrap_or};
+ghost use Rattle.frame.specs.Refusals.{code_of, reply_of};
+
+use frame::entry::{Entry, Frame};
+use frame::refusal::{Refusal, code_of};
+use frame::session::Session;
 
 #[repr(C)]
 #[derive(Clone, Copy)]
 pub struct FrameAnswer {
     pub refusal: u32,
-    pub frame: frame::entry::Frame,
+    pub frame: Frame,
 }
 
 #[repr(C)]
@@ -21,8 +26,8 @@ pub struct WordsAnswer {
 pub struct PlotAnswer {
     pub refusal: u32,
     pub found: u32,
-    pub entry: frame::entry::Entry,
-    pub session: frame::session::Session,
+    pub entry: Entry,
+    pub session: Session,
 }
 
 #[repr(C)]
@@ -30,14 +35,14 @@ pub struct PlotAnswer {
 pub struct WroteAnswer {
     pub refusal: u32,
     pub words: usize,
-    pub session: frame::session::Session,
+    pub session: Session,
 }
 
 #[repr(C)]
 #[derive(Clone, Copy)]
 pub struct SessionAnswer {
     pub refusal: u32,
-    pub session: frame::session::Session,
+    pub session: Session,
 }
 
 #[repr(C)]
@@ -50,14 +55,23 @@ pub struct SettingsAnswer {
 }
 
 // What a call that writes words answers.
-pub fn words_answer(written: frame::refusal::Written) -> WordsAnswer
-    ensures { record { code = result.refusal; words = result.words } ≡ reply_of written }
+impl From<Result<usize, Refusal>> for WordsAnswer {
+    ghost from_gives = { λ answer a. record { code = a.refusal; words = a.words } ≡ reply_of answer };
+
+    fn from(answer: Result<usize, Refusal>) -> WordsAnswer {
+        WordsAnswer {
+            refusal: code_of(&answer),
+            words: answer.unwrap_or(0),
+        }
+    }
+}
+
+// What a call that hands back a session answers: `left` on a refusal.
+pub fn session_answer(answer: Result<Session, Refusal>, left: Session) -> SessionAnswer
+    ensures { (result.refusal ≡ code_of answer) × (result.session ≡ result_unwrap_or answer left) }
 {
-    match written {
-        frame::refusal::Written::Words(words) => WordsAnswer { refusal: 0, words },
-        frame::refusal::Written::NotWritten(refusal) => WordsAnswer {
-            refusal: frame::refusal::number_of(refusal),
-            words: 0,
-        },
+    SessionAnswer {
+        refusal: code_of(&answer),
+        session: answer.unwrap_or(left),
     }
 }

@@ -6,6 +6,8 @@ ghost use Rattle.host.specs.Bytes.{word_at, CheckPromise};
 ghost use Rattle.frame.specs.Promises.{ReadFramePromise, WriteFramePromise};
 
 use crate::answer::{FrameAnswer, WordsAnswer};
+use frame::entry::blank_frame;
+use frame::refusal::code_of;
 
 // A frame has at most 267 words.
 const MOST: usize = 267;
@@ -36,9 +38,7 @@ fn check_words(bytes: &[u8], n: usize, offices: u32, plots: u32) -> u32
     for i in 0..n {
         row[i] = word_at(bytes, i);
     }
-    let read = frame::reader::read_frame(&row[..n], offices, plots);
-    let status = read.status;
-    frame::refusal::code_of(status)
+    code_of(&frame::reader::read_frame(&row[..n], offices, plots))
 }
 
 // Are these bytes a frame for this ring and these plots? 0 for yes, else the refusal: 1 for the settings, then 9.
@@ -65,10 +65,10 @@ pub fn burial_read_frame(words: &[u32], offices: u32, plots: u32) -> FrameAnswer
     ensures { ReadFramePromise words.now offices plots result.refusal result.frame }
 {
     let read = frame::reader::read_frame(words, offices, plots);
-    let status = read.status;
-    let refusal = frame::refusal::code_of(status);
-    let frame = read.frame;
-    FrameAnswer { refusal, frame }
+    FrameAnswer {
+        refusal: code_of(&read),
+        frame: read.unwrap_or(blank_frame()),
+    }
 }
 
 // 01: write a frame.
@@ -76,6 +76,5 @@ pub fn burial_read_frame(words: &[u32], offices: u32, plots: u32) -> FrameAnswer
 pub fn burial_write_frame(frame: frame::entry::Frame, out: &mut [u32]) -> WordsAnswer
     ensures { WriteFramePromise frame out.old (record { code = result.refusal; words = result.words }) out.new }
 {
-    let written = frame::writer::write_frame(frame, out);
-    crate::answer::words_answer(written)
+    frame::writer::write_frame(frame, out).into()
 }

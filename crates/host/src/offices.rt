@@ -1,18 +1,22 @@
 // The calls of an office for a host. Sessions go in and come back by value.
 ghost use Rattle.std.specs.Prelude.{◌≡◌, ◌≤◌};
 ghost use Rattle.office.specs.Promises.{FreshPromise, JointPromise, NeedPromise, OpenPromise, ReadPromise, ReceivePromise, SettingsPromise, WritePromise};
-ghost use Rattle.host.specs.Flags.{flag_of, is_set};
+ghost use Rattle.host.specs.Flags.{is_set};
 
-use crate::answer::{PlotAnswer, SessionAnswer, SettingsAnswer, WordsAnswer, WroteAnswer};
-use frame::session::Session;
+use crate::answer::{
+    PlotAnswer, SessionAnswer, SettingsAnswer, WordsAnswer, WroteAnswer, session_answer,
+};
+use crate::lent::{PlotFound, burial_lent_read_joint, burial_lent_read_plot, burial_lent_write};
+use frame::refusal::code_of;
+use frame::session::{Session, blank_session};
+use office::settings::{NO_SETTINGS, Settings};
 
 // 01: the call that gives the store's need.
 #[inline(always)]
 pub fn burial_store_need(offices: u32, own: u32, plots: u32) -> WordsAnswer
     ensures { NeedPromise offices own plots (record { code = result.refusal; words = result.words }) }
 {
-    let need = office::need::store_need(offices, own, plots);
-    crate::answer::words_answer(need)
+    office::need::store_need(offices, own, plots).into()
 }
 
 // 01: open an office.
@@ -20,8 +24,7 @@ pub fn burial_store_need(offices: u32, own: u32, plots: u32) -> WordsAnswer
 pub fn burial_open_office(offices: u32, own: u32, plots: u32, store: &mut [u32]) -> u32
     ensures { OpenPromise offices own plots store.old result store.new }
 {
-    let status = office::open::open_office(offices, own, plots, store);
-    frame::refusal::code_of(status)
+    code_of(&office::open::open_office(offices, own, plots, store))
 }
 
 // What a store was opened with.
@@ -30,13 +33,17 @@ pub fn burial_store_settings(store: &[u32]) -> SettingsAnswer
     ensures { SettingsPromise store.now result.refusal result.offices result.own result.plots }
 {
     let settings = office::settings::store_settings(store);
-    let status = settings.status;
-    let refusal = frame::refusal::code_of(status);
+    let refusal = code_of(&settings);
+    let Settings {
+        offices,
+        own,
+        plots,
+    } = settings.unwrap_or(NO_SETTINGS);
     SettingsAnswer {
         refusal,
-        offices: settings.offices,
-        own: settings.own,
-        plots: settings.plots,
+        offices,
+        own,
+        plots,
     }
 }
 
@@ -45,21 +52,7 @@ pub fn burial_store_settings(store: &[u32]) -> SettingsAnswer
 pub fn burial_fresh_session(offices: u32) -> SessionAnswer
     ensures { FreshPromise offices result.refusal result.session }
 {
-    let fresh = office::open::fresh_session(offices);
-    let status = fresh.status;
-    let refusal = frame::refusal::code_of(status);
-    let session = fresh.session;
-    SessionAnswer { refusal, session }
-}
-
-// 1 for true, as C has it.
-pub fn flag(b: bool) -> u32
-    ensures { result ≡ flag_of b }
-{
-    if b {
-        return 1;
-    }
-    0
+    session_answer(office::open::fresh_session(offices), blank_session())
 }
 
 // 01: read one plot.
@@ -67,12 +60,12 @@ pub fn flag(b: bool) -> u32
 pub fn burial_read_plot(store: &mut [u32], session: Session, plot: u32) -> PlotAnswer
     ensures { (result.found ≤ 1) × ReadPromise store.old session plot result.refusal (is_set result.found) result.entry result.session store.new }
 {
-    let read = reading::read::read_plot(store, session, plot);
-    let status = read.status;
-    let refusal = frame::refusal::code_of(status);
-    let found = flag(read.found);
-    let entry = read.entry;
-    let left = read.session;
+    let mut left = session;
+    let PlotFound {
+        refusal,
+        found,
+        entry,
+    } = burial_lent_read_plot(store, &mut left, plot);
     PlotAnswer {
         refusal,
         found,
@@ -91,12 +84,9 @@ pub fn burial_read_joint(
 ) -> SessionAnswer
     ensures { JointPromise store.old session plots.now answer.old result.refusal result.session store.new answer.new }
 {
-    let read = reading::joint::read_joint(store, session, plots, answer);
-    let status = read.status;
-    let refusal = frame::refusal::code_of(status);
-    let left = read.session;
+    let mut left = session;
     SessionAnswer {
-        refusal,
+        refusal: burial_lent_read_joint(store, &mut left, plots, answer),
         session: left,
     }
 }
@@ -112,13 +102,11 @@ pub fn burial_write(
 ) -> WroteAnswer
     ensures { WritePromise store.old session plot value out.old (record { code = result.refusal; words = result.words }) result.session store.new out.new }
 {
-    let wrote = writing::write::write(store, session, plot, value, out);
-    let written = wrote.written;
-    let answer = crate::answer::words_answer(written);
-    let left = wrote.session;
+    let mut left = session;
+    let WordsAnswer { refusal, words } = burial_lent_write(store, &mut left, plot, value, out);
     WroteAnswer {
-        refusal: answer.refusal,
-        words: answer.words,
+        refusal,
+        words,
         session: left,
     }
 }
@@ -128,6 +116,5 @@ pub fn burial_write(
 pub fn burial_receive(store: &mut [u32], frame: &[u32], out: &mut [u32]) -> WordsAnswer
     ensures { ReceivePromise store.old frame.now out.old (record { code = result.refusal; words = result.words }) store.new out.new }
 {
-    let written = hearing::receive::receive(store, frame, out);
-    crate::answer::words_answer(written)
+    hearing::receive::receive(store, frame, out).into()
 }

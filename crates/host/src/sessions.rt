@@ -1,8 +1,8 @@
 // The join of two sessions for a host.
 ghost use Rattle.joining.specs.Promises.{JoinPromise};
 
-use crate::answer::SessionAnswer;
-use frame::session::Session;
+use crate::answer::{SessionAnswer, session_answer};
+use frame::session::{Session, blank_session};
 
 // 02: one errand, two people.
 #[inline(always)]
@@ -15,8 +15,5 @@ pub fn burial_join_sessions(
     ensures { JoinPromise offices plots first second result.refusal result.session }
 {
     let joined = joining::join::join_sessions(offices, plots, first, second);
-    let status = joined.status;
-    let refusal = frame::refusal::code_of(status);
-    let session = joined.session;
-    SessionAnswer { refusal, session }
+    session_answer(joined, blank_session())
 }

@@ -1,5 +1,6 @@
 -- The calls that lend a session make the same steps of a run: the code of each meets its contract (`_met`), which is the promise of the call by
 -- value, of the session as it is left (`_is`), and asks for nothing (`_asks`). Assumes nothing.
+use Rattle.std.proofs.Common.{Result}
 use Rattle.std.specs.Prelude.{◌≡◌, ℕ}
 use mathlib.Core.Path.{refl}
 use base.Logic.{SProp, emp}
@@ -10,7 +11,6 @@ use prog.Memory.{Memory}
 use prog.Routine.{Routine}
 use Rattle.frame.specs.Refusals.{code_of, reply_of}
 use Rattle.frame.specs.declared.refusal.Status.{Status}
-use Rattle.frame.specs.declared.refusal.Written.{Written}
 use Rattle.frame.proofs.Contract.{Four, Lent, MutRow, Row, Three, Two}
 use Rattle.office.specs.Promises.{JointPromise, ReadPromise, WritePromise}
 use Rattle.lent.specs.declared.by_value.PlotAnswer.{PlotAnswer}
@@ -34,7 +34,7 @@ module _ {M : Type 1} {𝓤 : Ura M} (𝓛 : Logic 𝓤) (mem : Memory → SProp
         ≡ fact 𝓤 (JointPromise ws.now s.now plots.now row.now (code_of r) s'.now ws'.now row'.now)
     pub joint_asks : (κs : Four) (ws : MutRow) (s : Lent) (plots : Row) (row : MutRow) → (ReadJointContract.clauses 𝓛 mem run κs (ws, (s, (plots, (row, tt))))).requires tt ≡ emp 𝓤
     pub write_met : Write.Statement.statement M
-    pub write_is : (κs : Three) (ws : MutRow) (s : Lent) (plot value : ℕ) (row : MutRow) (r : Written) (ws' : MutRow) (s' : Lent) (row' : MutRow)
+    pub write_is : (κs : Three) (ws : MutRow) (s : Lent) (plot value : ℕ) (row : MutRow) (r : Result ℕ Refusal) (ws' : MutRow) (s' : Lent) (row' : MutRow)
         → (WriteContract.clauses 𝓛 mem run κs (ws, (s, (plot, (value, (row, tt)))))).ensures tt r (ws', (s', (plot, (value, (row', tt)))))
         ≡ fact 𝓤 (WritePromise ws.now s.now plot value row.now (reply_of r) s'.now ws'.now row'.now)
     pub write_asks : (κs : Three) (ws : MutRow) (s : Lent) (plot value : ℕ) (row : MutRow) → (WriteContract.clauses 𝓛 mem run κs (ws, (s, (plot, (value, (row, tt)))))).requires tt ≡ emp 𝓤

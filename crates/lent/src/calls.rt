@@ -1,34 +1,47 @@
 // To read and to write with the session lent: it comes as `s` and is left as the call leaves it. The rest is as where it is given by value.
 ghost use Rattle.frame.specs.Refusals.{code_of, reply_of};
+ghost use Rattle.lent.specs.Answers.{found_by, entry_by};
 ghost use Rattle.office.specs.Promises.{JointPromise, ReadPromise, WritePromise};
 
-use crate::by_value::PlotAnswer;
-use frame::refusal::{Status, Written};
+use frame::entry::Entry;
+use frame::refusal::Refusal;
 use frame::session::Session;
+use office::note::set_seen;
 
 // 01: read one plot.
-pub fn read_plot(store: &mut [u32], s: &mut Session, plot: u32) -> PlotAnswer
-    ensures { ReadPromise store.old s.old plot (code_of result.status) result.found result.entry s.new store.new }
+pub fn read_plot(store: &mut [u32], s: &mut Session, plot: u32) -> Result<Option<Entry>, Refusal>
+    ensures { ReadPromise store.old s.old plot (code_of result) (found_by result) (entry_by result) s.new store.new }
 {
-    let done = crate::by_value::read_plot_by_value(store, *s, plot);
-    *s = done.session;
-    done.answer
+    let read = reading::read::see_plot(store, s, plot)?;
+    set_seen(s, read.seen);
+    Ok(read.entry)
 }
 
 // 01: read jointly.
-pub fn read_joint(store: &mut [u32], s: &mut Session, plots: &[u32], answer: &mut [u32]) -> Status
+pub fn read_joint(
+    store: &mut [u32],
+    s: &mut Session,
+    plots: &[u32],
+    answer: &mut [u32],
+) -> Result<(), Refusal>
     ensures { JointPromise store.old s.old plots.now answer.old (code_of result) s.new store.new answer.new }
 {
-    let done = reading::joint::read_joint(store, *s, plots, answer);
-    *s = done.session;
-    done.status
+    let seen = reading::joint::see_joint(store, s, plots, answer)?;
+    set_seen(s, seen);
+    Ok(())
 }
 
 // 01: write.
-pub fn write(store: &mut [u32], s: &mut Session, plot: u32, value: u32, out: &mut [u32]) -> Written
+pub fn write(
+    store: &mut [u32],
+    s: &mut Session,
+    plot: u32,
+    value: u32,
+    out: &mut [u32],
+) -> Result<usize, Refusal>
     ensures { WritePromise store.old s.old plot value out.old (reply_of result) s.new store.new out.new }
 {
-    let done = writing::write::write(store, *s, plot, value, out);
-    *s = done.session;
-    done.written
+    let made = writing::write::make(store, s, plot, value, out)?;
+    writing::write::extend(s, &made.entry);
+    Ok(made.words)
 }

@@ -1,5 +1,6 @@
 -- The bounds of paper 01 in the calls of an office, by computing: each kept and passed by one; refusals 10 and 11
 -- from each side, and what readings hand back. Assumes nothing.
+use Rattle.std.proofs.Common.{None, Some}
 use Prim.Native.Nat.{ℕ, ◌+◌}
 use mathlib.Core.Bool.{true}
 use mathlib.Core.List.{List, [], ◌∷◌}
@@ -21,7 +22,7 @@ use Rattle.frame.specs.Words.{clock_from, clock_words, id_word_if, id_words, id_
 use Rattle.frame.specs.declared.entry.Entry.{Entry}
 use Rattle.frame.proofs.Bounds.{carrying, loaded}
 use Rattle.frame.proofs.Cases.{entry_a}
-use Rattle.store.specs.Offices.{None, Office, Some, best_own, best_to, better, clock_of, consider, current, empty_office, gapless, held_ok, hold, made, max_to, reveal, settings_ok, sound_office}
+use Rattle.store.specs.Offices.{Office, best_own, best_to, better, clock_of, consider, current, empty_office, gapless, held_ok, hold, made, max_to, reveal, settings_ok, sound_office}
 use Rattle.store.specs.Reveal.{revealed, steps}
 use Rattle.office.specs.Calls.{answer_words, entry_code, handed, hold_all, hold_new, joint_code, joint_on, new_entry, noted, noted_all, open_office, own_code, plots_ok, read_code, read_on, receive_code, receive_on, receive_sends, received_by, sent_of, store_need, three_words, write_code, write_on, wrote_session}
 use Rattle.office.proofs.Cases.{before, got_a}

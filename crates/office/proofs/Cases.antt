@@ -1,4 +1,5 @@
 -- Facts by computing that the substitutes of paper 01's last section and the old clerk's ways do not meet. Assumes nothing.
+use Rattle.std.proofs.Common.{None, Some}
 use Prim.Native.Nat.{ℕ, ◌*◌, ◌+◌}
 use mathlib.Core.Bool.{true}
 use mathlib.Core.List.{List, [], ◌∷◌, map}
@@ -19,7 +20,7 @@ use Rattle.frame.specs.Tokens.{rows_of}
 use Rattle.frame.specs.Words.{clock_from, clock_words, id_word_if, id_words, id_words_to, ids_from, summed, total}
 use Rattle.frame.specs.declared.entry.Frame.{Frame}
 use Rattle.frame.proofs.Cases.{entry_a, entry_b}
-use Rattle.store.specs.Offices.{None, Office, Some, best_own, best_to, better, clock_of, consider, current, empty_office, hold, made, max_to, reveal, settings_ok}
+use Rattle.store.specs.Offices.{Office, best_own, best_to, better, clock_of, consider, current, empty_office, hold, made, max_to, reveal, settings_ok}
 use Rattle.store.specs.Reveal.{revealed, steps}
 use Rattle.office.specs.Calls.{answer_words, entry_code, fresh_code, handed, hold_all, hold_new, joint_code, joint_on, new_entry, noted, noted_all, open_office, own_code, plots_ok, read_code, read_on, receive_code, receive_on, receive_sends, received_by, sent_of, store_need, three_words, write_code, write_on, wrote_session}
 

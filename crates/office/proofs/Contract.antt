@@ -1,5 +1,6 @@
 -- The code of each call meets its contract (`_met`), which is its promise in specs/Promises.antt (`_is`) and asks for nothing (`_asks`): a
 -- changed `ensures` or an added `requires` breaks this file. Assumes nothing.
+use Rattle.std.proofs.Common.{Result}
 use Prim.Native.Nat.{ℕ}
 use mathlib.Core.Path.{◌≡◌, refl}
 use base.Logic.{SProp, emp}
@@ -10,7 +11,6 @@ use prog.Memory.{Memory}
 use prog.Routine.{Routine}
 use Rattle.frame.specs.Refusals.{code_of, reply_of}
 use Rattle.frame.specs.declared.refusal.Status.{Status}
-use Rattle.frame.specs.declared.refusal.Written.{Written}
 use Rattle.frame.proofs.Contract.{MutRow, One, Row}
 use Rattle.office.specs.Promises.{FreshPromise, NeedPromise, OpenPromise, SettingsPromise}
 use Rattle.office.specs.declared.open.Fresh.{Fresh}
@@ -27,7 +27,7 @@ use Rattle.office.specs.contracts.settings.store_settings as StoreSettingsContra
 module _ {M : Type 1} {𝓤 : Ura M} (𝓛 : Logic 𝓤) (mem : Memory → SProp 𝓤) (run : Routine → Fun 𝓤) where
   pub record OfficeContracts : Type 2 where
     pub need_met : StoreNeed.Statement.statement M
-    pub need_is : (n o p : ℕ) (r : Written)
+    pub need_is : (n o p : ℕ) (r : Result ℕ Refusal)
         → (StoreNeedContract.clauses 𝓛 mem run tt (n, (o, (p, tt)))).ensures tt r (n, (o, (p, tt)))
         ≡ fact 𝓤 (NeedPromise n o p (reply_of r))
     pub need_asks : (n o p : ℕ) → (StoreNeedContract.clauses 𝓛 mem run tt (n, (o, (p, tt)))).requires tt ≡ emp 𝓤

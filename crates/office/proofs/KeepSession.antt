@@ -1,4 +1,5 @@
 -- A sound session that has noted one more entry is sound. Assumes nothing.
+use Rattle.std.proofs.Common.{None, Some}
 use Prim.Native.Nat.{ℕ, ◌<◌, ◌≤◌}
 use mathlib.Core.Bool.{true}
 use mathlib.Core.List.{Memᴰ}
@@ -15,7 +16,7 @@ use Rattle.frame.specs.declared.entry.Entry.{Entry}
 use Rattle.frame.proofs.Entries.{entry_facts}
 use Rattle.frame.proofs.Ids.{id_range, ids_of_lem, ids_range, join_ok}
 use Rattle.frame.proofs.Sessions.{facts_session, own_more, session_facts}
-use Rattle.store.specs.Offices.{Found, None, Some}
+use Rattle.store.specs.Offices.{Found}
 use Rattle.office.specs.Calls.{noted}
 
 pub noted_ok : (n p : ℕ) (f : Found) (s : Content) → n ≤ 8 → IdSet s.read → ((e : Entry) → Memᴰ e s.own → SaneEntry e)

@@ -1,4 +1,5 @@
 -- The session left by a call is sound for the store, if it was. Assumes nothing.
+use Rattle.std.proofs.Common.{None, Some}
 use Prim.Native.Nat.{ℕ, ◌*◌, ◌+◌, ◌<◌, suc, zero}
 use mathlib.Core.Bool.{Bool, false, true}
 use mathlib.Core.List.{List, Memᴰ, [], ◌++◌, ◌∷◌}
@@ -22,7 +23,7 @@ use Rattle.frame.specs.declared.entry.Entry.{Entry}
 use Rattle.frame.proofs.Entries.{entry_facts}
 use Rattle.frame.proofs.Ids.{id_range, join_ok}
 use Rattle.frame.proofs.Sessions.{SessionFacts, facts_session, ids_from, ids_new, ids_set, own_end, own_ok_lem, session_facts}
-use Rattle.store.specs.Offices.{Found, None, Office, Some, current, made, reveal}
+use Rattle.store.specs.Offices.{Found, Office, current, made, reveal}
 use Rattle.store.proofs.Best.{current_from}
 use Rattle.store.proofs.Keep.{Sound, reveal_sound}
 use Rattle.office.specs.Calls.{answer_words, given, handed_all, joint_code, joint_on, new_entry, noted, noted_all, own_code, plots_ok, read_all, read_code, read_on, write_code, write_on, write_sends, wrote_session}

@@ -1,4 +1,5 @@
 -- What is current as a number, what a session notes of it, and the refusals that the readings have in common. Assumes nothing.
+use Rattle.std.proofs.Common.{None, Option, Some}
 use Prim.Native.Nat.{ℕ, ◌*◌, ◌<◌, ◌≤◌}
 use mathlib.Core.Path.{◌≡◌, refl, sym, ap, ◌∙◌, subst}
 use mathlib.Core.Bool.{true}
@@ -16,10 +17,8 @@ use Rattle.frame.specs.declared.session.Session.{Session}
 use Rattle.frame.specs.Entries.{id_of}
 use Rattle.frame.specs.Sessions.{Content, content_of, nobody, session_ok}
 use Rattle.frame.proofs.Sessions.{session_facts}
-use Rattle.store.specs.Offices.{entry_at, sound_store, Found, None, Some}
+use Rattle.store.specs.Offices.{entry_at, sound_store, Found}
 use Rattle.store.specs.Current.{InSlots, current_at, found_at}
-use Rattle.store.specs.declared.current.Place.{Place}
-use Rattle.store.specs.declared.current.Place.TheVariants.{At, Nowhere}
 use Rattle.store.proofs.Rules.{rules_of, reaches}
 use Rattle.store.proofs.Places.{place_in_slots}
 use Rattle.office.specs.Answers.{noted_in}
@@ -40,15 +39,15 @@ few_own n p s h = omega (arith, (session_facts n p (content_of s) h).few, tab_le
 
 -- ---- a place as a number
 
-pub number_found : (ws : List ℕ) (m : ℕ) (p : Place) → InSlots m p → found_in ws (place_number p) ≡ found_at ws p
+pub number_found : (ws : List ℕ) (m : ℕ) (p : Option ℕ) → InSlots m p → found_in ws (place_number p) ≡ found_at ws p
 unfolding found_in place_number found_at
-number_found ws m (At k) h = rw (lt-ltb k 256 h.0)
-number_found ws m Nowhere h = refl
+number_found ws m (Some k) h = rw (lt-ltb k 256 h.0)
+number_found ws m None h = refl
 
-pub number_reaches : (m : ℕ) (p : Place) → InSlots m p → Reaches m (place_number p)
+pub number_reaches : (m : ℕ) (p : Option ℕ) → InSlots m p → Reaches m (place_number p)
 unfolding place_number
-number_reaches m (At k) h l = h.1
-number_reaches m Nowhere h l = absurd (omega arith)
+number_reaches m (Some k) h l = h.1
+number_reaches m None h l = absurd (omega arith)
 
 pub current_slots : (ws v : List ℕ) (plot : ℕ) → sound_store ws ≡ true → length v ≡ 8 → subset_of v (part ws 3 8) ≡ true → InSlots (length ws) (current_at ws v plot)
 unfolding current_at

@@ -1,5 +1,6 @@
 -- The three clocks of paper 01, by computing: "With [2,0], [0,3], [2,1] met in that order it keeps the first value, while [2,0], [2,1], [0,3] keeps
 -- the value of [2,1]. Here one entry is kept whole." Assumes nothing.
+use Rattle.std.proofs.Common.{Some}
 use Prim.Native.Nat.{ℕ}
 use mathlib.Core.Bool.{true}
 use mathlib.Core.List.{List, [], ◌∷◌}
@@ -17,7 +18,7 @@ use Rattle.frame.specs.Entries.{bounds_ok, clock_ok, clock_place_ok, entry_ok, i
 use Rattle.frame.specs.Frames.{body_words, frame_words, framed}
 use Rattle.frame.specs.Tokens.{rows_of}
 use Rattle.frame.specs.Words.{clock_words, id_word_if, id_words, id_words_to, summed, total}
-use Rattle.store.specs.Offices.{Office, Some, best_to, better, consider, current, empty_office, hold, reveal, gapless, held_ok, sound_office}
+use Rattle.store.specs.Offices.{Office, best_to, better, consider, current, empty_office, hold, reveal, gapless, held_ok, sound_office}
 use Rattle.store.specs.Reveal.{revealed, steps}
 use Rattle.office.specs.Calls.{entry_code, hold_new, receive_code, receive_on, receive_sends, received_by}
 

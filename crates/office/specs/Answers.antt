@@ -1,15 +1,14 @@
 -- What the calls of an office answer, and the sessions they leave, as the code has them: a session is a struct whose content is `content_of`
 -- (proofs/Answers.antt: the content of each session left is the one that Calls says). Assumes nothing.
-use Rattle.std.specs.Prelude.{ℕ, zero, suc, ◌+◌, Bool, true, false, List, [], ◌∷◌, set}
+use Rattle.std.specs.Prelude.{ℕ, zero, suc, ◌+◌, Bool, true, false, List, [], ◌∷◌, set, Err, None, Ok, Result, Some}
 use Rattle.causal.specs.Sets.{inserted}
 use Rattle.causal.specs.Clocks.{join}
 use Rattle.frame.specs.declared.entry.Entry.{Entry}
-use Rattle.frame.specs.declared.refusal.Written.{Written}
-use Rattle.frame.specs.declared.refusal.Written.TheVariants.{NotWritten, Words}
 use Rattle.frame.specs.declared.session.Session.{Session}
 use Rattle.frame.specs.Entries.{id_of, blank_entry}
 use Rattle.frame.specs.Sessions.{Content, content_of, fresh_content}
-use Rattle.store.specs.Offices.{Office, office_of, reveal, current, Found, None, Some}
+use Rattle.store.specs.Offices.{Office, office_of, reveal, current, Found}
+use Rattle.office.specs.declared.settings.Settings.{Settings}
 use Rattle.office.specs.Calls.{new_entry, read_plot, read_joint, write}
 
 -- is an entry handed back, and which: a fixed blank where none is
@@ -49,9 +48,13 @@ made_by zero e = e
 made_by (suc c) e = blank_entry
 
 -- the session that a write leaves, by what it answers and the entry that it made
-unfoldable pub with_made : Session → Written → Entry → Session
-with_made s (Words n) e = extended_by s e
-with_made s (NotWritten r) e = s
+unfoldable pub with_made : Session → Result ℕ Refusal → Entry → Session
+with_made s (Ok n) e = extended_by s e
+with_made s (Err r) e = s
+
+-- what stands where a store is refused
+abbrev pub no_settings : Settings
+no_settings = record { offices = 0; own = 0; plots = 0 }
 
 -- ---- the sessions that the calls leave
 

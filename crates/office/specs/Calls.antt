@@ -1,6 +1,6 @@
 -- The calls of an office: for each, on contents, its refusal number (0: none) in the paper's order and what it does; and the call on words,
 -- which is that between reading the store and writing it. Paper 01, "Operations", as paper 02 changes it. Assumes nothing.
-use Rattle.std.specs.Prelude.{ℕ, zero, suc, ◌+◌, ◌-◌, ◌*◌, Bool, true, false, cond, List, [], ◌∷◌, ◌++◌, map, leb, ltb, eqb, length, set}
+use Rattle.std.specs.Prelude.{ℕ, zero, suc, ◌+◌, ◌-◌, ◌*◌, Bool, true, false, cond, List, [], ◌∷◌, ◌++◌, map, leb, ltb, eqb, length, set, None, Some}
 use Rattle.causal.specs.Tests.{both, either, implies}
 use Rattle.causal.specs.Codes.{check, or_else}
 use Rattle.causal.specs.Lists.{zeros}
@@ -13,7 +13,7 @@ use Rattle.frame.specs.Frames.{framed, frame_words, frame_of, accepts}
 use Rattle.frame.specs.Calls.{laid}
 use Rattle.frame.specs.Sessions.{Content, session_ok, fresh_content, ids_of, leave_out}
 use Rattle.frame.specs.Tokens.{rows_of}
-use Rattle.store.specs.Offices.{Office, empty_office, need, office_of, store_words, settings_ok, sound_store, made, clock_of, reveal, hold, Found, None, Some, current, best_own}
+use Rattle.store.specs.Offices.{Office, empty_office, need, office_of, store_words, settings_ok, sound_store, made, clock_of, reveal, hold, Found, current, best_own}
 
 -- "it names this office and was not made here" (10); "it is held with other content" (11)
 unfoldable pub entry_code : Office → Entry → ℕ

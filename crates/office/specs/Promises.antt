@@ -2,11 +2,10 @@
 -- found), for the session that it hands back (s') and for each lent row as it is left (ws', row'). The `ensures` of the call cites it by name,
 -- and so do those of the lent calls, the exports and the player; a step of a run is one that keeps it (ring/specs/Claim.antt), but for need and
 -- settings, which change nothing. A row lent as `&[u32]` is only read: by its type it is left as it came. Assumes nothing.
-use Rattle.std.specs.Prelude.{ℕ, Bool, List, ◌≡◌}
+use Rattle.std.specs.Prelude.{ℕ, Bool, List, ◌≡◌, Result}
 use Rattle.frame.specs.Refusals.{Reply, reply_of}
 use Rattle.frame.specs.Sessions.{content_of, session_of}
 use Rattle.frame.specs.declared.entry.Entry.{Entry}
-use Rattle.frame.specs.declared.refusal.Written.{Written}
 use Rattle.frame.specs.declared.session.Session.{Session}
 use Rattle.store.specs.Offices.{office_of}
 use Rattle.office.specs.Answers.{any_found, entry_found, fresh_by, made_by, read_joint_session, read_plot_session, with_made, write_session}
@@ -48,7 +47,7 @@ WritePromise ws s plot value row reply s' ws' row' =
     × (row' ≡ (write ws (content_of s) plot value row).row)
 
 -- the same, where the entry that was made is handed back in place of the session
-abbrev pub MakePromise : List ℕ → Session → ℕ → ℕ → List ℕ → Written → Entry → List ℕ → List ℕ → Type 0
+abbrev pub MakePromise : List ℕ → Session → ℕ → ℕ → List ℕ → Result ℕ Refusal → Entry → List ℕ → List ℕ → Type 0
 MakePromise ws s plot value row written entry ws' row' =
     WritePromise ws s plot value row (reply_of written) (with_made s written entry) ws' row'
     × (entry ≡ made_by (write ws (content_of s) plot value row).code (new_entry (office_of ws) (content_of s) plot value))

@@ -1,5 +1,5 @@
 -- Own writes in a row of entries, and to hold entries that are new, on words. proofs/Holds.antt: it is what Calls says. Assumes nothing.
-use Rattle.std.specs.Prelude.{ℕ, ◌+◌, ◌<◌, ◌≤◌, Bool, true, false, List, [], ◌∷◌, get_or}
+use Rattle.std.specs.Prelude.{ℕ, ◌+◌, ◌<◌, ◌≤◌, Bool, true, false, List, [], ◌∷◌, get_or, length}
 use Rattle.causal.specs.Lists.{tab}
 use Rattle.causal.specs.Sets.{is_in}
 use Rattle.frame.specs.declared.entry.Entry.{Entry}
@@ -26,6 +26,6 @@ unfoldable pub holds_in : List ℕ → List ℕ → List Entry → List ℕ
 holds_in held ws [] = ws
 holds_in held ws (e ∷ es) = holds_in held (hold_if (is_in held (id_of e)) ws e) es
 
--- the slots of the first own writes lie in a store of m words
-abbrev pub Slots : List Entry → ℕ → ℕ → Type 0
-Slots own count m = (i : ℕ) → i < count → slot_at (id_of (own_at own i)) + 18 ≤ m
+-- the slots of own writes lie in a store of m words
+abbrev pub Slots : List Entry → ℕ → Type 0
+Slots own m = (i : ℕ) → i < length own → slot_at (id_of (own_at own i)) + 18 ≤ m

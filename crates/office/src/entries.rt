@@ -3,64 +3,56 @@ ghost use Rattle.std.specs.Prelude.{◌≡◌, ◌+◌, ◌≤◌, length, get_o
 ghost use Rattle.causal.specs.Lists.{part};
 ghost use Rattle.causal.specs.Sets.{is_in};
 ghost use Rattle.frame.specs.Entries.{id_of};
+ghost use Rattle.frame.specs.Refusals.{code_of};
 ghost use Rattle.store.specs.Offices.{slot_at, office_of};
 ghost use Rattle.office.specs.Calls.{entry_code, own_code};
-ghost use Rattle.office.specs.Steps.{own_to, hold_if, holds_in, Slots};
+ghost use Rattle.office.specs.Steps.{hold_if, holds_in, Slots};
 
-use frame::entry::Entry;
+use frame::entry::{Entry, id_of};
+use frame::refusal::Refusal;
 
 // 10: it names this office and was not made here; 11: it is held with other content.
-pub fn entry_code(store: &[u32], held: [u32; 8], office: u32, e: Entry) -> u32
-    requires { (held ≡ part store.now 3 8) × (office ≡ get_or store.now 1 0) × (slot_at (id_of e) + 18 ≤ length store.now) }
-    ensures { result ≡ entry_code (office_of store.now) e }
+pub fn comes_in(store: &[u32], held: [u32; 8], e: &Entry) -> Result<(), Refusal>
+    requires { (held ≡ part store.now 3 8) × (slot_at (id_of e.now) + 18 ≤ length store.now) }
+    ensures { code_of result ≡ entry_code (office_of store.now) e.now }
 {
-    let k = frame::entry::id_of(e);
-    if causal::set::contains(held, k) {
-        if store::same::has_content(store, e) {
-            return 0;
+    if causal::set::contains(held, id_of(e)) {
+        if !store::same::has_content(store, e) {
+            return Err(Refusal::Different);
         }
-        return 11;
+    } else if e.office == store[1] {
+        return Err(Refusal::Unmade);
     }
-    if e.office == office {
-        return 10;
-    }
-    0
+    Ok(())
 }
 
-// The first refusal of the own writes, in order.
-pub fn own_code(store: &[u32], held: [u32; 8], office: u32, own: [Entry; 16], count: usize) -> u32
-    requires { (held ≡ part store.now 3 8) × (office ≡ get_or store.now 1 0) × (count ≤ 16) × Slots own count (length store.now) }
-    ensures { result ≡ own_code (office_of store.now) (own_to own count) }
+// The same of the own writes, in order.
+pub fn all_come_in(store: &[u32], held: [u32; 8], own: &[Entry]) -> Result<(), Refusal>
+    requires { (held ≡ part store.now 3 8) × Slots own.now (length store.now) }
+    ensures { code_of result ≡ own_code (office_of store.now) own.now }
 {
-    for i in 0..count {
-        let e = own[i];
-        let code = entry_code(store, held, office, e);
-        if code != 0 {
-            return code;
-        }
+    for e in own {
+        comes_in(store, held, e)?;
     }
-    0
+    Ok(())
 }
 
 // Holds e, hidden, if the set does not have it.
-pub fn hold_new(store: &mut [u32], held: [u32; 8], e: Entry)
-    requires { slot_at (id_of e) + 18 ≤ length store.old }
-    ensures { store.new ≡ hold_if (is_in held (id_of e)) store.old e }
+pub fn hold_new(store: &mut [u32], held: [u32; 8], e: &Entry)
+    requires { slot_at (id_of e.now) + 18 ≤ length store.old }
+    ensures { store.new ≡ hold_if (is_in held (id_of e.now)) store.old e.now }
 {
-    let k = frame::entry::id_of(e);
-    if causal::set::contains(held, k) {
-        return;
+    if !causal::set::contains(held, id_of(e)) {
+        store::hold::hold(store, e);
     }
-    store::hold::hold(store, e);
 }
 
 // The same for the own writes, in order.
-pub fn hold_own(store: &mut [u32], held: [u32; 8], own: [Entry; 16], count: usize)
-    requires { (count ≤ 16) × Slots own count (length store.old) }
-    ensures { store.new ≡ holds_in held store.old (own_to own count) }
+pub fn hold_own(store: &mut [u32], held: [u32; 8], own: &[Entry])
+    requires { Slots own.now (length store.old) }
+    ensures { store.new ≡ holds_in held store.old own.now }
 {
-    for i in 0..count {
-        let e = own[i];
+    for e in own {
         hold_new(&mut *store, held, e);
     }
 }

@@ -2,14 +2,14 @@
 ghost use Rattle.office.specs.Promises.{NeedPromise};
 ghost use Rattle.frame.specs.Refusals.{reply_of};
 
-use frame::refusal::{Refusal, Written};
+use frame::refusal::Refusal;
 
 // 01: the call that gives the store's need.
-pub fn store_need(offices: u32, own: u32, plots: u32) -> Written
+pub fn store_need(offices: u32, own: u32, plots: u32) -> Result<usize, Refusal>
     ensures { NeedPromise offices own plots (reply_of result) }
 {
     if !store::layout::settings_ok(offices, own, plots) {
-        return Written::NotWritten(Refusal::Settings);
+        return Err(Refusal::Settings);
     }
-    Written::Words(store::layout::need_of(offices))
+    Ok(store::layout::need_of(offices))
 }

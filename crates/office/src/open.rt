@@ -1,59 +1,36 @@
 // To open an office, and fresh sessions.
 ghost use Rattle.std.specs.Prelude.{◌≡◌};
+ghost use Rattle.std.specs.Result.{result_unwrap_or};
 ghost use Rattle.frame.specs.Sessions.{session_of, fresh_content};
 ghost use Rattle.office.specs.Promises.{FreshPromise, OpenPromise};
 ghost use Rattle.frame.specs.Refusals.{code_of};
 
-use frame::refusal::{Refusal, Status};
+use frame::refusal::Refusal;
 use frame::session::Session;
 
 // 01: open an office.
-pub fn open_office(offices: u32, own: u32, plots: u32, store: &mut [u32]) -> Status
+pub fn open_office(offices: u32, own: u32, plots: u32, store: &mut [u32]) -> Result<(), Refusal>
     ensures { OpenPromise offices own plots store.old (code_of result) store.new }
 {
     if !store::layout::settings_ok(offices, own, plots) {
-        return Status::Refused(Refusal::Settings);
+        return Err(Refusal::Settings);
     }
     if store::layout::need_of(offices) > store.len() {
-        return Status::Refused(Refusal::Store);
+        return Err(Refusal::Store);
     }
     store::empty::lay_empty(store, offices, own, plots);
-    Status::Accepted
-}
-
-#[derive(Clone, Copy)]
-pub struct Fresh {
-    pub status: Status,
-    pub session: Session,
-}
-
-// A session of so many offices that has read and written nothing.
-fn blank(offices: u32) -> Session
-    ensures { result ≡ session_of (fresh_content offices) }
-{
-    let mut session = frame::session::blank_session();
-    session.offices = offices;
-    session
+    Ok(())
 }
 
 // 01: a fresh errand.
-pub fn fresh_session(offices: u32) -> Fresh
-    ensures { FreshPromise offices (code_of result.status) result.session }
+pub fn fresh_session(offices: u32) -> Result<Session, Refusal>
+    ensures { FreshPromise offices (code_of result) (result_unwrap_or result (session_of (fresh_content 0))) }
 {
-    if offices < 2 {
-        return Fresh {
-            status: Status::Refused(Refusal::Settings),
-            session: blank(0),
-        };
+    if offices < 2 || offices > 8 {
+        return Err(Refusal::Settings);
     }
-    if offices > 8 {
-        return Fresh {
-            status: Status::Refused(Refusal::Settings),
-            session: blank(0),
-        };
-    }
-    Fresh {
-        status: Status::Accepted,
-        session: blank(offices),
-    }
+    Ok(Session {
+        offices,
+        ..frame::session::blank_session()
+    })
 }

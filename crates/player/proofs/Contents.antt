@@ -1,4 +1,5 @@
 -- The sessions that accepted calls leave, as structs and as contents. Assumes nothing.
+use Rattle.std.proofs.Common.{None, Some}
 use Prim.Native.Nat.{ℕ, suc, zero, ◌+◌, ◌-◌, ◌<◌}
 use mathlib.Core.List.{List, [], ◌++◌, ◌∷◌}
 use mathlib.Core.Path.{◌∙◌, ◌≡◌, ap, refl, sym}
@@ -12,7 +13,7 @@ use Rattle.frame.specs.Sessions.{Content, content_of, nobody}
 use Rattle.frame.specs.declared.entry.Entry.{Entry}
 use Rattle.frame.specs.declared.session.Session.{Session}
 use Rattle.frame.proofs.OwnTurns.{count_is}
-use Rattle.store.specs.Offices.{Found, None, Office, Some, current, office_of, reveal, sound_store}
+use Rattle.store.specs.Offices.{Found, Office, current, office_of, reveal, sound_store}
 use Rattle.office.specs.Answers.{any_found, entry_found, extended_by, noted_in, read_plot_session, session_if}
 use Rattle.office.specs.Calls.{new_entry, read_plot, write, write_code, write_on, wrote_session}
 use Rattle.ring.proofs.WriteKeeps.{last_snoc}

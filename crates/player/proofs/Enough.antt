@@ -1,4 +1,5 @@
 -- "its rows are long enough that it never prints refusal 8". Assumes nothing.
+use Rattle.std.proofs.Common.{None, Some}
 use Prim.Native.Nat.{ℕ, suc, zero, ◌<◌}
 use mathlib.Core.Bool.{Bool, cond, false, true}
 use mathlib.Core.List.{List, [], ◌∷◌}
@@ -19,7 +20,7 @@ use Rattle.frame.specs.declared.entry.Frame.{Frame}
 use Rattle.frame.proofs.Back.{accepted_ok}
 use Rattle.frame.proofs.Entries.{entry_facts, frame_facts}
 use Rattle.frame.proofs.Sessions.{session_facts}
-use Rattle.store.specs.Offices.{Found as StoreFound, None, Office, Some, made, office_of, sound_store}
+use Rattle.store.specs.Offices.{Found as StoreFound, Office, made, office_of, sound_store}
 use Rattle.office.specs.Calls.{Result, entry_code, given, onward, own_code, parsed, read_code, read_on, read_plot, receive, receive_code, receive_on, worded, write, write_code, write_on, write_sends}
 use Rattle.ring.specs.Run.{Call, Tracked, at}
 use Rattle.script.specs.declared.line.Line.{Line}

@@ -1,4 +1,5 @@
 -- From what a receiving answers to a line played. Assumes nothing.
+use Rattle.std.proofs.Common.{Err, Ok, Result}
 use Prim.Native.Nat.{ℕ, suc, zero, ◌*◌, ◌+◌, ◌-◌, ◌<◌, ◌≤◌}
 use mathlib.Core.List.{List, ◌∷◌}
 use mathlib.Core.Path.{◌∙◌, ◌≡◌, ap, refl, subst, sym}
@@ -13,8 +14,6 @@ use Rattle.frame.specs.Refusals.{number_of, reply_of}
 use Rattle.frame.specs.Tokens.{rows_of}
 use Rattle.frame.specs.declared.entry.Frame.{Frame}
 use Rattle.frame.specs.declared.refusal.Refusal.{Refusal}
-use Rattle.frame.specs.declared.refusal.Written.{Written}
-use Rattle.frame.specs.declared.refusal.Written.TheVariants.{NotWritten, Words}
 use Rattle.office.specs.Calls.{Result, receive, receive_sends}
 use Rattle.office.specs.Promises.{ReceivePromise}
 use Rattle.office.proofs.Refused.{receive_words_refused}
@@ -73,12 +72,12 @@ module _ (g : Scene) (d : Desk) (stores lines : List ℕ) (S : Shows g d stores 
     pub ahead_goes : r ≡ Goes → R.code ≡ 0 → get_or d.count next 0 + length fs ≤ 32
     ahead_goes h z = rw e (told Goes h z)
 
-  module _ (r : Written) (stores' row' : List ℕ) (A : ReceivePromise ws f row (reply_of r) (part stores' (1747 * o) 1747) row')
+  module _ (r : Result ℕ Refusal) (stores' row' : List ℕ) (A : ReceivePromise ws f row (reply_of r) (part stores' (1747 * o) 1747) row')
       (left : stores' ≡ sets stores (1747 * o) (part stores' (1747 * o) 1747)) where
     left_is : stores' ≡ sets stores (1747 * o) R.store
     left_is = left ∙ ap (sets stores (1747 * o)) A.1
 
-    pub line_refused : (x : Refusal) (k : ℕ) → r ≡ NotWritten x → k ≡ number_of x → Plays row g (Receive o) (record { desk = d; reply = Refused k }) stores' lines
+    pub line_refused : (x : Refusal) (k : ℕ) → r ≡ Err x → k ≡ number_of x → Plays row g (Receive o) (record { desk = d; reply = Refused k }) stores' lines
     line_refused x k w h =
         refused_as (λ n. Plays row g (Receive o) (record { desk = d; reply = Refused n }) stores' lines) R.code
         (λ c q.
@@ -87,7 +86,7 @@ module _ (g : Scene) (d : Desk) (stores lines : List ℕ) (S : Shows g d stores 
         (receive_refused g d stores lines S o ol row f rest are c q))
         k x h (not_written r x _ A.0 w)
 
-    module _ (words : ℕ) (w : r ≡ Words words) where
+    module _ (words : ℕ) (w : r ≡ Ok words) where
       pub code : R.code ≡ 0
       code = (words_code r words _ A.0 w).0
 

@@ -1,4 +1,5 @@
 -- From what a write answers to a line played. Assumes nothing.
+use Rattle.std.proofs.Common.{Err, Ok, Result}
 use Prim.Native.Nat.{ℕ, suc, zero, ◌*◌, ◌+◌, ◌<◌, ◌≤◌}
 use mathlib.Core.Bool.{cond, false, true}
 use mathlib.Core.List.{List}
@@ -16,8 +17,6 @@ use Rattle.frame.specs.Tokens.{rows_of}
 use Rattle.frame.specs.declared.entry.Entry.{Entry}
 use Rattle.frame.specs.declared.entry.Frame.{Frame}
 use Rattle.frame.specs.declared.refusal.Refusal.{Refusal}
-use Rattle.frame.specs.declared.refusal.Written.{Written}
-use Rattle.frame.specs.declared.refusal.Written.TheVariants.{NotWritten, Words}
 use Rattle.frame.specs.declared.session.Session.{Session}
 use Rattle.frame.proofs.OwnTurns.{count_is}
 use Rattle.store.specs.Offices.{office_of}
@@ -111,12 +110,12 @@ module _ (g : Scene) (d : Desk) (stores lines : List ℕ) (S : Shows g d stores 
     pub ahead_goes : r ≡ Goes → R.code ≡ 0 → get_or d.count next 0 + length fs ≤ 32
     ahead_goes h z = rw e (told Goes h z)
 
-  module _ (written : Written) (entry : Entry) (stores' row' : List ℕ) (A : MakePromise ws s plot value row written entry (part stores' (1747 * place_at d i) 1747) row')
+  module _ (written : Result ℕ Refusal) (entry : Entry) (stores' row' : List ℕ) (A : MakePromise ws s plot value row written entry (part stores' (1747 * place_at d i) 1747) row')
       (left : stores' ≡ sets stores (1747 * place_at d i) (part stores' (1747 * place_at d i) 1747)) where
     left_is : stores' ≡ sets stores (1747 * place_at d i) R.store
     left_is = left ∙ ap (sets stores (1747 * place_at d i)) A.0.2
 
-    pub line_refused : (x : Refusal) (k : ℕ) → written ≡ NotWritten x → k ≡ number_of x → Plays row g (Write i plot value) (record { desk = d; reply = Refused k }) stores' lines
+    pub line_refused : (x : Refusal) (k : ℕ) → written ≡ Err x → k ≡ number_of x → Plays row g (Write i plot value) (record { desk = d; reply = Refused k }) stores' lines
     line_refused x k w h =
         refused_as (λ n. Plays row g (Write i plot value) (record { desk = d; reply = Refused n }) stores' lines) R.code
         (λ c q.
@@ -125,7 +124,7 @@ module _ (g : Scene) (d : Desk) (stores lines : List ℕ) (S : Shows g d stores 
         (refused c q))
         k x h (not_written written x _ A.0.0 w)
 
-    module _ (words : ℕ) (w : written ≡ Words words) where
+    module _ (words : ℕ) (w : written ≡ Ok words) where
       pub code : R.code ≡ 0
       code = (words_code written words _ A.0.0 w).0
 

@@ -1,4 +1,5 @@
 -- Answers by cases: a refusal's number, or the words. Assumes nothing.
+use Rattle.std.proofs.Common.{Err, Ok, Result}
 use Prim.Native.Nat.{ℕ, suc}
 use mathlib.Core.Path.{◌∙◌, ◌≡◌, ap, refl, subst, sym}
 use Rattle.frame.specs.Refusals.{Reply, code_of, number_of, reply_of}
@@ -6,8 +7,6 @@ use Rattle.frame.specs.declared.refusal.Refusal.{Refusal}
 use Rattle.frame.specs.declared.refusal.Refusal.TheVariants.{Content, Different, Format, Missing, OfficeFull, Plot, Room, SessionFull, Settings, Store, Unmade, Value}
 use Rattle.frame.specs.declared.refusal.Status.{Status}
 use Rattle.frame.specs.declared.refusal.Status.TheVariants.{Accepted, Refused}
-use Rattle.frame.specs.declared.refusal.Written.{Written}
-use Rattle.frame.specs.declared.refusal.Written.TheVariants.{NotWritten, Words}
 
 -- a refusal's number is not 0
 number_some : (x : Refusal) → (c : ℕ) × (number_of x ≡ suc c)
@@ -36,10 +35,10 @@ pub status_accepted : (r : Status) (code : ℕ) → code_of r ≡ code → r ≡
 unfolding code_of
 status_accepted r code h e = sym h ∙ ap code_of e
 
-pub not_written : (r : Written) (x : Refusal) (R : Reply) → reply_of r ≡ R → r ≡ NotWritten x → R.code ≡ number_of x
+pub not_written : (r : Result ℕ Refusal) (x : Refusal) (R : Reply) → reply_of r ≡ R → r ≡ Err x → R.code ≡ number_of x
 unfolding reply_of
 not_written r x R h e = ap (λ (q : Reply). q.code) (sym h ∙ ap reply_of e)
 
-pub words_code : (r : Written) (n : ℕ) (R : Reply) → reply_of r ≡ R → r ≡ Words n → (R.code ≡ 0) × (n ≡ R.words)
+pub words_code : (r : Result ℕ Refusal) (n : ℕ) (R : Reply) → reply_of r ≡ R → r ≡ Ok n → (R.code ≡ 0) × (n ≡ R.words)
 unfolding reply_of
 words_code r n R h e = (ap (λ (q : Reply). q.code) (sym h ∙ ap reply_of e), sym (ap (λ (q : Reply). q.words) (sym h ∙ ap reply_of e)))

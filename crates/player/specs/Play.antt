@@ -1,8 +1,8 @@
 -- What a line of a script does to a ring of three offices with 64 plots, and what it is replied. Paper 01, "The ring program". Assumes nothing.
-use Rattle.std.specs.Prelude.{ℕ, suc, zero, Bool, cond, not, List, [], ◌∷◌, leb, ltb, get_or, length, set}
+use Rattle.std.specs.Prelude.{ℕ, suc, zero, Bool, cond, not, List, [], ◌∷◌, leb, ltb, get_or, length, set, None, Some}
 use Rattle.causal.specs.Tests.{all_below, both}
 use Rattle.frame.specs.declared.entry.Entry.{Entry}
-use Rattle.store.specs.Offices.{Found, None, Some}
+use Rattle.store.specs.Offices.{Found}
 use Rattle.office.specs.Calls.{read_plot, receive, write}
 use Rattle.ring.specs.Run.{Call, State, Tracked, at, fresh, last_of, over_words, reading, receiving, step, words_run, writing}
 use Rattle.script.specs.declared.line.Line.{Line}

@@ -1,11 +1,12 @@
 -- The content of the session that a reading leaves is the one that Calls says. Assumes nothing.
+use Rattle.std.proofs.Common.{None, Some}
 use Prim.Native.Nat.{ℕ, zero, suc}
 use mathlib.Core.Path.{◌≡◌, refl, sym, ap, ◌∙◌}
 use mathlib.Core.List.{List, [], ◌∷◌}
 use lib.ListN.{length}
 use Rattle.frame.specs.declared.session.Session.{Session}
 use Rattle.frame.specs.Sessions.{content_of}
-use Rattle.store.specs.Offices.{Office, office_of, reveal, current, Found, None, Some}
+use Rattle.store.specs.Offices.{Office, office_of, reveal, current, Found}
 use Rattle.office.specs.Calls.{noted, noted_all, read_plot, read_joint}
 use Rattle.office.specs.Answers.{session_if, noted_in, noted_all_in, read_plot_session, read_joint_session}
 use Rattle.reading.specs.Readings.{read_refusal, joint_refusal}

@@ -1,4 +1,5 @@
 -- To read several plots at once: what code decides and does is what Calls says. Assumes nothing.
+use Rattle.std.proofs.Common.{None, Some}
 use Prim.Native.Nat.{ℕ, zero, suc, ◌+◌, ◌*◌, ◌/◌, ◌%◌, ◌^◌, ◌<◌, ◌≤◌}
 use mathlib.Core.Path.{◌≡◌, refl, sym, ap, ap₂, ◌∙◌, subst}
 use mathlib.Core.Bool.{Bool, true, false, cond}
@@ -27,7 +28,7 @@ use Rattle.frame.specs.Refusals.{code_of}
 use Rattle.frame.specs.Sessions.{Content, content_of, nobody, session_ok}
 use Rattle.frame.proofs.Entries.{entry_facts}
 use Rattle.frame.proofs.Sessions.{own_ok_lem, session_facts}
-use Rattle.store.specs.Offices.{Office, entry_at, office_of, store_words, sound_store, reveal, current, Found, None, Some, best_own}
+use Rattle.store.specs.Offices.{Office, entry_at, office_of, store_words, sound_store, reveal, current, Found, best_own}
 use Rattle.store.specs.Current.{current_at, found_at}
 use Rattle.store.specs.Reveal.{revealed}
 use Rattle.store.specs.declared.reveal.Revealed.{Revealed}

@@ -1,4 +1,5 @@
 -- To read one plot: what code decides and does is what Calls says. Assumes nothing.
+use Rattle.std.proofs.Common.{None, Some}
 use Prim.Native.Nat.{ℕ, zero, suc, ◌+◌, ◌^◌, ◌<◌, ◌≤◌}
 use mathlib.Core.Path.{◌≡◌, refl, sym, ap, ◌∙◌}
 use mathlib.Core.Bool.{Bool, true, false, cond, not}
@@ -20,7 +21,7 @@ use Rattle.frame.specs.declared.refusal.Status.TheVariants.{Accepted}
 use Rattle.frame.specs.Entries.{outranks, blank_entry}
 use Rattle.frame.specs.Refusals.{code_of}
 use Rattle.frame.specs.Sessions.{Content, content_of, nobody, session_ok}
-use Rattle.store.specs.Offices.{Office, office_of, store_words, sound_store, reveal, current, Found, None, Some, better, consider, best_own}
+use Rattle.store.specs.Offices.{Office, office_of, store_words, sound_store, reveal, current, Found, better, consider, best_own}
 use Rattle.store.specs.Current.{current_at}
 use Rattle.store.specs.Reveal.{revealed}
 use Rattle.store.specs.declared.reveal.Revealed.{Revealed}

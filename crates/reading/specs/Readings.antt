@@ -1,22 +1,19 @@
 -- The readings as code goes through them: refusal numbers from the store's words, own writes one after the other, several plots.
 -- proofs/Readings.antt, proofs/JointReads.antt: they say what Calls says. Assumes nothing.
-use Rattle.std.specs.Prelude.{ℕ, zero, suc, ◌*◌, ◌<◌, ◌≤◌, ◌≡◌, true, false, cond, List, [], ◌++◌, ◌∷◌, leb, ltb, eqb, length, get_or}
+use Rattle.std.specs.Prelude.{ℕ, zero, suc, ◌*◌, ◌<◌, ◌≤◌, ◌≡◌, List, [], ◌++◌, leb, ltb, length, get_or, None, Option, Some}
 use Rattle.std.proofs.lemmas.List.Edits.{sets}
 use Rattle.causal.specs.Tests.{both}
 use Rattle.causal.specs.Codes.{check, or_else}
 use Rattle.causal.specs.Lists.{part}
 use Rattle.causal.specs.Sets.{subset_of}
 use Rattle.frame.specs.declared.entry.Entry.{Entry}
-use Rattle.frame.specs.declared.session.Session.{Session}
-use Rattle.frame.specs.Entries.{blank_entry, name_of, outranks}
-use Rattle.frame.specs.Sessions.{Content, nobody}
-use Rattle.store.specs.Offices.{Found, None, Some, best_own}
-use Rattle.store.specs.Current.{current_at}
+use Rattle.frame.specs.Sessions.{Content}
+use Rattle.store.specs.Offices.{Found, best_own}
+use Rattle.store.specs.Current.{current_at, found_at, InSlots}
 use Rattle.office.specs.Calls.{plots_ok, three_words}
-use Rattle.office.specs.Decide.{start_code, place_number, found_in, Reaches, noted_seen}
-use Rattle.office.specs.Steps.{own_at, own_to}
+use Rattle.office.specs.Decide.{start_code, noted_seen}
+use Rattle.office.specs.Steps.{own_at}
 use Rattle.office.specs.declared.note.Seen.{Seen}
-use Rattle.reading.specs.declared.best.Best.{Best}
 
 -- ---- refusals
 
@@ -29,61 +26,45 @@ joint_refusal ws s plots room =
     (check (both (leb (length plots) 16) (plots_ok (get_or ws 2 0) plots)) 4
     (check (leb (3 * length plots) room) 8 (check (subset_of s.read (part ws 3 8)) 12 0)))
 
--- ---- the best of what was found and the own writes
+-- ---- the answer of a joint reading
 
-abbrev pub best_of : Entry → Best
-best_of e = record { found = true; entry = e }
-
-unfoldable pub best_from : Found → Best
-best_from None = record { found = false; entry = blank_entry }
-best_from (Some e) = best_of e
-
-unfoldable pub best_above : Entry → Best → Best
-best_above e b = cond b.found (cond (outranks e b.entry) (best_of e) b) (best_of e)
-
-unfoldable pub best_to : List Entry → ℕ → Best → ℕ → Best
-best_to own plot b zero = b
-best_to own plot b (suc i) = cond (eqb (get_or own i nobody).plot plot) (best_above (get_or own i nobody) (best_to own plot b i)) (best_to own plot b i)
-
--- as three words
-unfoldable pub best_words : Best → List ℕ
-best_words b = cond b.found (1 ∷ b.entry.value ∷ name_of b.entry ∷ []) (0 ∷ 0 ∷ 0 ∷ [])
-
--- office and serial are small, so that the name payload fits a word; so of the first own writes
+-- office and serial are small, so that the name payload fits a word; so of what was found, and of own writes
 abbrev pub Named : Entry → Type 0
 Named e = (e.office < 8) × (e.serial ≤ 32)
 
-abbrev pub OwnNamed : List Entry → ℕ → Type 0
-OwnNamed own count = (i : ℕ) → i < count → Named (own_at own i)
+abbrev pub NamedIn : Found → Type 0
+NamedIn None = Unit {0}
+NamedIn (Some e) = Named e
 
--- ---- several plots
+abbrev pub OwnNamed : List Entry → Type 0
+OwnNamed own = (i : ℕ) → i < length own → Named (own_at own i)
 
--- the slots of the first n of some numbers lie in a store of m words
-abbrev pub AllReach : ℕ → ℕ → List ℕ → Type 0
-AllReach m n ks = (j : ℕ) → j < n → Reaches m (get_or ks j 0)
+-- the slots of some places lie in a store of m words
+abbrev pub AllInSlots : ℕ → List (Option ℕ) → Type 0
+AllInSlots m places = (j : ℕ) → j < length places → InSlots m (get_or places j None)
 
 -- what is current on each of the first n plots
-abbrev pub PlacesTo : List ℕ → List ℕ → List ℕ → ℕ → List ℕ → Type 0
-PlacesTo ws visible plots n ks = (j : ℕ) → j < n → get_or ks j 0 ≡ place_number (current_at ws visible (get_or plots j 0))
+abbrev pub PlacesTo : List ℕ → List ℕ → List ℕ → ℕ → List (Option ℕ) → Type 0
+PlacesTo ws visible plots n places = (j : ℕ) → j < n → get_or places j None ≡ current_at ws visible (get_or plots j 0)
 
-unfoldable pub found_among : List ℕ → List ℕ → ℕ → Found
-found_among ws ks j = found_in ws (get_or ks j 0)
+unfoldable pub found_among : List ℕ → List (Option ℕ) → ℕ → Found
+found_among ws places j = found_at ws (get_or places j None)
 
--- what is handed back on each: the best of that and the first own writes
-unfoldable pub handed_among : List ℕ → List Entry → ℕ → List ℕ → List ℕ → ℕ → Found
-handed_among ws own count plots ks j = best_own (get_or plots j 0) (found_among ws ks j) (own_to own count)
+-- what is handed back on each: the best of that and the own writes
+unfoldable pub handed_among : List ℕ → List Entry → List ℕ → List (Option ℕ) → ℕ → Found
+handed_among ws own plots places j = best_own (get_or plots j 0) (found_among ws places j) own
 
 unfoldable pub words_to : (ℕ → Found) → ℕ → List ℕ
 words_to g zero = []
 words_to g (suc n) = words_to g n ++ three_words (g n)
 
--- what is handed back on plots can be put into the row: there is room, names fit a word, and numbers reach; and the row with it
-abbrev pub Answerable : List ℕ → Session → List ℕ → List ℕ → List ℕ → Type 0
-Answerable ws s plots ks row =
-    (s.count ≤ 16) × OwnNamed s.own s.count × (length plots ≤ 16) × (3 * length plots ≤ length row) × AllReach (length ws) (length plots) ks
+-- what is handed back on plots can be put into the row: there is room, names fit a word, and slots lie in the store; and the row with it
+abbrev pub Answerable : List ℕ → List Entry → List ℕ → List (Option ℕ) → List ℕ → Type 0
+Answerable ws own plots places row =
+    OwnNamed own × (length plots ≤ 16) × (length places ≡ length plots) × (3 * length plots ≤ length row) × AllInSlots (length ws) places
 
-abbrev pub answers_in : List ℕ → Session → List ℕ → List ℕ → List ℕ → List ℕ
-answers_in ws s plots ks row = sets row 0 (words_to (handed_among ws s.own s.count plots ks) (length plots))
+abbrev pub answers_in : List ℕ → List Entry → List ℕ → List (Option ℕ) → List ℕ → List ℕ
+answers_in ws own plots places row = sets row 0 (words_to (handed_among ws own plots places) (length plots))
 
 unfoldable pub seen_to : (ℕ → Found) → ℕ → Seen → Seen
 seen_to g zero x = x

@@ -1,169 +1,71 @@
 // To read one plot.
-ghost use Rattle.std.specs.Prelude.{◌≡◌, List, ◌∷◌, [], ◌≤◌, length};
+ghost use Rattle.std.specs.Prelude.{◌≡◌};
 ghost use Rattle.frame.specs.Refusals.{code_of};
 ghost use Rattle.frame.specs.Sessions.{content_of};
-ghost use Rattle.store.specs.Offices.{best_own};
-ghost use Rattle.office.specs.Answers.{any_found, entry_found};
-ghost use Rattle.office.specs.Decide.{alone, bare, found_in, Reaches, noted_seen, seen_of, with_seen};
 ghost use Rattle.reading.specs.Readings.{read_refusal};
+ghost use Rattle.reading.specs.Answers.{found_by, entry_by, session_by, seen_found, seen_entry, seen_session};
 ghost use Rattle.office.specs.Promises.{ReadPromise};
 
+use crate::best::{best_own, entry_in};
 use frame::entry::Entry;
-use frame::refusal::Status;
-use frame::session::Session;
-use office::note::Seen;
+use frame::refusal::Refusal;
+use frame::session::{Session, own_writes};
+use office::note::{Seen, note, set_seen};
 
+// What a reading of one plot hands back, and the session with what it has seen then.
 #[derive(Clone, Copy)]
 pub struct PlotRead {
-    pub status: Status,
-    pub found: bool,
-    pub entry: Entry, // a blank where none is found
+    pub entry: Option<Entry>,
     pub session: Session,
 }
 
-// What a reading of one plot answers, and what the session has seen then; on a refusal what it had seen.
+// What a reading of one plot hands back, and what the session has seen then.
 #[derive(Clone, Copy)]
 pub struct PlotSeen {
-    pub status: Status,
-    pub found: bool,
-    pub entry: Entry, // a blank where none is found
+    pub entry: Option<Entry>,
     pub seen: Seen,
 }
 
 // 4: plot out of range. 12: a read id not held.
-fn read_code(store: &[u32], s: Session, plot: u32) -> u32
-    ensures { result ≡ read_refusal store.now (content_of s) plot }
+fn may_read(store: &[u32], s: &Session, plot: u32) -> Result<(), Refusal>
+    ensures { code_of result ≡ read_refusal store.now (content_of s.now) plot }
 {
-    let clock = s.clock;
-    let read = s.read;
-    let sound = store::sound::is_sound(store);
-    let head = office::code::alone_code(store, sound, s.offices, clock, read);
-    let start = office::code::start_code(store, head, s);
-    if start != 0 {
-        return start;
-    }
+    office::code::start(store, s)?;
     if plot >= store[2] {
-        return 4;
+        return Err(Refusal::Plot);
     }
-    if !office::code::held_all(store, read) {
-        return 12;
+    if !office::code::held_all(store, s.read) {
+        return Err(Refusal::Missing);
     }
-    0
-}
-
-// What a reading answers where entry k is current.
-fn answer_at(store: &[u32], s: Session, plot: u32, k: usize) -> PlotSeen
-    requires { (s.count ≤ 16) × Reaches (length store.now) k }
-    ensures { (code_of result.status ≡ 0)
-        × (result.found ≡ any_found (best_own plot (found_in store.now k) (content_of s).own ∷ []))
-        × (result.entry ≡ entry_found (best_own plot (found_in store.now k) (content_of s).own ∷ []))
-        × (result.seen ≡ noted_seen (found_in store.now k) (seen_of s)) }
-{
-    let best = crate::best::best_with(store, s, plot, k);
-    let clock = s.clock;
-    let read = s.read;
-    let seen = office::note::note(store, k, Seen { clock, read });
-    let entry = best.entry;
-    PlotSeen {
-        status: Status::Accepted,
-        found: best.found,
-        entry,
-        seen,
-    }
+    Ok(())
 }
 
 // read_plot, but for the parts of the session that a reading leaves as they were.
-pub fn see_plot(store: &mut [u32], s: Session, plot: u32) -> PlotSeen
-    ensures { ReadPromise store.old s plot (code_of result.status) result.found result.entry (with_seen s result.seen) store.new }
+pub fn see_plot(store: &mut [u32], s: &Session, plot: u32) -> Result<PlotSeen, Refusal>
+    ensures { ReadPromise store.old s.now plot (code_of result) (seen_found result) (seen_entry result) (seen_session s.now result) store.new }
 {
-    let code = read_code(store, s, plot);
-    let read = s.read;
-    if code != 0 {
-        let status = office::code::status_of(code);
-        let entry = frame::entry::blank_entry();
-        let clock = s.clock;
-        return PlotSeen {
-            status,
-            found: false,
-            entry,
-            seen: Seen { clock, read },
-        };
-    }
-    let revealed = store::reveal::revealed_by(store, read);
-    let visible = revealed.visible;
-    let k = office::note::place_number(store::current::current(store, visible, plot));
-    let answer = answer_at(store, s, plot, k);
-    store::reveal::show(&mut *store, visible);
-    answer
+    may_read(store, s, plot)?;
+    let visible = store::reveal::revealed_by(store, s.read).visible;
+    let place = store::current::current(store, visible, plot);
+    let first = entry_in(store, place);
+    let before = Seen {
+        clock: s.clock,
+        read: s.read,
+    };
+    let seen = PlotSeen {
+        entry: best_own(own_writes(s), plot, first),
+        seen: note(store, place, before),
+    };
+    store::reveal::show(store, visible);
+    Ok(seen)
 }
 
-// 2, 3, 4 and 12 for a session that carries nothing.
-fn alone_code(store: &[u32], offices: u32, clock: [u32; 8], read: [u32; 8], plot: u32) -> u32
-    ensures { result ≡ read_refusal store.now (bare offices clock read) plot }
+// 01: read one plot.
+pub fn read_plot(store: &mut [u32], s: Session, plot: u32) -> Result<PlotRead, Refusal>
+    ensures { ReadPromise store.old s plot (code_of result) (found_by result) (entry_by result) (session_by s result) store.new }
 {
-    let sound = store::sound::is_sound(store);
-    let start = office::code::alone_code(store, sound, offices, clock, read);
-    if start != 0 {
-        return start;
-    }
-    if plot >= store[2] {
-        return 4;
-    }
-    if !office::code::held_all(store, read) {
-        return 12;
-    }
-    0
-}
-
-// see_plot for a session that carries nothing: its fields cross one by one, and its row of entries stays where it is.
-pub fn see_alone(
-    store: &mut [u32],
-    offices: u32,
-    clock: [u32; 8],
-    read: [u32; 8],
-    plot: u32,
-) -> PlotSeen
-    ensures { (own : List Entry) → ReadPromise store.old (alone offices clock read own) plot (code_of result.status) result.found result.entry (with_seen (alone offices clock read own) result.seen) store.new }
-{
-    let code = alone_code(store, offices, clock, read, plot);
-    if code != 0 {
-        let status = office::code::status_of(code);
-        let entry = frame::entry::blank_entry();
-        return PlotSeen {
-            status,
-            found: false,
-            entry,
-            seen: Seen { clock, read },
-        };
-    }
-    let shown = store::reveal::revealed_by(store, read);
-    let all = shown.visible;
-    let k = office::note::place_number(store::current::current(store, all, plot));
-    let best = crate::best::best_at(store, k);
-    let found = best.found;
-    let entry = best.entry;
-    let seen = office::note::note(store, k, Seen { clock, read });
-    store::reveal::show(&mut *store, all);
-    PlotSeen {
-        status: Status::Accepted,
-        found,
-        entry,
-        seen,
-    }
-}
-
-pub fn read_plot(store: &mut [u32], s: Session, plot: u32) -> PlotRead
-    ensures { ReadPromise store.old s plot (code_of result.status) result.found result.entry result.session store.new }
-{
-    let done = see_plot(store, s, plot);
-    let seen = done.seen;
-    let session = office::note::with_seen(s, seen);
-    let status = done.status;
-    let entry = done.entry;
-    PlotRead {
-        status,
-        found: done.found,
-        entry,
-        session,
-    }
+    let PlotSeen { entry, seen } = see_plot(store, &s, plot)?;
+    let mut session = s;
+    set_seen(&mut session, seen);
+    Ok(PlotRead { entry, session })
 }

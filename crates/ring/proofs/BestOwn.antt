@@ -1,4 +1,5 @@
 -- What is handed back does not depend on the order of the own writes: among those of a sound session no two tie. Assumes nothing.
+use Rattle.std.proofs.Common.{None, Some}
 use Prim.Native.Nat.{ℕ}
 use mathlib.Core.Bool.{Bool, cond, false, true}
 use mathlib.Core.List.{List, Memᴰ, [], ◌∷◌, map}
@@ -12,7 +13,7 @@ use Rattle.frame.specs.Entries.{id_of, outranks}
 use Rattle.frame.specs.declared.entry.Entry.{Entry}
 use Rattle.frame.proofs.Entries.{EntryFacts, outranks_irrefl, outranks_trans}
 use Rattle.joining.proofs.Orders.{Apart, apart_one}
-use Rattle.store.specs.Offices.{Found, None, Some, best_own, better, consider}
+use Rattle.store.specs.Offices.{Found, best_own, better, consider}
 use Rattle.store.proofs.Best.{Over, own_from, own_keeps, own_over}
 
 -- what is found in place of x outranks it

@@ -1,4 +1,5 @@
 -- No reading depends on the carrying order. Assumes nothing.
+use Rattle.std.proofs.Common.{None, Some}
 use Prim.Native.Nat.{ℕ, ◌*◌, ◌≤◌, suc, zero}
 use mathlib.Core.Bool.{Bool, false, true}
 use mathlib.Core.List.{List, Memᴰ, [], ◌∷◌, map}
@@ -23,7 +24,7 @@ use Rattle.frame.proofs.Sessions.{facts_own, facts_session, own_facts, own_ok_le
 use Rattle.joining.specs.Orders.{Reordered}
 use Rattle.joining.proofs.Orders.{Apart, permuted_from, permuted_length, permuted_to}
 use Rattle.joining.proofs.Sound.{own_apart}
-use Rattle.store.specs.Offices.{Found, None, Office, Some, Words32, current, office_of, reveal, sound_store, store_words}
+use Rattle.store.specs.Offices.{Found, Office, Words32, current, office_of, reveal, sound_store, store_words}
 use Rattle.store.proofs.Keep.{store_facts}
 use Rattle.office.specs.Calls.{answer_words, given, handed, handed_all, joint_code, joint_on, noted, noted_all, plots_ok, read_all, read_code, read_joint, read_on, read_plot, worded}
 use Rattle.office.proofs.KeptSession.{joint_session, noted_sane, read_session}

@@ -1,5 +1,6 @@
 -- THE CLAIM OVER ANSWERS: every chain of calls whose answers keep their promises leads to the run of the definitions, so the claim holds of
 -- it. Assumes nothing.
+use Rattle.std.proofs.Common.{Some}
 use Prim.Native.Nat.{ℕ, ◌<◌, ◌≤◌, suc, zero}
 use mathlib.Core.Bool.{Bool, cond, false, true}
 use mathlib.Core.List.Memᴰ
@@ -27,7 +28,7 @@ use Rattle.frame.specs.declared.session.Session.{Session}
 use Rattle.frame.proofs.Entries.{entry_facts}
 use Rattle.frame.proofs.OwnTurns.{content_back}
 use Rattle.joining.specs.Joins.{join_code, joined}
-use Rattle.store.specs.Offices.{Found, Office, Some, empty_office, need, office_of, reveal, settings_ok, sound_store, store_words}
+use Rattle.store.specs.Offices.{Found, Office, empty_office, need, office_of, reveal, settings_ok, sound_store, store_words}
 use Rattle.office.specs.Calls.{Result, answer_words, fresh_code, given, handed, joint_code, joint_on, open_office, parsed, read_all, read_code, read_joint, read_on, read_plot, receive, receive_code, receive_on, worded, write, write_code, write_on}
 use Rattle.office.specs.Promises.{JointPromise, ReadPromise, ReceivePromise, WritePromise}
 use Rattle.office.proofs.Refused.{receive_words_refused, write_words_refused}

@@ -1,4 +1,5 @@
 -- An entry is later than everything in its writer's past (specs/Later.antt): what is kept for it. Assumes nothing.
+use Rattle.std.proofs.Common.{None, Some}
 use Prim.Native.Nat.{ℕ, ◌*◌, ◌+◌, ◌<◌, ◌≤◌, max, suc, zero}
 use mathlib.Core.Bool.{true}
 use mathlib.Core.List.{List, Memᴰ, [], ◌++◌, ◌∷◌, map}
@@ -19,7 +20,7 @@ use Rattle.frame.specs.Sessions.{Content, fresh_content}
 use Rattle.frame.specs.declared.entry.Entry.{Entry}
 use Rattle.frame.specs.declared.entry.Frame.{Frame}
 use Rattle.frame.proofs.Entries.{EntryFacts}
-use Rattle.store.specs.Offices.{Found, None, Office, Some, current, made, reveal}
+use Rattle.store.specs.Offices.{Found, Office, current, made, reveal}
 use Rattle.store.proofs.Best.{current_from}
 use Rattle.store.proofs.Counts.{counted}
 use Rattle.office.specs.Calls.{Result, given, joint_code, joint_on, noted, noted_all, read_code, read_on, receive_code, receive_on, received_by}

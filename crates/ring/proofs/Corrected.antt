@@ -1,5 +1,6 @@
 -- A foreman corrects his own entry in another office: a run that has what `LaterCounts` asks of a correction, and the answer of a reading there;
 -- computed on contents, and so on words whatever the rows held before they were opened. Assumes nothing.
+use Rattle.std.proofs.Common.{Some}
 use Prim.Native.Nat.{ℕ, ◌<◌, ◌≤◌}
 use mathlib.Core.List.Memᴰ
 use mathlib.Core.List.{List, [], ◌++◌, ◌∷◌, map}
@@ -21,7 +22,7 @@ use Rattle.frame.specs.Tokens.{rows_of}
 use Rattle.frame.specs.Words.{clock_words, id_word_if, id_words, id_words_to, summed, total}
 use Rattle.frame.specs.declared.entry.Entry.{Entry}
 use Rattle.frame.proofs.Cases.{entry_a}
-use Rattle.store.specs.Offices.{Office, Some, best_own, best_to, better, clock_of, consider, current, hold, made, max_to, need, reveal}
+use Rattle.store.specs.Offices.{Office, best_own, best_to, better, clock_of, consider, current, hold, made, max_to, need, reveal}
 use Rattle.store.specs.Reveal.{revealed, steps}
 use Rattle.office.specs.Calls.{entry_code, fresh_code, handed, hold_all, hold_new, new_entry, noted, noted_all, own_code, read_code, read_on, receive_code, receive_on, receive_sends, received_by, sent_of, write_code, write_on, wrote_session}
 use Rattle.ring.specs.Holds.{Same, Shows}

@@ -1,4 +1,5 @@
 -- What is read off a row is what was laid in it: frames by their heads, what a joint reading handed back by its names. Assumes nothing.
+use Rattle.std.proofs.Common.{None, Some}
 use Prim.Native.Nat.{ℕ, ◌+◌, ◌≤◌, suc, zero}
 use mathlib.Core.Bool.{true}
 use mathlib.Core.List.Memᴰ
@@ -18,7 +19,7 @@ use Rattle.frame.specs.declared.entry.Entry.{Entry}
 use Rattle.frame.specs.declared.entry.Frame.{Frame}
 use Rattle.frame.proofs.Back.{accepted_ok, accepted_written, count_back, offices_back}
 use Rattle.frame.proofs.Frames.{length_frame}
-use Rattle.store.specs.Offices.{Found, None, Some}
+use Rattle.store.specs.Offices.{Found}
 use Rattle.office.specs.Calls.{three_words}
 use Rattle.ring.specs.Answers.{cut_to, first_words, found_as, found_in, frames_in, named_in}
 use Rattle.ring.proofs.Promises.{joined}

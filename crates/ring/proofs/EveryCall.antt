@@ -1,6 +1,7 @@
 -- A run with every kind of call, accepted and refused, and with every way in which a call finds nothing to do: what it leads to, by computing on
 -- contents, and so on words whatever the rows held before they were opened. It begins as the script of paper 01's table. So the definitions
 -- of a run do what they say, also where the script does not go: joint readings, tokens, copies, joins, refusals, other words. Assumes nothing.
+use Rattle.std.proofs.Common.{None, Some}
 use Prim.Native.Nat.{ℕ, ◌<◌, ◌≤◌}
 use mathlib.Core.List.{List, [], ◌++◌, ◌∷◌, map}
 use mathlib.Core.Path.{◌∙◌, ◌≡◌, ap, refl}
@@ -22,7 +23,7 @@ use Rattle.frame.specs.Tokens.{rows_of, token_words}
 use Rattle.frame.specs.Words.{clock_from, clock_words, id_word_if, id_words, id_words_to, ids_from, summed, total}
 use Rattle.frame.proofs.Cases.{entry_a, entry_b, row_a, row_b}
 use Rattle.joining.specs.Joins.{all_alike, alike, each, join_code, joined}
-use Rattle.store.specs.Offices.{None, Some, best_own, best_to, better, clock_of, consider, current, hold, made, max_to, need, reveal, settings_ok}
+use Rattle.store.specs.Offices.{best_own, best_to, better, clock_of, consider, current, hold, made, max_to, need, reveal, settings_ok}
 use Rattle.store.specs.Reveal.{revealed, steps}
 use Rattle.office.specs.Calls.{answer_words, entry_code, fresh_code, handed, hold_all, hold_new, joint_code, joint_on, new_entry, noted, noted_all, own_code, plots_ok, read_code, read_on, receive_code, receive_on, receive_sends, received_by, sent_of, three_words, write_code, write_on, wrote_session}
 use Rattle.ring.specs.Holds.{Same, token_on}

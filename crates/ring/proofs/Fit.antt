@@ -1,4 +1,5 @@
 -- A run on contents as a world of ids, and the invariant. E k is what the id k stands for, P k its writer's past. Assumes nothing.
+use Rattle.std.proofs.Common.{Some}
 use Prim.Native.Nat.{ℕ, ◌*◌, ◌+◌, ◌-◌, ◌/◌, ◌<◌, ◌≤◌, suc, zero}
 use mathlib.Core.Bool.{true}
 use mathlib.Core.List.Memᴰ
@@ -15,7 +16,7 @@ use Rattle.frame.specs.Frames.{ring_ok}
 use Rattle.frame.specs.Sessions.{Content, session_ok}
 use Rattle.frame.specs.declared.entry.Entry.{Entry}
 use Rattle.frame.specs.declared.entry.Frame.{Frame}
-use Rattle.store.specs.Offices.{Found, Office, Some}
+use Rattle.store.specs.Offices.{Found, Office}
 use Rattle.store.proofs.Best.{Over}
 use Rattle.mesh.specs.Ring.{Shape}
 use Rattle.mesh.specs.Sessions.{IdSession, Law, SoundSession}

@@ -1,4 +1,5 @@
 -- A session that reads and writes goes on from what it was. Assumes nothing.
+use Rattle.std.proofs.Common.{None, Some}
 use Prim.Native.Nat.{ℕ, suc, zero}
 use mathlib.Core.Bool.{Bool, false, true}
 use mathlib.Core.List.{List, [], ◌∷◌, append-nil}
@@ -11,7 +12,7 @@ use Rattle.frame.specs.declared.entry.Frame.{Frame}
 use Rattle.frame.proofs.Ids.{inserted_keeps}
 use Rattle.joining.specs.Orders.{GoneOn}
 use Rattle.joining.proofs.Orders.{gone_self, gone_then}
-use Rattle.store.specs.Offices.{Found, None, Office, Some, current, office_of, reveal, sound_store}
+use Rattle.store.specs.Offices.{Found, Office, current, office_of, reveal, sound_store}
 use Rattle.office.specs.Calls.{Result, given, joint_code, joint_on, new_entry, noted, noted_all, read_code, read_joint, read_on, read_plot, worded, write, write_code, write_on, wrote_session}
 use Rattle.ring.specs.Carrying.{GoesOn}
 

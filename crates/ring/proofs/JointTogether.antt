@@ -1,4 +1,5 @@
 -- `JointTogether`, specs/Joint.antt: the joint reading is the last call of a run, whose `Holds` has it. Assumes nothing.
+use Rattle.std.proofs.Common.{Some}
 use Prim.Native.Nat.{ℕ, ◌<◌, ◌≤◌}
 use mathlib.Core.Bool.{cond}
 use mathlib.Core.List.Memᴰ
@@ -9,7 +10,7 @@ use lib.Dec.{ltb}
 use lib.ListN.{length}
 use borrow.Author.Tests.{lt-ltb}
 use Rattle.frame.specs.Entries.{id_of}
-use Rattle.store.specs.Offices.{Found, Some, need, office_of, reveal}
+use Rattle.store.specs.Offices.{Found, need, office_of, reveal}
 use Rattle.office.specs.Calls.{Result, handed, read_joint}
 use Rattle.reading.proofs.JointReads.{joint_hands}
 use Rattle.ring.specs.Holds.{Holds}

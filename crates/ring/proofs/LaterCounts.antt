@@ -1,4 +1,5 @@
 -- `LaterCounts`, specs/Later.antt: of every run. Assumes nothing.
+use Rattle.std.proofs.Common.{Some}
 use Prim.Native.Nat.{ℕ, ◌<◌, ◌≤◌}
 use mathlib.Core.Bool.{true}
 use mathlib.Core.List.{List, Memᴰ, [], ◌∷◌, map}
@@ -12,7 +13,7 @@ use Rattle.frame.specs.Entries.{id_of, outranks}
 use Rattle.frame.specs.declared.entry.Entry.{Entry}
 use Rattle.frame.specs.declared.entry.Frame.{Frame}
 use Rattle.frame.proofs.Entries.{outranks_irrefl, outranks_trans}
-use Rattle.store.specs.Offices.{Found, Office, Some, current, need, office_of, reveal}
+use Rattle.store.specs.Offices.{Found, Office, current, need, office_of, reveal}
 use Rattle.store.specs.Reveal.{Reached, dep, seed}
 use Rattle.store.proofs.Best.{Over}
 use Rattle.office.specs.Calls.{Result, handed, noted_all, read_joint, read_plot, write, write_on}

@@ -1,5 +1,6 @@
 -- A step of a run is what the calls promise: whatever a call answers and leaves, if it keeps its promise, is the result that `step` goes on
 -- with. Assumes nothing.
+use Rattle.std.proofs.Common.{None, Some}
 use Prim.Native.Nat.{ℕ, suc, zero, ◌≤◌}
 use mathlib.Core.Bool.{Bool, false, true}
 use mathlib.Core.List.{List, [], ◌++◌, ◌∷◌, map}
@@ -22,7 +23,7 @@ use Rattle.frame.proofs.Sessions.{session_facts}
 use Rattle.joining.specs.Joins.{join_code, join_sessions, joined as joinedSession, joined_if}
 use Rattle.joining.specs.Promises.{JoinPromise}
 use Rattle.joining.proofs.Laws.{joinable}
-use Rattle.store.specs.Offices.{Found, None, Office, Some, office_of, reveal, sound_store}
+use Rattle.store.specs.Offices.{Found, Office, office_of, reveal, sound_store}
 use Rattle.office.specs.Answers.{any_found, entry_found, fresh_by}
 use Rattle.office.specs.Calls.{Result, answer_words, fresh_code, given, handed, handed_all, hold_all, joint_code, joint_on, noted_all, open_office, parsed, read_all, read_code, read_joint, read_on, read_plot, receive, receive_code, receive_on, receive_sends, received_by, sent_of, three_words, worded, write, write_code, write_on, write_sends, wrote_session}
 use Rattle.office.specs.Promises.{FreshPromise, JointPromise, OpenPromise, ReadPromise, ReceivePromise, WritePromise}

@@ -1,5 +1,6 @@
 -- A reading, single or joint, keeps the invariant, and is never refused with 10, 11 or 12. What it hands back is not outranked by the past.
 -- Assumes nothing.
+use Rattle.std.proofs.Common.{None, Some}
 use Prim.Native.Nat.{ℕ, ◌*◌, ◌/◌, ◌<◌, ◌≤◌}
 use mathlib.Core.Bool.{Bool, cond, false, true}
 use mathlib.Core.List.{List, Memᴰ, [], ◌++◌, ◌∷◌, map}
@@ -21,7 +22,7 @@ use Rattle.frame.specs.Sessions.{Content, session_ok}
 use Rattle.frame.specs.declared.entry.Entry.{Entry}
 use Rattle.frame.specs.declared.entry.Frame.{Frame}
 use Rattle.frame.proofs.Ids.{inserted_new}
-use Rattle.store.specs.Offices.{Found, None, Office, Some, current, reveal}
+use Rattle.store.specs.Offices.{Found, Office, current, reveal}
 use Rattle.store.proofs.Best.{Over, current_from, current_over, own_from, own_keeps, own_over}
 use Rattle.office.specs.Calls.{Result, answer_words, given, handed, handed_all, joint_code, joint_on, noted, noted_all, plots_ok, read_all, read_code, read_on, refusal}
 use Rattle.mesh.specs.Ring.{Shape}

@@ -1,4 +1,5 @@
 -- The structs that cross keep their row of sixteen entries: so in every chain of answered calls. Assumes nothing.
+use Rattle.std.proofs.Common.{None, Some}
 use Prim.Native.Nat.{ℕ, ◌-◌, ◌≤◌, suc, zero}
 use mathlib.Core.Bool.{Bool, cond, false, true}
 use mathlib.Core.List.Memᴰ
@@ -15,7 +16,7 @@ use Rattle.frame.specs.TokenCalls.{content_if, read_token, read_token_code}
 use Rattle.frame.specs.Tokens.{content_from}
 use Rattle.frame.specs.declared.session.Session.{Session}
 use Rattle.joining.specs.Joins.{join_code, join_sessions, joined, joined_if}
-use Rattle.store.specs.Offices.{Found, None, Office, Some, current, office_of, reveal}
+use Rattle.store.specs.Offices.{Found, Office, current, office_of, reveal}
 use Rattle.office.specs.Answers.{extended_by, fresh_by, noted_all_in, noted_in, read_joint_session, read_plot_session, session_if, write_session}
 use Rattle.office.specs.Calls.{fresh_code, new_entry, read_joint, read_plot, write}
 use Rattle.ring.specs.Answers.{Carried, Ring, Said, joint_said, own_of, read_said, received_said, token_written, wrote_said}

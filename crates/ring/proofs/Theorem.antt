@@ -1,4 +1,5 @@
 -- THE THEOREM: the claim holds of every run. Assumes nothing.
+use Rattle.std.proofs.Common.{None, Some}
 use Prim.Native.Nat.{ℕ, ◌*◌, ◌<◌, ◌≤◌}
 use mathlib.Core.Bool.{Bool, false, true}
 use mathlib.Core.List.Memᴰ
@@ -14,7 +15,7 @@ use Rattle.frame.specs.Entries.{entry_ok, id_of, outranks}
 use Rattle.frame.specs.Frames.{ring_ok}
 use Rattle.frame.specs.declared.entry.Entry.{Entry}
 use Rattle.frame.proofs.Entries.{outranks_total}
-use Rattle.store.specs.Offices.{Found, None, Office, Some, current, empty_office, need, office_of, settings_ok, store_words}
+use Rattle.store.specs.Offices.{Found, Office, current, empty_office, need, office_of, settings_ok, store_words}
 use Rattle.store.proofs.Best.{Over, current_from, current_over}
 use Rattle.store.proofs.StoreBack.{Canon, store_back}
 use Rattle.office.specs.Calls.{open_office}

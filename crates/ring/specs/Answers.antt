@@ -1,13 +1,13 @@
 -- What really crosses in a run, and what is read off an answer: nothing but the answer. What it leaves is said in specs/Run.antt, and
 -- specs/Claim.antt makes a run of it. Assumes nothing.
-use Rattle.std.specs.Prelude.{ℕ, ◌+◌, suc, zero, Bool, cond, false, true, List, [], ◌∷◌, map, eqb, drop, get_or, length, take}
+use Rattle.std.specs.Prelude.{ℕ, ◌+◌, suc, zero, Bool, cond, false, true, List, [], ◌∷◌, map, eqb, drop, get_or, length, take, None, Some}
 use Rattle.frame.specs.Entries.{blank_entry, name_of}
 use Rattle.frame.specs.Frames.{count_in, offices_in}
 use Rattle.frame.specs.Refusals.{Reply}
 use Rattle.frame.specs.Sessions.{content_of, fresh_content, session_of}
 use Rattle.frame.specs.declared.entry.Entry.{Entry}
 use Rattle.frame.specs.declared.session.Session.{Session}
-use Rattle.store.specs.Offices.{Found, None, Some}
+use Rattle.store.specs.Offices.{Found}
 use Rattle.ring.specs.Run.{Made, SaidAs, State, StateAs, Tracked, TrackedAs, token_left}
 
 -- ---- what crosses

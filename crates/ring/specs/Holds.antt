@@ -1,5 +1,5 @@
 -- THE CLAIM about a run (paper 01, "Runs"; the third demand). Assumes nothing.
-use Rattle.std.specs.Prelude.{ℕ, ◌<◌, ◌≤◌, false, true, ◌⊎◌, ◌≡◌, length}
+use Rattle.std.specs.Prelude.{ℕ, ◌<◌, ◌≤◌, false, true, ◌⊎◌, ◌≡◌, length, Some}
 use mathlib.Core.List.{List, Memᴰ, ◌++◌, ◌∷◌, map}
 use Rattle.causal.specs.Sets.{has}
 use Rattle.frame.specs.Entries.{id_of, outranks}
@@ -8,7 +8,7 @@ use Rattle.frame.specs.Sessions.{Content}
 use Rattle.frame.specs.Tokens.{token_words}
 use Rattle.frame.specs.declared.entry.Entry.{Entry}
 use Rattle.frame.specs.declared.entry.Frame.{Frame}
-use Rattle.store.specs.Offices.{Found, Office, Some, current, need, office_of, sound_store, store_words}
+use Rattle.store.specs.Offices.{Found, Office, current, need, office_of, sound_store, store_words}
 use Rattle.office.specs.Calls.{open_office}
 use Rattle.ring.specs.Run.{Call, Event, Made, State, Tracked, TrackedToken, contents_run, words_run}
 

@@ -1,10 +1,10 @@
 -- A CLAIM BESIDE `Holds`, paper 02, (i): "The replies together still show, for each entry handed back, nothing on the listed plots below its
 -- writer's past." It is of every joint reading of every run: the calls before one are a run too. Assumes nothing.
-use Rattle.std.specs.Prelude.{ℕ, ◌<◌, ◌≤◌, false, ◌⊎◌, ◌≡◌, length}
+use Rattle.std.specs.Prelude.{ℕ, ◌<◌, ◌≤◌, false, ◌⊎◌, ◌≡◌, length, Some}
 use mathlib.Core.List.{List, Memᴰ, [], ◌∷◌, map}
 use Rattle.frame.specs.Entries.{id_of, outranks}
 use Rattle.frame.specs.declared.entry.Entry.{Entry}
-use Rattle.store.specs.Offices.{Found, Some, need}
+use Rattle.store.specs.Offices.{Found, need}
 use Rattle.office.specs.Calls.{read_joint}
 use Rattle.ring.specs.Run.{Call, Made, Tracked, at, together, words_run}
 

@@ -2,13 +2,13 @@
 -- in its writer's past, on every plot, and each number of its clock is at least the corresponding one there. It is to hold over the runs of the
 -- third demand." With `past_visible` and `past_current` of `Holds`: that past is visible with the entry, and nothing below it is current. Assumes
 -- nothing.
-use Rattle.std.specs.Prelude.{ℕ, ◌<◌, ◌≤◌, true, ◌⊎◌, ◌≡◌, length}
+use Rattle.std.specs.Prelude.{ℕ, ◌<◌, ◌≤◌, true, ◌⊎◌, ◌≡◌, length, Some}
 use mathlib.Core.List.{List, Memᴰ, [], ◌∷◌}
 use Rattle.causal.specs.Clocks.{Covers}
 use Rattle.causal.specs.Sets.{has}
 use Rattle.frame.specs.Entries.{id_of, outranks}
 use Rattle.frame.specs.declared.entry.Entry.{Entry}
-use Rattle.store.specs.Offices.{Found, Some, current, need, office_of, reveal}
+use Rattle.store.specs.Offices.{Found, current, need, office_of, reveal}
 use Rattle.store.specs.Reveal.{Reached}
 use Rattle.office.specs.Calls.{read_joint, read_plot, write}
 use Rattle.ring.specs.Holds.{Shows}

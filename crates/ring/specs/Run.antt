@@ -1,6 +1,6 @@
 -- Runs of calls. `step` uses an office's store only through the calls that it is given: with the calls on words it is the run of paper 01,
 -- "Runs"; with the same calls on contents (no words in stores, lines and tokens) it is the protocol by its rules alone. Assumes nothing.
-use Rattle.std.specs.Prelude.{ℕ, suc, zero, cond, List, [], ◌++◌, ◌∷◌, eqb, ltb, length, set}
+use Rattle.std.specs.Prelude.{ℕ, suc, zero, cond, List, [], ◌++◌, ◌∷◌, eqb, ltb, length, set, None, Some}
 use Rattle.causal.specs.Codes.{check}
 use Rattle.frame.specs.Entries.{blank_entry, id_of}
 use Rattle.frame.specs.Frames.{accepts, frame_of, ring_ok}
@@ -10,7 +10,7 @@ use Rattle.frame.specs.Tokens.{content_from, token_words}
 use Rattle.frame.specs.declared.entry.Entry.{Entry}
 use Rattle.frame.specs.declared.entry.Frame.{Frame}
 use Rattle.joining.specs.Joins.{join_code, joined}
-use Rattle.store.specs.Offices.{Found, None, Office, Some, empty_office}
+use Rattle.store.specs.Offices.{Found, Office, empty_office}
 use Rattle.office.specs.Calls.{Result, fresh_code, joint_on, open_office, parsed, read_joint, read_on, read_plot, receive, receive_on, write, write_on}
 
 -- ---- what there is about

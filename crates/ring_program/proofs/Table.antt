@@ -1,4 +1,5 @@
 -- THE TABLE of paper 01: "A, B, the eleven script replies and the three-clock example stand as a table with a common theorem". Assumes nothing.
+use Rattle.std.proofs.Common.{Some}
 use Prim.Native.Nat.{ℕ}
 use mathlib.Core.Bool.{true}
 use mathlib.Core.List.{List, [], ◌++◌, ◌∷◌, map}
@@ -9,7 +10,7 @@ use Rattle.causal.specs.Tests.{both}
 use Rattle.frame.specs.Entries.{entry_ok}
 use Rattle.frame.specs.Frames.{accepts, frame_of, frame_words, framed}
 use Rattle.frame.proofs.Cases.{cases, entry_a, entry_b, row_a, row_b}
-use Rattle.store.specs.Offices.{Some, current}
+use Rattle.store.specs.Offices.{current}
 use Rattle.office.proofs.Three.{clock_0_3, clock_2_0, clock_2_1, codes_of, hearer, hears, three_clocks}
 use Rattle.script.specs.Fields.{all_digits, fields, in_front, is_below, is_digit, proper, value_of}
 use Rattle.script.specs.Lines.{line_in, line_of}

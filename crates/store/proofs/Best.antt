@@ -1,5 +1,5 @@
 -- What is current on a plot, and what is handed back, is not outranked. Assumes nothing.
-use Rattle.std.proofs.Common.{◌≡◌, ℕ, zero, suc, ◌*◌, ◌<◌, Bool, true, false, cond, eqb, ◌⊎◌, List, [], ◌∷◌, sym, refl, ap, ◌∙◌, inl, inr, ⊎_elim, arith, eq-eqb, eqb-true}
+use Rattle.std.proofs.Common.{◌≡◌, ℕ, zero, suc, ◌*◌, ◌<◌, Bool, true, false, cond, eqb, ◌⊎◌, List, [], ◌∷◌, sym, refl, ap, ◌∙◌, inl, inr, ⊎_elim, arith, eq-eqb, eqb-true, None, Some}
 use mathlib.Core.List.Memᴰ
 use mathlib.Core.List.{Memᴰ}
 use Rattle.causal.specs.Sets.{has, is_in}
@@ -11,7 +11,7 @@ use Rattle.causal.proofs.Ranks.{above_irrefl}
 use Rattle.frame.specs.Entries.{outranks}
 use Rattle.frame.specs.declared.entry.Entry.{Entry}
 use Rattle.frame.proofs.Entries.{outranks_irrefl, outranks_trans}
-use Rattle.store.specs.Offices.{Found, None, Office, Some, best_own, best_to, better, consider, current}
+use Rattle.store.specs.Offices.{Found, Office, best_own, best_to, better, consider, current}
 
 -- nothing that f hands back is outranked by q, and f is not none
 abbrev pub Over : Found → Entry → Type 0

@@ -1,5 +1,5 @@
 -- Facts by computing: an empty office, an entry held, revealed and current; stores that are sound and that are not. Assumes nothing.
-use Rattle.std.proofs.Common.{◌≡◌, ℕ, true, false, List, [], ◌∷◌, take, replicate, refl}
+use Rattle.std.proofs.Common.{◌≡◌, ℕ, true, false, List, [], ◌∷◌, take, replicate, refl, None, Some}
 use lib.Count.{count_trailing_zeros}
 use Rattle.causal.specs.Lists.{part, sum_below, tab, zeros}
 use Rattle.causal.specs.Rank.{higher, ranks_above}
@@ -9,7 +9,7 @@ use Rattle.frame.specs.Entries.{bounds_ok, clock_ok, clock_place_ok, entry_ok, i
 use Rattle.frame.specs.Frames.{ring_ok}
 use Rattle.frame.specs.declared.entry.Entry.{Entry}
 use Rattle.frame.proofs.Cases.{entry_a, entry_b}
-use Rattle.store.specs.Offices.{None, Office, Some, best_to, better, clock_of, consider, current, empty_office, entry_at, gapless, held_ok, hold, made, max_to, office_of, reveal, settings_ok, slot_words, slots_to, sound_office, sound_store, store_words}
+use Rattle.store.specs.Offices.{Office, best_to, better, clock_of, consider, current, empty_office, entry_at, gapless, held_ok, hold, made, max_to, office_of, reveal, settings_ok, slot_words, slots_to, sound_office, sound_store, store_words}
 use Rattle.store.specs.Reveal.{revealed, steps}
 
 abbrev empty : Office

@@ -1,46 +1,44 @@
 -- The current entry by its id: the turns of the search for it, and that it is the entry that the rules call current. Assumes nothing.
-use Rattle.std.proofs.Common.{◌≡◌, ℕ, zero, suc, ◌+◌, ◌*◌, ◌<◌, ◌≤◌, Bool, true, false, cond, eqb, ◌⊎◌, List, get_or, sym, refl, ap, ◌∙◌, ap₂, inl, inr, ⊎_elim, add-zero, add-suc, add-one, arith, eq-eqb, ne_eqb}
+use Rattle.std.proofs.Common.{◌≡◌, ℕ, zero, suc, ◌+◌, ◌*◌, ◌<◌, ◌≤◌, Bool, true, false, cond, eqb, ◌⊎◌, List, get_or, sym, refl, ap, ◌∙◌, ap₂, inl, inr, ⊎_elim, add-zero, add-suc, add-one, arith, eq-eqb, ne_eqb, None, Option, Some}
 use Rattle.causal.specs.Tests.{both}
 use Rattle.causal.specs.Sets.{bit, has, is_in}
 use Rattle.causal.proofs.Sets.{in_is}
 use Rattle.causal.proofs.Walk.{Passed, Next, fold_next, fold_end, has_word}
 use Rattle.frame.specs.Entries.{outranks}
-use Rattle.store.specs.Offices.{Office, slot_at, entry_at, Some, better, consider, best_to, current}
+use Rattle.store.specs.Offices.{Office, slot_at, entry_at, better, consider, best_to, current}
 use Rattle.store.specs.Current.{InSlots, better_at, weighed, place_to, place_in, current_at, found_at}
-use Rattle.store.specs.declared.current.Place.{Place}
-use Rattle.store.specs.declared.current.Place.TheVariants.{At, Nowhere}
 
 -- ---- one id
 
-module _ (ws : List ℕ) (plot k : ℕ) (best : Place) (x : ℕ) (e : x ≡ (entry_at ws k).plot) where
+module _ (ws : List ℕ) (plot k : ℕ) (best : Option ℕ) (x : ℕ) (e : x ≡ (entry_at ws k).plot) where
   pub weigh_skip : (x ≡ plot → ⊥) → best ≡ weighed ws plot k best
   unfolding weighed
   weigh_skip n = rw (ne_eqb (entry_at ws k).plot plot (λ q. n (e ∙ q)))
 
-  pub weigh_first : x ≡ plot → best ≡ Nowhere → At k ≡ weighed ws plot k best
+  pub weigh_first : x ≡ plot → best ≡ None → Some k ≡ weighed ws plot k best
   unfolding weighed better_at
   weigh_first h b = rw (eq-eqb (entry_at ws k).plot plot (sym e ∙ h), b)
 
-  pub weigh_new : (b : ℕ) (r : Bool) → x ≡ plot → best ≡ At b → r ≡ outranks (entry_at ws k) (entry_at ws b) → r ≡ true → At k ≡ weighed ws plot k best
+  pub weigh_new : (b : ℕ) (r : Bool) → x ≡ plot → best ≡ Some b → r ≡ outranks (entry_at ws k) (entry_at ws b) → r ≡ true → Some k ≡ weighed ws plot k best
   unfolding weighed better_at
   weigh_new b r h o f t = rw (eq-eqb (entry_at ws k).plot plot (sym e ∙ h), o, sym f ∙ t)
 
-  pub weigh_old : (b : ℕ) (r : Bool) → x ≡ plot → best ≡ At b → r ≡ outranks (entry_at ws k) (entry_at ws b) → r ≡ false → At b ≡ weighed ws plot k best
+  pub weigh_old : (b : ℕ) (r : Bool) → x ≡ plot → best ≡ Some b → r ≡ outranks (entry_at ws k) (entry_at ws b) → r ≡ false → Some b ≡ weighed ws plot k best
   unfolding weighed better_at
   weigh_old b r h o f t = rw (eq-eqb (entry_at ws k).plot plot (sym e ∙ h), o, sym f ∙ t)
 
-pub in_slots_at : (m : ℕ) (best : Place) (b : ℕ) → InSlots m best → best ≡ At b → (b < 256) × (slot_at b + 18 ≤ m)
+pub in_slots_at : (m : ℕ) (best : Option ℕ) (b : ℕ) → InSlots m best → best ≡ Some b → (b < 256) × (slot_at b + 18 ≤ m)
 in_slots_at m best b h e = rw e at h
 
-pub in_slots : (ws : List ℕ) (m plot k : ℕ) (best : Place) → k < 256 → slot_at k + 18 ≤ m → InSlots m best → InSlots m (weighed ws plot k best)
+pub in_slots : (ws : List ℕ) (m plot k : ℕ) (best : Option ℕ) → k < 256 → slot_at k + 18 ≤ m → InSlots m best → InSlots m (weighed ws plot k best)
 unfolding weighed better_at
 in_slots ws m plot k best l h o = go (eqb (entry_at ws k).plot plot)
   where
-    one : (c : Place) → InSlots m c → InSlots m (better_at ws k c)
-    one Nowhere i = (l, h)
-    one (At b) i = two (outranks (entry_at ws k) (entry_at ws b))
+    one : (c : Option ℕ) → InSlots m c → InSlots m (better_at ws k c)
+    one None i = (l, h)
+    one (Some b) i = two (outranks (entry_at ws k) (entry_at ws b))
       where
-        two : (t : Bool) → InSlots m (cond t (At k) (At b))
+        two : (t : Bool) → InSlots m (cond t (Some k) (Some b))
         two true = (l, h)
         two false = i
 
@@ -50,7 +48,7 @@ in_slots ws m plot k best l h o = go (eqb (entry_at ws k).plot plot)
 
 -- ---- one word of a set
 
-module _ (ws : List ℕ) (plot i w : ℕ) (before : Place) where
+module _ (ws : List ℕ) (plot i w : ℕ) (before : Option ℕ) where
   place_same : (b : ℕ) → b < 32 → bit w b ≡ 0 → place_in ws plot i w (suc b) before ≡ place_in ws plot i w b before
   unfolding place_in
   place_same b l z = rw z
@@ -59,13 +57,13 @@ module _ (ws : List ℕ) (plot i w : ℕ) (before : Place) where
   unfolding place_in
   place_taken t o = rw o
 
-  pub place_more : (b rest t : ℕ) (best r : Place) → Next w b rest t → best ≡ place_in ws plot i w b before → r ≡ weighed ws plot (32 * i + t) best
+  pub place_more : (b rest t : ℕ) (best r : Option ℕ) → Next w b rest t → best ≡ place_in ws plot i w b before → r ≡ weighed ws plot (32 * i + t) best
       → r ≡ place_in ws plot i w (t + 1) before
   place_more b rest t best r x e f =
       f ∙ ap (weighed ws plot (32 * i + t)) (e ∙ sym (fold_next (λ j. place_in ws plot i w j before) w place_same b rest t x))
       ∙ sym (place_taken t x.member) ∙ ap (λ (j : ℕ). place_in ws plot i w j before) (sym (add-one t))
 
-  pub place_done : (b rest : ℕ) (best : Place) → Passed w b rest → rest ≡ 0 → best ≡ place_in ws plot i w b before → best ≡ place_in ws plot i w 32 before
+  pub place_done : (b rest : ℕ) (best : Option ℕ) → Passed w b rest → rest ≡ 0 → best ≡ place_in ws plot i w b before → best ≡ place_in ws plot i w 32 before
   place_done b rest best x z e = e ∙ sym (fold_end (λ j. place_in ws plot i w j before) w place_same b rest x z)
 
 -- ---- all words
@@ -77,15 +75,15 @@ module _ (ws v : List ℕ) (plot : ℕ) where
   place_word i (suc b) l =
       let ih = place_word i b (omega arith) in
       ap (place_to ws v plot) (add-suc (32 * i) b)
-      ∙ ap₂ (λ (x : ℕ) (y : Place). cond (eqb x 1) (weighed ws plot (32 * i + b) y) y) (has_word v i b (omega arith)) ih
+      ∙ ap₂ (λ (x : ℕ) (y : Option ℕ). cond (eqb x 1) (weighed ws plot (32 * i + b) y) y) (has_word v i b (omega arith)) ih
 
   -- one word more
-  pub place_next : (i : ℕ) (best r : Place) → best ≡ place_to ws v plot (32 * i) → r ≡ place_in ws plot i (get_or v i 0) 32 best → r ≡ place_to ws v plot (32 * (i + 1))
+  pub place_next : (i : ℕ) (best r : Option ℕ) → best ≡ place_to ws v plot (32 * i) → r ≡ place_in ws plot i (get_or v i 0) 32 best → r ≡ place_to ws v plot (32 * (i + 1))
   place_next i best r e f =
       let q : 32 * i + 32 ≡ 32 * (i + 1) = omega arith in
       f ∙ ap (place_in ws plot i (get_or v i 0) 32) e ∙ sym (place_word i 32 (omega arith)) ∙ ap (place_to ws v plot) q
 
-  pub place_none : Nowhere ≡ place_to ws v plot (32 * 0)
+  pub place_none : None ≡ place_to ws v plot (32 * 0)
   unfolding place_to
   place_none = refl
 
@@ -106,15 +104,15 @@ module _ (O : Office) (ws : List ℕ) (same : (k : ℕ) → has O.visible k ≡ 
   best_at plot zero = refl
   best_at plot (suc k) = go (is_in O.visible k) refl (best_at plot k)
     where
-      better_at_lem : (b : Place) → better (entry_at ws k) (found_at ws b) ≡ found_at ws (better_at ws k b)
-      better_at_lem Nowhere = refl
-      better_at_lem (At b) = two (outranks (entry_at ws k) (entry_at ws b))
+      better_at_lem : (b : Option ℕ) → better (entry_at ws k) (found_at ws b) ≡ found_at ws (better_at ws k b)
+      better_at_lem None = refl
+      better_at_lem (Some b) = two (outranks (entry_at ws k) (entry_at ws b))
         where
-          two : (t : Bool) → cond t (Some (entry_at ws k)) (Some (entry_at ws b)) ≡ found_at ws (cond t (At k) (At b))
+          two : (t : Bool) → cond t (Some (entry_at ws k)) (Some (entry_at ws b)) ≡ found_at ws (cond t (Some k) (Some b))
           two true = refl
           two false = refl
 
-      on_plot : (t : Bool) (b : Place) → consider t (entry_at ws k) (found_at ws b) ≡ found_at ws (cond t (better_at ws k b) b)
+      on_plot : (t : Bool) (b : Option ℕ) → consider t (entry_at ws k) (found_at ws b) ≡ found_at ws (cond t (better_at ws k b) b)
       on_plot true b = better_at_lem b
       on_plot false b = refl
 
@@ -130,28 +128,28 @@ module _ (O : Office) (ws : List ℕ) (same : (k : ℕ) → has O.visible k ≡ 
 
 -- ---- the place found is that of a visible id, and its slot lies in the store
 
-weighed_from : (ws : List ℕ) (plot k j : ℕ) (best : Place) → weighed ws plot k best ≡ At j → (j ≡ k) ⊎ (best ≡ At j)
+weighed_from : (ws : List ℕ) (plot k j : ℕ) (best : Option ℕ) → weighed ws plot k best ≡ Some j → (j ≡ k) ⊎ (best ≡ Some j)
 unfolding weighed better_at
 weighed_from ws plot k j best e = go (eqb (entry_at ws k).plot plot) e
   where
-    better_from : (b : Place) → better_at ws k b ≡ At j → (j ≡ k) ⊎ (b ≡ At j)
-    better_from Nowhere f = let q : k ≡ j = cc in inl (sym q)
-    better_from (At b) f = two (outranks (entry_at ws k) (entry_at ws b)) f
+    better_from : (b : Option ℕ) → better_at ws k b ≡ Some j → (j ≡ k) ⊎ (b ≡ Some j)
+    better_from None f = let q : k ≡ j = cc in inl (sym q)
+    better_from (Some b) f = two (outranks (entry_at ws k) (entry_at ws b)) f
       where
-        two : (t : Bool) → cond t (At k) (At b) ≡ At j → (j ≡ k) ⊎ (At b ≡ At j)
+        two : (t : Bool) → cond t (Some k) (Some b) ≡ Some j → (j ≡ k) ⊎ (Some b ≡ Some j)
         two true g = let q : k ≡ j = cc in inl (sym q)
         two false g = inr g
 
-    go : (t : Bool) → cond t (better_at ws k best) best ≡ At j → (j ≡ k) ⊎ (best ≡ At j)
+    go : (t : Bool) → cond t (better_at ws k best) best ≡ Some j → (j ≡ k) ⊎ (best ≡ Some j)
     go true f = better_from best f
     go false f = inr f
 
-pub place_visible : (ws v : List ℕ) (plot k j : ℕ) → place_to ws v plot k ≡ At j → has v j ≡ 1
+pub place_visible : (ws v : List ℕ) (plot k j : ℕ) → place_to ws v plot k ≡ Some j → has v j ≡ 1
 unfolding place_to
 place_visible ws v plot zero j e = let z : ◌≡◌ {A = ℕ} 0 1 = cc in absurd (omega arith)
 place_visible ws v plot (suc k) j e = go (is_in v k) refl e (place_visible ws v plot k j)
   where
-    go : (t : Bool) → is_in v k ≡ t → cond t (weighed ws plot k (place_to ws v plot k)) (place_to ws v plot k) ≡ At j
-        → (place_to ws v plot k ≡ At j → has v j ≡ 1) → has v j ≡ 1
+    go : (t : Bool) → is_in v k ≡ t → cond t (weighed ws plot k (place_to ws v plot k)) (place_to ws v plot k) ≡ Some j
+        → (place_to ws v plot k ≡ Some j → has v j ≡ 1) → has v j ≡ 1
     go true o f ih = ⊎_elim (λ q. ap (has v) q ∙ in_is v k o) ih (weighed_from ws plot k j (place_to ws v plot k) f)
     go false o f ih = ih f

@@ -1,10 +1,8 @@
 -- To reveal step by step shows the old visible set and just what is reached from the seeds, in as many steps as ids are new.
 -- A loop that takes these steps has `State` for its invariant: `start`, `step`, `done`. Assumes nothing.
-use Rattle.std.proofs.Common.{◌≡◌, ℕ, zero, suc, ◌+◌, ◌-◌, ◌*◌, ◌<◌, ◌≤◌, true, ◌⊎◌, List, sym, refl, ap, ◌∙◌, inl, inr, ⊎_elim, suc-add, arith}
+use Rattle.std.proofs.Common.{◌≡◌, ℕ, zero, suc, ◌+◌, ◌-◌, ◌*◌, ◌<◌, ◌≤◌, true, ◌⊎◌, List, sym, refl, ap, ◌∙◌, inl, inr, ⊎_elim, suc-add, arith, None, Option, Some}
 use Rattle.causal.specs.Lists.{sum_below}
 use Rattle.causal.specs.Sets.{IdSet, Within, has, inserted, lowest_of, minus, subset_of, unite}
-use Rattle.causal.specs.declared.set.Lowest.TheVariants.{At, Empty}
-use Rattle.causal.specs.declared.set.Lowest.{Lowest}
 use Rattle.causal.proofs.Lists.{sum_le}
 use Rattle.causal.proofs.Sets.{has_in, has_inserted, has_lt, has_minus, ids_inserted, ids_minus, ids_unite, in_inserted, in_unite, inserted_old, lowest_of_at, lowest_of_none, same_words, subset_within, unite_left, unite_right}
 use Rattle.store.specs.Reveal.{Reached, dep, revealed, seed, steps}
@@ -23,12 +21,12 @@ pub record Ready (D : ℕ → List ℕ) (Held Vis : List ℕ) (n : ℕ) (seeds :
 
 -- ---- steps, one at a time
 
-pub step_at : (f : ℕ) (D : ℕ → List ℕ) (p v : List ℕ) (c k : ℕ) → lowest_of (minus p v) ≡ At k
+pub step_at : (f : ℕ) (D : ℕ → List ℕ) (p v : List ℕ) (c k : ℕ) → lowest_of (minus p v) ≡ Some k
     → steps (suc f) D p v c ≡ steps f D (unite p (D k)) (inserted v k) (c + 1)
 unfolding steps
 step_at f D p v c k e = rw (e, steps)
 
-pub step_end : (f : ℕ) (D : ℕ → List ℕ) (p v : List ℕ) (c : ℕ) → lowest_of (minus p v) ≡ Empty
+pub step_end : (f : ℕ) (D : ℕ → List ℕ) (p v : List ℕ) (c : ℕ) → lowest_of (minus p v) ≡ None
     → steps f D p v c ≡ record { visible = v; steps = c }
 unfolding steps
 step_end zero D p v c e = refl
@@ -40,7 +38,7 @@ pub record Picked (p v : List ℕ) (k : ℕ) : Type 0 where
   pub pending : has p k ≡ 1
   pub unseen : has v k ≡ 0
 
-pub picked : (p v : List ℕ) (k : ℕ) → IdSet p → IdSet v → lowest_of (minus p v) ≡ At k → Picked p v k
+pub picked : (p v : List ℕ) (k : ℕ) → IdSet p → IdSet v → lowest_of (minus p v) ≡ Some k → Picked p v k
 picked p v k wp wv e =
     let w = ids_minus p v wp wv in
     let h = (lowest_of_at (minus p v) k w e).member in
@@ -49,16 +47,16 @@ picked p v k wp wv e =
     record { below = l; pending = omega (arith, has_lt p k, has_lt v k); unseen = omega (arith, has_lt p k, has_lt v k) }
 
 -- seeds that are visible leave nothing to do
-pub all_shown : (p v : List ℕ) → IdSet p → IdSet v → subset_of p v ≡ true → lowest_of (minus p v) ≡ Empty
+pub all_shown : (p v : List ℕ) → IdSet p → IdSet v → subset_of p v ≡ true → lowest_of (minus p v) ≡ None
 all_shown p v wp wv h = go (lowest_of (minus p v)) refl
   where
-    go : (l : Lowest) → lowest_of (minus p v) ≡ l → l ≡ Empty
-    go Empty e = refl
-    go (At k) e =
+    go : (l : Option ℕ) → lowest_of (minus p v) ≡ l → l ≡ None
+    go None e = refl
+    go (Some k) e =
         let q = picked p v k wp wv e in
         absurd (omega (arith, q.unseen, subset_within p v wp h k q.pending))
 
-pub emptied : (p v : List ℕ) → IdSet p → lowest_of (minus p v) ≡ Empty → Within p v
+pub emptied : (p v : List ℕ) → IdSet p → lowest_of (minus p v) ≡ None → Within p v
 emptied p v wp e k h =
     let l = has_in p k (omega (arith, wp.eight)) h in
     omega (arith, has_minus p v k l, lowest_of_none (minus p v) e k, has_lt v k)
@@ -103,7 +101,7 @@ module _ (D : ℕ → List ℕ) (Held Vis : List ℕ) (n : ℕ) (seeds : List �
         visible = λ k h. inl h;
       }
 
-  pub step : (p v : List ℕ) (c k : ℕ) → State D Held Vis n seeds p v c → lowest_of (minus p v) ≡ At k → Step D Held Vis n seeds p v c k
+  pub step : (p v : List ℕ) (c k : ℕ) → State D Held Vis n seeds p v c → lowest_of (minus p v) ≡ Some k → Step D Held Vis n seeds p v c k
   step p v c k s e =
       record {
         id = kn;
@@ -150,7 +148,7 @@ module _ (D : ℕ → List ℕ) (Held Vis : List ℕ) (n : ℕ) (seeds : List �
   all_in p v c s w (dep {k = k} {j = j} r m) =
       ⊎_elim (λ o. s.grows j (ready.visible_closed k o j m)) (λ x. w j (x.1 j m)) (s.visible k (all_in p v c s w r))
 
-  pub done : (p v : List ℕ) (c : ℕ) → State D Held Vis n seeds p v c → lowest_of (minus p v) ≡ Empty → Exactly D Vis n seeds v c
+  pub done : (p v : List ℕ) (c : ℕ) → State D Held Vis n seeds p v c → lowest_of (minus p v) ≡ None → Exactly D Vis n seeds v c
   done p v c s e =
       record {
         new = s.room;
@@ -167,15 +165,15 @@ module _ (D : ℕ → List ℕ) (Held Vis : List ℕ) (n : ℕ) (seeds : List �
   pub exact_from : (f : ℕ) (p v : List ℕ) (c : ℕ) → 32 * n ≤ f + c → State D Held Vis n seeds p v c → Shows (steps f D p v c)
   exact_from zero p v c l s = by (lowest_of (minus p v)) refl
     where
-      by : (o : Lowest) → lowest_of (minus p v) ≡ o → Shows (steps zero D p v c)
-      by (At k) e = absurd (omega (arith, (step p v c k s e).fresh))
-      by Empty e = rw (step_end zero D p v c e) (done p v c s e)
+      by : (o : Option ℕ) → lowest_of (minus p v) ≡ o → Shows (steps zero D p v c)
+      by (Some k) e = absurd (omega (arith, (step p v c k s e).fresh))
+      by None e = rw (step_end zero D p v c e) (done p v c s e)
   exact_from (suc f) p v c l s = by (λ k t. exact_from f (unite p (D k)) (inserted v k) (c + 1) (omega arith) t) (lowest_of (minus p v)) refl
     where
       by : ((k : ℕ) → State D Held Vis n seeds (unite p (D k)) (inserted v k) (c + 1) → Shows (steps f D (unite p (D k)) (inserted v k) (c + 1)))
-          → (o : Lowest) → lowest_of (minus p v) ≡ o → Shows (steps (suc f) D p v c)
-      by ih (At k) e = rw (step_at f D p v c k e) (ih k (step p v c k s e).next)
-      by ih Empty e = rw (step_end (suc f) D p v c e) (done p v c s e)
+          → (o : Option ℕ) → lowest_of (minus p v) ≡ o → Shows (steps (suc f) D p v c)
+      by ih (Some k) e = rw (step_at f D p v c k e) (ih k (step p v c k s e).next)
+      by ih None e = rw (step_end (suc f) D p v c e) (done p v c s e)
 
   -- the walk shows the old visible set and just what is reached from the seeds
   pub revealed_is_reached : IdSet seeds → Exactly D Vis n seeds (revealed D n Vis seeds).visible (revealed D n Vis seeds).steps
@@ -187,17 +185,17 @@ module _ (D : ℕ → List ℕ) (Held Vis : List ℕ) (n : ℕ) (seeds : List �
       → steps (f + more) D p v c ≡ steps f D p v c
   fuel_enough more zero p v c l s = by (lowest_of (minus p v)) refl
     where
-      by : (o : Lowest) → lowest_of (minus p v) ≡ o → steps (zero + more) D p v c ≡ steps zero D p v c
-      by (At k) e = absurd (omega (arith, (step p v c k s e).fresh))
-      by Empty e = step_end (zero + more) D p v c e ∙ sym (step_end zero D p v c e)
+      by : (o : Option ℕ) → lowest_of (minus p v) ≡ o → steps (zero + more) D p v c ≡ steps zero D p v c
+      by (Some k) e = absurd (omega (arith, (step p v c k s e).fresh))
+      by None e = step_end (zero + more) D p v c e ∙ sym (step_end zero D p v c e)
   fuel_enough more (suc f) p v c l s =
       by (λ k t. fuel_enough more f (unite p (D k)) (inserted v k) (c + 1) (omega arith) t) (lowest_of (minus p v)) refl
     where
       by : ((k : ℕ) → State D Held Vis n seeds (unite p (D k)) (inserted v k) (c + 1)
           → steps (f + more) D (unite p (D k)) (inserted v k) (c + 1) ≡ steps f D (unite p (D k)) (inserted v k) (c + 1))
-          → (o : Lowest) → lowest_of (minus p v) ≡ o → steps (suc f + more) D p v c ≡ steps (suc f) D p v c
-      by ih (At k) e = rw suc-add (step_at (f + more) D p v c k e ∙ ih k (step p v c k s e).next ∙ sym (step_at f D p v c k e))
-      by ih Empty e = step_end (suc f + more) D p v c e ∙ sym (step_end (suc f) D p v c e)
+          → (o : Option ℕ) → lowest_of (minus p v) ≡ o → steps (suc f + more) D p v c ≡ steps (suc f) D p v c
+      by ih (Some k) e = rw suc-add (step_at (f + more) D p v c k e ∙ ih k (step p v c k s e).next ∙ sym (step_at f D p v c k e))
+      by ih None e = step_end (suc f + more) D p v c e ∙ sym (step_end (suc f) D p v c e)
 
 -- there is one such set and one such count, so any order of the steps gives them
 pub exactly_one : (D : ℕ → List ℕ) (Vis : List ℕ) (n : ℕ) (seeds v w : List ℕ) (c d : ℕ) → Exactly D Vis n seeds v c → Exactly D Vis n seeds w d

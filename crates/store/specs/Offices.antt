@@ -1,6 +1,6 @@
 -- One office: its content, its store as words, when a store is sound, its clock, to reveal, what is current on a plot.
 -- Paper 01, "Entries and rank", "Sound stores and errands". Assumes nothing.
-use Rattle.std.specs.Prelude.{ℕ, zero, suc, ◌+◌, ◌*◌, ◌/◌, ◌%◌, ◌^◌, ◌<◌, max, Bool, true, false, cond, List, [], ◌∷◌, ◌++◌, length, drop, ◌==◌, nat_le, nat_lt, slice_index}
+use Rattle.std.specs.Prelude.{ℕ, zero, suc, ◌+◌, ◌*◌, ◌/◌, ◌%◌, ◌^◌, ◌<◌, max, Bool, true, false, cond, List, [], ◌∷◌, ◌++◌, length, drop, ◌==◌, nat_le, nat_lt, slice_index, None, Option, Some}
 use Rattle.causal.specs.Tests.{both, implies, all_below}
 use Rattle.causal.specs.Lists.{part, tab, sum_below, zeros}
 use Rattle.causal.specs.Sets.{has, is_in, inserted, subset_of}
@@ -145,9 +145,8 @@ hold O e =
     }
 
 -- an entry, or none
-pub data Found : Type 0 where
-  None : Found
-  Some : Entry → Found
+abbrev pub Found : Type 0
+Found = Option Entry
 
 -- the higher-ranked of an entry and what was found, which stays where they tie
 unfoldable pub better : Entry → Found → Found

@@ -1,9 +1,8 @@
 -- To reveal (01: to bring out): "to show it and everything reached through dependencies". Step by step: each step shows the lowest pending
 -- id that is not visible, and what it depends on becomes pending. `Reached` says the same with no steps; proofs/Reached.antt: they agree.
 -- Assumes nothing.
-use Rattle.std.specs.Prelude.{◌≡◌, ℕ, zero, suc, ◌+◌, ◌*◌, List}
+use Rattle.std.specs.Prelude.{◌≡◌, ℕ, zero, suc, ◌+◌, ◌*◌, List, None, Some}
 use Rattle.causal.specs.Sets.{has, unite, minus, inserted, lowest_of}
-use Rattle.causal.specs.declared.set.Lowest.TheVariants.{At, Empty}
 use Rattle.store.specs.declared.reveal.Revealed.{Revealed}
 
 -- at most f steps from the pending set p, the visible set v and c steps taken; D k is what k depends on
@@ -11,8 +10,8 @@ unfoldable pub steps : ℕ → (ℕ → List ℕ) → List ℕ → List ℕ → 
 steps zero D p v c = record { visible = v; steps = c }
 steps (suc f) D p v c =
     elim (lowest_of (minus p v)) [
-      | At k ↦ steps f D (unite p (D k)) (inserted v k) (c + 1)
-      | Empty ↦ record { visible = v; steps = c }
+      | Some k ↦ steps f D (unite p (D k)) (inserted v k) (c + 1)
+      | None ↦ record { visible = v; steps = c }
     ]
 
 unfoldable pub revealed : (ℕ → List ℕ) → ℕ → List ℕ → List ℕ → Revealed

@@ -8,12 +8,6 @@ ghost use Rattle.store.specs.Current.{WordReaches, InSlots, weighed, place_in, c
 
 use crate::layout;
 
-#[derive(Clone, Copy)]
-pub enum Place {
-    At(usize),
-    Nowhere,
-}
-
 // Does the entry in slot j outrank that in slot k?
 fn ranks_above(store: &[u32], j: usize, k: usize) -> bool
     requires { (j < 256) × (k < 256) × (slot_at j + 18 ≤ length store.now) × (slot_at k + 18 ≤ length store.now) }
@@ -25,7 +19,7 @@ fn ranks_above(store: &[u32], j: usize, k: usize) -> bool
 }
 
 // The better of id k, if it is on the plot, and the best so far.
-fn weigh(store: &[u32], plot: u32, k: usize, best: Place) -> Place
+fn weigh(store: &[u32], plot: u32, k: usize, best: Option<usize>) -> Option<usize>
     requires { (k < 256) × (slot_at k + 18 ≤ length store.now) × InSlots (length store.now) best }
     ensures { result ≡ weighed store.now plot k best }
 {
@@ -33,18 +27,13 @@ fn weigh(store: &[u32], plot: u32, k: usize, best: Place) -> Place
         return best;
     }
     match best {
-        Place::Nowhere => Place::At(k),
-        Place::At(b) => {
-            if ranks_above(store, k, b) {
-                return Place::At(k);
-            }
-            Place::At(b)
-        }
+        Some(b) if !ranks_above(store, k, b) => best,
+        _ => Some(k),
     }
 }
 
 // w is word i of a set: the best of its ids and of what was found before.
-fn best_in(store: &[u32], plot: u32, i: usize, w: u32, before: Place) -> Place
+fn best_in(store: &[u32], plot: u32, i: usize, w: u32, before: Option<usize>) -> Option<usize>
     requires { (i < 8) × WordReaches (length store.now) i w × InSlots (length store.now) before }
     ensures { result ≡ place_in store.now plot i w 32 before }
 {
@@ -59,12 +48,12 @@ fn best_in(store: &[u32], plot: u32, i: usize, w: u32, before: Place) -> Place
 }
 
 // The id of the current entry where the visible set is the one given.
-pub fn current(store: &[u32], visible: [u32; 8], plot: u32) -> Place
+pub fn current(store: &[u32], visible: [u32; 8], plot: u32) -> Option<usize>
     requires { (sound_store store.now ≡ true) × (subset_of visible (part store.now 3 8) ≡ true) }
     ensures { result ≡ current_at store.now visible plot }
 {
     let n = store[0] as usize;
-    let mut best = Place::Nowhere;
+    let mut best = None;
     for i in 0..n {
         best = best_in(store, plot, i, visible[i], best);
     }

@@ -9,23 +9,21 @@ use crate::layout;
 use frame::entry::Entry;
 
 // The words of an entry, from `at` on.
-fn put_entry(store: &mut [u32], at: usize, e: Entry)
+fn put_entry(store: &mut [u32], at: usize, e: &Entry)
     requires { at + 18 ≤ length store.old }
-    ensures laid { store.new ≡ sets store.old at (entry_words e) }
-    ensures eighteen { length (entry_words e) ≡ 18 }
+    ensures laid { store.new ≡ sets store.old at (entry_words e.now) }
+    ensures eighteen { length (entry_words e.now) ≡ 18 }
 {
-    let clock = e.clock;
-    let deps = e.deps;
     store[at] = e.plot;
     store[at + 1] = e.value;
-    layout::put(&mut *store, at + 2, clock);
-    layout::put(&mut *store, at + 10, deps);
+    layout::put(&mut *store, at + 2, e.clock);
+    layout::put(&mut *store, at + 10, e.deps);
 }
 
 // One more held entry. Nothing else changes.
-pub fn hold(store: &mut [u32], e: Entry)
-    requires { slot_at (id_of e) + 18 ≤ length store.old }
-    ensures { store.new ≡ hold_words store.old e }
+pub fn hold(store: &mut [u32], e: &Entry)
+    requires { slot_at (id_of e.now) + 18 ≤ length store.old }
+    ensures { store.new ≡ hold_words store.old e.now }
 {
     let k = frame::entry::id_of(e);
     let held = layout::set_at(&store[..], 3);

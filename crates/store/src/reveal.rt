@@ -25,7 +25,7 @@ fn reveal_on(store: &[u32], seeds: [u32; 8]) -> Revealed
     loop {
         let left = causal::set::without(pending, visible);
         let next = causal::set::lowest_of(left);
-        let causal::set::Lowest::At(k) = next else {
+        let Some(k) = next else {
             return Revealed { visible, steps };
         };
         let deps = layout::deps_at(store, k);

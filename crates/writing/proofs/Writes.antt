@@ -1,4 +1,5 @@
 -- What `write` answers and leaves, from what its parts do. Assumes nothing.
+use Rattle.std.proofs.Common.{Err, Ok, Result}
 use Rattle.store.proofs.Rules.{laid as Laid-of}
 use Prim.Native.Nat.{ℕ, zero, suc, ◌+◌, ◌*◌, ◌^◌, ◌<◌, ◌≤◌}
 use mathlib.Core.Path.{◌≡◌, refl, sym, ap, ap₂, ◌∙◌, subst}
@@ -21,8 +22,6 @@ use Rattle.frame.specs.Entries.{blank_entry, id_of, entry_ok}
 use Rattle.frame.specs.Frames.{frame_ok}
 use Rattle.frame.specs.Refusals.{Reply, number_of, reply_of}
 use Rattle.frame.specs.declared.refusal.Refusal.{Refusal}
-use Rattle.frame.specs.declared.refusal.Written.{Written}
-use Rattle.frame.specs.declared.refusal.Written.TheVariants.{NotWritten, Words}
 use Rattle.frame.specs.Sessions.{SaneContent, content_of, ids_of, session_ok}
 use Rattle.frame.specs.Tokens.{rows_of}
 use Rattle.frame.specs.Calls.{laid}
@@ -306,15 +305,15 @@ module _ (ws : List ℕ) (s : Session) (plot value : ℕ) (out : List ℕ) where
   none_made zero n e = absurd (n refl)
   none_made (suc c) n e = ap (λ (k : ℕ). made_by k (new_entry (office_of ws) (content_of s) plot value)) e
 
-  pub not_made : (w : Written) (e : Entry) (x : Refusal) → w ≡ NotWritten x → e ≡ blank_entry → (number_of x ≡ 0 → ⊥)
+  pub not_made : (w : Result ℕ Refusal) (e : Entry) (x : Refusal) → w ≡ Err x → e ≡ blank_entry → (number_of x ≡ 0 → ⊥)
       → Says (record { code = number_of x; words = 0 }) s ws out → MakePromise ws s plot value out w e ws out
   unfolding reply_of with_made
   not_made w e x a b n S =
-      subst (λ (p : Written × Entry). MakePromise ws s plot value out p.0 p.1 ws out) (λ i. (sym a i, sym b i))
+      subst (λ (p : Result ℕ Refusal × Entry). MakePromise ws s plot value out p.0 p.1 ws out) (λ i. (sym a i, sym b i))
       (S, none_made (number_of x) n (ap (λ (r : Reply). r.code) S.0))
 
   pub made_is : (m : ℕ) (e : Entry) (z y : List ℕ) → e ≡ new_entry (office_of ws) (content_of s) plot value
-      → Says (record { code = 0; words = m }) (extended_by s e) z y → MakePromise ws s plot value out (Words m) e z y
+      → Says (record { code = 0; words = m }) (extended_by s e) z y → MakePromise ws s plot value out (Ok m) e z y
   unfolding reply_of with_made made_by
   made_is m e z y q S =
       (S, q ∙ ap (λ (k : ℕ). made_by k (new_entry (office_of ws) (content_of s) plot value)) (ap (λ (r : Reply). r.code) S.0))
@@ -326,15 +325,15 @@ module _ (ws : List ℕ) (s : Session) (plot value : ℕ) (out : List ℕ) where
       let k : suc x ≡ (write ws (content_of s) plot value out).code = ap (λ (r : Reply). r.code) S.0 in
       absurd (omega arith)
 
-  module _ (w : Written) (e : Entry) (z y : List ℕ) (A : MakePromise ws s plot value out w e z y) where
-    pub wrote_few : (m : ℕ) → w ≡ Words m → s.count < 16
+  module _ (w : Result ℕ Refusal) (e : Entry) (z y : List ℕ) (A : MakePromise ws s plot value out w e z y) where
+    pub wrote_few : (m : ℕ) → w ≡ Ok m → s.count < 16
     unfolding reply_of
     wrote_few m h = few_of Early refl (ap (λ (r : Reply). r.code) (ap reply_of (sym h) ∙ A.0.0))
 
-    pub wrote_same : (x : Refusal) → w ≡ NotWritten x → WritePromise ws s plot value out (reply_of w) s z y
+    pub wrote_same : (x : Refusal) → w ≡ Err x → WritePromise ws s plot value out (reply_of w) s z y
     unfolding with_made
-    wrote_same x h = (A.0.0, ap (λ (v : Written). with_made s v e) (sym h) ∙ A.0.1, A.0.2, A.0.3)
+    wrote_same x h = (A.0.0, ap (λ (v : Result ℕ Refusal). with_made s v e) (sym h) ∙ A.0.1, A.0.2, A.0.3)
 
-    pub wrote_more : (m : ℕ) → w ≡ Words m → (t : Session) → t ≡ extended_by s e → WritePromise ws s plot value out (reply_of w) t z y
+    pub wrote_more : (m : ℕ) → w ≡ Ok m → (t : Session) → t ≡ extended_by s e → WritePromise ws s plot value out (reply_of w) t z y
     unfolding with_made
-    wrote_more m h t q = (A.0.0, q ∙ ap (λ (v : Written). with_made s v e) (sym h) ∙ A.0.1, A.0.2, A.0.3)
+    wrote_more m h t q = (A.0.0, q ∙ ap (λ (v : Result ℕ Refusal). with_made s v e) (sym h) ∙ A.0.1, A.0.2, A.0.3)

@@ -24,12 +24,6 @@ unfoldable pub early_code : Office → Content → ℕ → ℕ → ℕ
 early_code O s plot value =
     or_else (first_codes O.offices O.plots s plot value) (or_else (second_codes O (length s.own) s.read) (own_code O s.own))
 
--- ---- own writes that are not new
-
--- where b says so, a set has each of the first own writes
-abbrev pub AllHeld : Bool → List ℕ → List Entry → ℕ → Type 0
-AllHeld b held own count = b ≡ true → (i : ℕ) → i < count → is_in held (id_of (own_at own i)) ≡ true
-
 -- ---- the frames of a write
 
 -- the frame in which an entry starts its way
@@ -53,6 +47,6 @@ unfoldable pub outside : List ℕ → List Entry → ℕ
 outside held [] = 0
 outside held (e ∷ es) = cond (is_in held (id_of e)) 0 1 + outside held es
 
--- each of the first own writes makes a frame
-abbrev pub Framed : ℕ → List Entry → ℕ → Type 0
-Framed n own count = (i : ℕ) → i < count → frame_ok n 64 (started n (own_at own i)) ≡ true
+-- each own write makes a frame
+abbrev pub Framed : ℕ → List Entry → Type 0
+Framed n own = (i : ℕ) → i < length own → frame_ok n 64 (started n (own_at own i)) ≡ true
