@@ -114,14 +114,12 @@ pub fn frame_from(ws: &[u32], offices: u32, plots: u32) -> Option<Frame>
     if !kinds_ok(ws, offices) {
         return None;
     }
-    let from = 3 + offices as usize;
-    let end = ws.len() - 1;
-    if !crate::word::ids_ascend(&ws[from..end], offices) {
+    let ids = &ws[3 + offices as usize..ws.len() - 1];
+    if !crate::word::ids_ascend(ids, offices) {
         return None;
     }
     let clock = crate::word::clock_from(ws, 3, offices as usize);
-    let deps = crate::word::ids_from(&ws[from..end]);
-    let frame = frame_of(ws, offices, clock, deps);
+    let frame = frame_of(ws, offices, clock, crate::word::ids_from(ids));
     if !content_ok(ws, offices, plots, &frame) {
         return None;
     }

@@ -13,12 +13,12 @@ unfolding entry_ok
 returns-then-not-bounds_ok c = search (chain, arith) depth 9
 
 pub past_ok-requires : goal.past_ok-requires
-past_ok-requires c = let e = c.args.e in
+past_ok-requires c = let e = c.args.e.now in
     let f = bounds_facts c.args.n c.args.p e.office e.serial e.plot e.value (sym c.bounds_ok.ensures ∙ not-false _ c.if-not-bounds_ok.false-raw) in
     (omega (arith, f, c.requires.0), omega (arith, f), omega (arith, f))
 
 pub returns : goal.returns
-returns c = let e = c.args.e in
+returns c = let e = c.args.e.now in
     let B = not (is_in e.deps (id_of e)) in
     let more : B ≡ both B (clock_ok c.args.n e.clock) = sym (both_one B) ∙ ap (both B) (sym c.requires.1) in
-    c.past_ok.ensures ∙ ap (both (eqb (get_or e.clock e.office 0) e.serial)) more ∙ rules_left c.args.n c.args.p c.args.e (sym c.bounds_ok.ensures ∙ not-false _ c.if-not-bounds_ok.false-raw) c.requires.2
+    c.past_ok.ensures ∙ ap (both (eqb (get_or e.clock e.office 0) e.serial)) more ∙ rules_left c.args.n c.args.p e (sym c.bounds_ok.ensures ∙ not-false _ c.if-not-bounds_ok.false-raw) c.requires.2
