@@ -10,12 +10,15 @@ unfolding entry_ok
 returns-then-not-bounds_ok c = search (chain, arith) depth 9
 
 pub returns-then-e-gt7 : goal.returns-then-e-gt7
-returns-then-e-gt7 c = let z = c.args in
-    let l : length z.e.clock ≡ 8 = search rules in
-    sym (far_entry z.n z.p z.e l (omega (arith, c.if-e-gt7.true)))
+returns-then-e-gt7 c =
+    let z = c.args in
+    let e = z.e.now in
+    let l : length e.clock ≡ 8 = search rules in
+    sym (far_entry z.n z.p e l c.if-e-gt7.true)
 
 pub past_ok-requires : goal.past_ok-requires
-past_ok-requires c = let e = c.args.e in
+past_ok-requires c =
+    let e = c.args.e.now in
     let f = bounds_facts c.args.n c.args.p e.office e.serial e.plot e.value (sym c.bounds_ok.ensures ∙ not-false _ c.if-not-bounds_ok.false-raw) in
     (omega (arith, c.if-e-gt7.false), omega (arith, f), omega (arith, f))
 
