@@ -149,17 +149,14 @@ fn past_ok(n: usize, office: usize, serial: u32, clock: [u32; 8], deps: [u32; 8]
 }
 
 // The entry rules.
+#[tactic(auto, using(crate::proofs::Entries::far_entry, crate::proofs::Entries::bounds_facts), unfolding(crate::specs::Entries::entry_ok, causal::specs::Tests::both))]
 pub fn entry_ok(n: u32, p: u32, e: &Entry) -> bool
     ensures { result ≡ entry_ok n p e.now }
 {
-    if !bounds_ok(n, p, e) {
-        return false;
-    }
     // No clock has a number for a ninth office.
-    if e.office > 7 {
-        return false;
-    }
-    past_ok(n as usize, e.office as usize, e.serial, e.clock, e.deps)
+    bounds_ok(n, p, e)
+        && e.office < 8
+        && past_ok(n as usize, e.office as usize, e.serial, e.clock, e.deps)
 }
 
 // What a frame may say.
