@@ -1,7 +1,8 @@
 -- What each turn of the loops over own writes does; the session that says a content. Assumes nothing.
-use Rattle.std.proofs.Common.{◌≡◌, ℕ, zero, suc, ◌+◌, ◌-◌, ◌/◌, ◌<◌, ◌≤◌, Bool, true, false, not, eqb, leb, List, [], ◌∷◌, ◌++◌, length, get_or, replicate, sym, refl, ap, ◌∙◌, arith, get_or-set_other, ext_get_or, eq-eqb, eqb-true, leb-true}
+use Rattle.std.proofs.Common.{◌≡◌, ℕ, zero, suc, ◌+◌, ◌-◌, ◌/◌, ◌<◌, ◌≤◌, Bool, true, false, not, eqb, leb, List, [], ◌∷◌, ◌++◌, drop, length, get_or, replicate, take, sym, refl, ap, ◌∙◌, add-one, arith, drop-cons, get_or-set_other, ext_get_or, eq-eqb, eqb-true, leb-true}
 use mathlib.Core.List.{foldl-append}
-use lib.ListN.{get_or-append}
+use lib.ListN.{get_or-append, drop_of_length-le}
+use lib.Seq.{take-suc}
 use lib.Bits.{bit_or}
 use Rattle.causal.proofs.Sets.{empty_unite, subset_left, zero_at}
 use Rattle.causal.proofs.Tests.{both_one, both_assoc, both_false, both_true, all_at}
@@ -55,6 +56,43 @@ owns_below n p read f (suc m) =
 pub own_turn_lem : (n p : ℕ) (read seen : List ℕ) (f : ℕ → Entry) (i : ℕ) (r : Bool) → seen ≡ ids_of (tab i f) → r ≡ own_turn n p read seen (f i) → r ≡ OwnAt n p read f i
 own_turn_lem n p read seen f i r q e = e ∙ ap (λ (s : List ℕ). own_turn n p read s (f i)) q
 
+-- how a loop that asks one own write after the other goes on, and how it ends: i are asked, and seen is the set of their ids
+asked_first : (n p : ℕ) (read seen : List ℕ) (e : Entry) (es : List Entry)
+    → own_ok n p read seen (e ∷ es) ≡ both (own_turn n p read seen e) (own_ok n p read (inserted seen (id_of e)) es)
+unfolding own_ok own_turn
+asked_first n p read seen e es =
+    let B : Bool = not (is_in seen (id_of e)) in
+    let C : Bool = subset_of e.deps (unite read seen) in
+    let R : Bool = own_ok n p read (inserted seen (id_of e)) es in
+    sym (both_assoc (entry_ok n p e) (both B C) R ∙ ap (both (entry_ok n p e)) (both_assoc B C R))
+
+asked_at : (n p : ℕ) (read seen : List ℕ) (own : List Entry) (i : ℕ) → i < length own
+    → own_ok n p read seen (drop i own) ≡ both (own_turn n p read seen (get_or own i nobody)) (own_ok n p read (inserted seen (id_of (get_or own i nobody))) (drop (i + 1) own))
+asked_at n p read seen own i h =
+    ap (own_ok n p read seen) (drop-cons own i nobody h)
+    ∙ asked_first n p read seen (get_or own i nobody) (drop (suc i) own)
+    ∙ ap (λ (k : ℕ). both (own_turn n p read seen (get_or own i nobody)) (own_ok n p read (inserted seen (id_of (get_or own i nobody))) (drop k own))) (sym (add-one i))
+
+pub asked_on : (n p : ℕ) (read seen : List ℕ) (own : List Entry) (i : ℕ) → i < length own → own_turn n p read seen (get_or own i nobody) ≡ true
+    → own_ok n p read seen (drop i own) ≡ own_ok n p read (inserted seen (id_of (get_or own i nobody))) (drop (i + 1) own)
+unfolding both
+asked_on n p read seen own i h t = asked_at n p read seen own i h ∙ rw t refl
+
+pub asked_out : (n p : ℕ) (read seen : List ℕ) (own : List Entry) (i : ℕ) → i < length own → own_turn n p read seen (get_or own i nobody) ≡ false
+    → own_ok n p read seen (drop i own) ≡ false
+unfolding both
+asked_out n p read seen own i h t = asked_at n p read seen own i h ∙ rw t refl
+
+pub asked_all : (n p : ℕ) (read seen : List ℕ) (own : List Entry) (i : ℕ) → length own ≤ i → own_ok n p read seen (drop i own) ≡ true
+unfolding own_ok
+asked_all n p read seen own i h = rw (drop_of_length-le own {i = i} h) refl
+
+-- the first of a row
+pub taken : {A : Type 0} (d : A) (k : ℕ) (xs : List A) → k ≤ length xs → take k xs ≡ tab k (λ i. get_or xs i d)
+unfolding tab
+taken d zero xs h = refl
+taken {A = A} d (suc k) xs h = take-suc xs k d (omega arith) ∙ ap (λ (l : List A). l ++ (get_or xs k d ∷ [])) (taken d k xs (omega arith))
+
 -- ---- a session as its content
 
 abbrev pub owns_of : List Entry → ℕ → Entry
@@ -84,6 +122,10 @@ session_parts n p s =
     let D : Bool = ids_ok n s.read in
     let R : Bool = own_ok n p s.read zeros (tab s.count (owns_of s.own)) in
     both_assoc A (both B (both C D)) R ∙ ap (both A) (both_assoc B (both C D) R ∙ ap (both B) (both_assoc C D R)) ∙ session_is n p s
+
+pub session_split : (n p : ℕ) (s : Session) → session_ok n p (content_of s) ≡ both (head_ok n s.offices s.count s.clock s.read) (own_ok n p s.read zeros (content_of s).own)
+unfolding content_of
+session_split n p s = sym (session_parts n p s)
 
 pub head_refused : (n p : ℕ) (s : Session) → head_ok n s.offices s.count s.clock s.read ≡ false → session_ok n p (content_of s) ≡ false
 unfolding both
@@ -143,6 +185,9 @@ ids_turn_ok n p read seen e k r x h q m = rw m (facts_ids n (inserted seen k) no
 
     none : (j : ℕ) → j < 8 → n ≤ j → get_or (inserted seen k) j 0 ≡ 0
     none j l g = get_or-set_other seen (k / 32) j _ 0 (λ w. omega (arith, w, q, kept.bounds.office_ok, kept.bounds.to)) ∙ ids_facts n seen x j l g
+
+pub ids_kept : (n p : ℕ) (read seen : List ℕ) (e : Entry) → ids_ok n seen ≡ true → own_turn n p read seen e ≡ true → ids_ok n (inserted seen (id_of e)) ≡ true
+ids_kept n p read seen e x h = ids_turn_ok n p read seen e (id_of e) _ x h refl refl
 
 pub none_seen : (n : ℕ) → ids_ok n zeros ≡ true
 none_seen n = facts_ids n zeros (λ j l g. zero_at j)

@@ -25,6 +25,7 @@ pub struct Frame {
 }
 
 // The settings of a ring: 2 to 8 offices, 1 to 64 plots.
+#[tactic(auto, unfolding(crate::specs::Frames::ring_ok, causal::specs::Tests::both))]
 pub fn ring_ok(offices: u32, plots: u32) -> bool
     ensures { result ≡ ring_ok offices plots }
 {
@@ -120,6 +121,7 @@ pub fn ids_ok(n: usize, ids: [u32; 8]) -> bool
 }
 
 // The bounds of the numbers.
+#[tactic(auto, unfolding(crate::specs::Entries::bounds_ok, causal::specs::Tests::both))]
 pub fn bounds_ok(n: u32, p: u32, e: &Entry) -> bool
     ensures { result ≡ bounds_ok n p e.now.office e.now.serial e.now.plot e.now.value }
 {
@@ -135,6 +137,7 @@ pub fn in_word(w: u32, serial: u32) -> bool
 }
 
 // The rules of clock and dependencies.
+#[tactic(auto, using(crate::proofs::Words::in_serial), unfolding(causal::specs::Tests::both))]
 fn past_ok(n: usize, office: usize, serial: u32, clock: [u32; 8], deps: [u32; 8]) -> bool
     requires { (office < 8) × (1 ≤ serial) × (serial ≤ 32) }
     ensures { result ≡ both (slice_index clock office == serial) (both (not (is_in deps (32 * office + (serial - 1)))) (both (clock_ok n clock) (ids_ok n deps))) }
@@ -146,20 +149,18 @@ fn past_ok(n: usize, office: usize, serial: u32, clock: [u32; 8], deps: [u32; 8]
 }
 
 // The entry rules.
+#[tactic(auto, using(crate::proofs::Entries::far_entry, crate::proofs::Entries::bounds_facts), unfolding(crate::specs::Entries::entry_ok, causal::specs::Tests::both))]
 pub fn entry_ok(n: u32, p: u32, e: &Entry) -> bool
     ensures { result ≡ entry_ok n p e.now }
 {
-    if !bounds_ok(n, p, e) {
-        return false;
-    }
     // No clock has a number for a ninth office.
-    if e.office > 7 {
-        return false;
-    }
-    past_ok(n as usize, e.office as usize, e.serial, e.clock, e.deps)
+    bounds_ok(n, p, e)
+        && e.office < 8
+        && past_ok(n as usize, e.office as usize, e.serial, e.clock, e.deps)
 }
 
 // What a frame may say.
+#[tactic(auto, unfolding(crate::specs::Frames::frame_ok, causal::specs::Tests::both))]
 pub fn frame_ok(n: u32, p: u32, f: &Frame) -> bool
     ensures { result ≡ frame_ok n p f.now }
 {
@@ -178,6 +179,7 @@ pub fn id_of(e: &Entry) -> usize
 }
 
 // Have two entries the same content?
+#[tactic(auto, using(causal::proofs::Equal::equal_words), unfolding(crate::specs::Entries::same_content, causal::specs::Tests::both))]
 pub fn same_content(e: &Entry, f: &Entry) -> bool
     ensures { result ≡ same_content e.now f.now }
 {

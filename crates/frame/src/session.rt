@@ -94,6 +94,7 @@ fn own_ok(n: u32, p: u32, most: [u32; 8], read: [u32; 8], seen: [u32; 8], e: &En
 }
 
 // The own writes, with the set of the ids seen so far.
+#[tactic(auto, using(crate::proofs::OwnTurns::asked_on, crate::proofs::OwnTurns::asked_out, crate::proofs::OwnTurns::asked_all, crate::proofs::OwnTurns::ids_kept, crate::proofs::OwnTurns::none_seen))]
 pub fn owns_ok(n: u32, p: u32, read: [u32; 8], own: &[Entry]) -> bool
     requires { ids_ok n read ≡ true }
     ensures { result ≡ own_ok n p read zeros own.now }
@@ -111,6 +112,7 @@ pub fn owns_ok(n: u32, p: u32, read: [u32; 8], own: &[Entry]) -> bool
 }
 
 // All of a session but its own writes: the ring size, how many it carries, clock and read ids.
+#[tactic(auto, unfolding(crate::specs::Sessions::head_ok, causal::specs::Tests::both))]
 fn head_ok(s: &Session, n: u32) -> bool
     ensures { result ≡ head_ok n s.now.offices s.now.count s.now.clock s.now.read }
 {
@@ -121,16 +123,15 @@ fn head_ok(s: &Session, n: u32) -> bool
 }
 
 // 01: is a session sound for a ring of so many offices, with so many plots?
+#[tactic(auto, using(crate::proofs::OwnTurns::session_split, crate::proofs::OwnTurns::head_few, crate::proofs::OwnTurns::head_ids), unfolding(causal::specs::Tests::both))]
 pub fn session_ok(s: &Session, offices: u32, plots: u32) -> bool
     ensures { result ≡ session_ok offices plots (content_of s.now) }
 {
-    if !head_ok(s, offices) {
-        return false;
-    }
-    owns_ok(offices, plots, s.read, own_writes(s))
+    head_ok(s, offices) && owns_ok(offices, plots, s.read, own_writes(s))
 }
 
 // The ids of entries.
+#[tactic(auto, unfolding(crate::specs::Sessions::ids_of))]
 pub fn ids_of(own: &[Entry]) -> [u32; 8]
     ensures { result ≡ ids_of own.now }
 {
