@@ -176,6 +176,24 @@ module _ (n p : ℕ) (ws : List ℕ) where
       let d : b ≡ accepts n p ws = c ∙ checks_accept n p ws g.low g.high in
       λ i. cond (d i) (Some (r.is i)) None
 
+  -- ---- what an answer says
+
+  pub frame_none : NoFrame → accepts n p ws ≡ false
+  unfolding frame_in
+  frame_none e = go (accepts n p ws) e
+    where
+      go : (b : Bool) → None ≡ cond b (Some (frame_of ws)) None → b ≡ false
+      go true q = cc
+      go false q = refl
+
+  pub frame_some : (f : Frame) → Some f ≡ frame_in n p ws → (accepts n p ws ≡ true) × (f ≡ frame_of ws)
+  unfolding frame_in
+  frame_some f e = go (accepts n p ws) e
+    where
+      go : (b : Bool) → Some f ≡ cond b (Some (frame_of ws)) None → (b ≡ true) × (f ≡ frame_of ws)
+      go true q = (refl, cc)
+      go false q = absurd (cc)
+
   -- ---- the answer of the call
 
   pub no_ring : ring_ok n p ≡ false → (1 ≡ read_frame_code n p ws) × (blank_frame ≡ read_frame n p ws)

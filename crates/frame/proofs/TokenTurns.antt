@@ -1,87 +1,87 @@
 -- What the writer's steps make of a token, and what each turn of the reader's loop over own frames does. Assumes nothing.
-use Rattle.std.proofs.Common.{◌≡◌, ℕ, zero, suc, ◌+◌, ◌-◌, ◌*◌, ◌<◌, ◌≤◌, Bool, true, false, eqb, leb, List, [], ◌∷◌, ◌++◌, length, get_or, take, drop, set, replicate, sym, refl, ap, ◌∙◌, append_assoc, append-nil, le_refl, zero-add, add-one, arith, length-append, length-drop, take_all, drop-drop, le-leb, leb-true}
+use Rattle.std.proofs.Common.{◌≡◌, ℕ, zero, suc, ◌+◌, ◌-◌, ◌*◌, ◌<◌, ◌≤◌, Bool, true, false, eqb, leb, List, [], ◌∷◌, ◌++◌, length, get_or, take, drop, set, replicate, sym, refl, ap, ◌∙◌, append_assoc, append-nil, le_refl, zero-add, add-one, arith, length-append, length-drop, take_all, drop-drop, le-leb, leb-true, cond, None, Option, Some, sum_by, take-append-drop}
+use Rattle.std.proofs.lemmas.List.{take_more}
+use mathlib.Core.List.{Memᴰ}
 use native.Mathlib.Nat.{sub-zero}
 use lib.Seq.{sets, set-append_seam}
 use borrow.Author.Tests.{lt-leb}
-use Rattle.causal.specs.Tests.{both, all_below}
+use Rattle.causal.specs.Tests.{both}
 use Rattle.causal.specs.Codes.{check}
-use Rattle.causal.specs.Lists.{tab}
-use Rattle.causal.proofs.Tests.{both_true, all_at}
-use Rattle.causal.proofs.Codes.{check_none}
-use Rattle.causal.proofs.Lists.{tab_length, tab_more, sets_append, sets_front, take_front}
+use Rattle.causal.proofs.Tests.{both_true}
+use Rattle.causal.proofs.Lists.{sets_append, sets_front, take_front}
 use Rattle.causal.proofs.Sets.{size_le}
 use Rattle.frame.specs.declared.entry.Entry.{Entry}
 use Rattle.frame.specs.declared.entry.Frame.{Frame}
-use Rattle.frame.specs.declared.session.Session.{Session}
 use Rattle.frame.specs.Refusals.{replied}
-use Rattle.frame.specs.Entries.{entry_ok, blank_entry}
+use Rattle.frame.specs.Entries.{blank_entry}
 use Rattle.frame.specs.Words.{clock_words, id_words, sum_word, summed}
-use Rattle.frame.specs.Frames.{ring_ok, framed, frame_words, frame_ok, frame_of, accepts}
-use Rattle.frame.specs.Calls.{laid, laid_if, read_frame_code, frame_if, read_frame}
-use Rattle.frame.specs.Sessions.{Content, content_of, filled, own_turn, session_ok}
+use Rattle.frame.specs.Frames.{ring_ok, framed, frame_words, frame_ok, frame_of}
+use Rattle.frame.specs.Calls.{frame_in, laid, laid_if}
+use Rattle.frame.specs.Sessions.{Content, filled, nobody, session_ok}
 use Rattle.frame.specs.Tokens.{rows_of, own_rows, token_head, token_words, frame_length, own_from}
-use Rattle.frame.specs.TokenReading.{own_frame_ok, own_frames_ok}
+use Rattle.frame.specs.TokenReading.{own_in, own_frame_ok, own_frames_ok}
 use Rattle.frame.specs.TokenCalls.{write_token_code, write_token, write_token_row}
 use Rattle.frame.proofs.Entries.{ring_facts, clock_facts}
-use Rattle.frame.proofs.Sessions.{session_facts}
+use Rattle.frame.proofs.Sessions.{own_ok_lem, session_facts}
 use Rattle.frame.proofs.Tokens.{own_frame}
-use Rattle.frame.proofs.OwnTurns.{owns_of, OwnAt, owns_below}
+use Rattle.frame.proofs.Reading.{frame_none, frame_some}
 use Rattle.frame.proofs.Words.{ids_size, length_summed, length_clock}
 use Rattle.frame.proofs.Frames.{length_frame}
 
 -- ---- own writes as frames, one behind the other
 
-rows_snoc : (n : ℕ) (es : List Entry) (e : Entry) → own_rows n (es ++ (e ∷ [])) ≡ own_rows n es ++ frame_words (framed n 0 e)
+abbrev pub size_in : ℕ → Entry → ℕ
+size_in n e = length (frame_words (framed n 0 e))
+
+frame_few : (n : ℕ) (e : Entry) → n ≤ 8 → size_in n e ≤ 268
+frame_few n e h = omega (arith, length_frame (framed n 0 e), ids_size e.deps, size_le e.deps)
+
+pub rows_size : (n : ℕ) (es : List Entry) → length (own_rows n es) ≡ sum_by (size_in n) es
 unfolding rows_of
-rows_snoc n [] e = append-nil (frame_words (framed n 0 e))
-rows_snoc n (x ∷ es) e =
-    ap (λ (l : List ℕ). frame_words (framed n 0 x) ++ l) (rows_snoc n es e)
-    ∙ sym (append_assoc (frame_words (framed n 0 x)) (own_rows n es) (frame_words (framed n 0 e)))
+rows_size n [] = refl
+rows_size n (e ∷ es) = omega (arith, length-append (frame_words (framed n 0 e)) (own_rows n es), rows_size n es)
 
-pub rows_none : (n : ℕ) (f : ℕ → Entry) → own_rows n (tab 0 f) ≡ []
-unfolding rows_of tab
-rows_none n f = refl
+pub rows_few : (n : ℕ) (es : List Entry) → n ≤ 8 → length (own_rows n es) ≤ 268 * length es
+unfolding rows_of
+rows_few n [] h = omega arith
+rows_few n (e ∷ es) h = omega (arith, length-append (frame_words (framed n 0 e)) (own_rows n es), rows_few n es h, frame_few n e h)
 
--- a session that carries none
-pub rows_of_none : (n : ℕ) (own : List Entry) (count : ℕ) → count ≡ 0 → own_rows n (tab count (owns_of own)) ≡ []
-rows_of_none n own count e = ap (λ (i : ℕ). own_rows n (tab i (owns_of own))) e ∙ rows_none n (owns_of own)
+rows_append : (n : ℕ) (es fs : List Entry) → own_rows n (es ++ fs) ≡ own_rows n es ++ own_rows n fs
+unfolding rows_of
+rows_append n [] fs = refl
+rows_append n (e ∷ es) fs =
+    ap (λ (l : List ℕ). frame_words (framed n 0 e) ++ l) (rows_append n es fs) ∙ sym (append_assoc (frame_words (framed n 0 e)) (own_rows n es) (own_rows n fs))
 
-module _ (n : ℕ) (f : ℕ → Entry) where
-  pub rows_more : (i : ℕ) → own_rows n (tab (i + 1) f) ≡ own_rows n (tab i f) ++ frame_words (framed n 0 (f i))
-  rows_more i = ap (own_rows n) (tab_more i f) ∙ rows_snoc n (tab i f) (f i)
+-- a loop that writes them, before own write i
+module _ (n : ℕ) (own : List Entry) (i : ℕ) (h : i < length own) where
+  abbrev Next : List ℕ
+  Next = frame_words (framed n 0 (get_or own i nobody))
 
-  pub rows_length : (i : ℕ) → length (own_rows n (tab (i + 1) f)) ≡ length (own_rows n (tab i f)) + length (frame_words (framed n 0 (f i)))
-  rows_length i = ap length (rows_more i) ∙ length-append (own_rows n (tab i f)) (frame_words (framed n 0 (f i)))
+  rows_more : own_rows n (take (i + 1) own) ≡ own_rows n (take i own) ++ Next
+  unfolding rows_of
+  rows_more =
+      ap (own_rows n) (take_more own i nobody h) ∙ rows_append n (take i own) (get_or own i nobody ∷ [])
+      ∙ ap (λ (l : List ℕ). own_rows n (take i own) ++ l) (append-nil Next)
 
-  rows_far : (i d : ℕ) → length (own_rows n (tab i f)) ≤ length (own_rows n (tab (d + i) f))
-  rows_far i zero = rw zero-add (le_refl _)
-  rows_far i (suc d) =
-      let e : suc d + i ≡ d + i + 1 = omega arith in
-      rw e (omega (arith, rows_far i d, rows_length (d + i)))
+  pub rows_length : length (own_rows n (take (i + 1) own)) ≡ length (own_rows n (take i own)) + length Next
+  rows_length = ap length rows_more ∙ length-append (own_rows n (take i own)) Next
 
-  -- there is room for one frame more
-  pub rows_room : (i m : ℕ) → i < m → length (own_rows n (tab i f)) + length (frame_words (framed n 0 (f i))) ≤ length (own_rows n (tab m f))
-  rows_room i m h =
-      let e : m - (i + 1) + (i + 1) ≡ m = omega arith in
-      omega (arith, rows_length i, rw e at (rows_far (i + 1) (m - (i + 1))))
+  -- there is room for its frame
+  pub rows_room : length (own_rows n (take i own)) + length Next ≤ length (own_rows n own)
+  rows_room =
+      let e = ap (λ (l : List Entry). length (own_rows n l)) (sym (take-append-drop (i + 1) own))
+      ∙ ap length (rows_append n (take (i + 1) own) (drop (i + 1) own))
+      ∙ length-append (own_rows n (take (i + 1) own)) (own_rows n (drop (i + 1) own))
+      in
+      omega (arith, e, rows_length)
 
-  pub frame_few : (e : Entry) → n ≤ 8 → length (frame_words (framed n 0 e)) ≤ 268
-  frame_few e h = omega (arith, length_frame (framed n 0 e), ids_size e.deps, size_le e.deps)
-
-  pub rows_few : (i : ℕ) → n ≤ 8 → length (own_rows n (tab i f)) ≤ 268 * i
-  rows_few zero h = omega (arith, ap length (rows_none n f))
-  rows_few (suc i) h =
-      let e : i + 1 ≡ suc i = add-one i in
-      omega (arith, rows_few i h, rw e at (rows_length i), frame_few (f i) h)
-
-  -- a turn of the loop that writes them
-  pub rows_turn : (o o' z : List ℕ) (at to i : ℕ) → to ≡ at + length (own_rows n (tab i f)) → o' ≡ sets o at (own_rows n (tab i f))
-      → z ≡ sets o' to (frame_words (framed n 0 (f i))) → z ≡ sets o at (own_rows n (tab (i + 1) f))
-  rows_turn o o' z at to i p q r =
-      r ∙ ap (λ (l : List ℕ). sets l to (frame_words (framed n 0 (f i)))) q
-      ∙ ap (λ (k : ℕ). sets (sets o at (own_rows n (tab i f))) k (frame_words (framed n 0 (f i)))) p
-      ∙ sym (sets_append o at (own_rows n (tab i f)) (frame_words (framed n 0 (f i))))
-      ∙ ap (sets o at) (sym (rows_more i))
+  pub rows_turn : (o o' : List ℕ) (at to : ℕ) → to ≡ at + length (own_rows n (take i own)) → o' ≡ sets o at (own_rows n (take i own))
+      → sets o' to Next ≡ sets o at (own_rows n (take (i + 1) own))
+  rows_turn o o' at to p q =
+      ap (λ (l : List ℕ). sets l to Next) q
+      ∙ ap (λ (k : ℕ). sets (sets o at (own_rows n (take i own))) k Next) p
+      ∙ sym (sets_append o at (own_rows n (take i own)) Next)
+      ∙ ap (sets o at) (sym rows_more)
 
 -- ---- the writer's steps make the writing
 
@@ -181,41 +181,30 @@ module _ (s : Content) (out : List ℕ) where
 
 -- ---- what a session that may be written says
 
-pub record Writable (s : Session) : Type 0 where
-  pub low : 2 ≤ s.offices
+at_mem : (es : List Entry) (i : ℕ) → i < length es → Memᴰ (get_or es i nobody) es
+at_mem [] i h = absurd (omega arith)
+at_mem (e ∷ es) zero h = Memᴰ.head refl
+at_mem (e ∷ es) (suc i) h = Memᴰ.tail (at_mem es i (omega arith))
+
+pub record Writable (s : Content) : Type 0 where
   pub high : s.offices ≤ 8
-  pub few : s.count ≤ 16
+  pub few : length s.own ≤ 16
   pub reads : length (id_words s.read) ≤ 256
   pub clock : (j : ℕ) → j < 8 → get_or s.clock j 0 ≤ 32
-  pub frames : (i : ℕ) → i < s.count → frame_ok s.offices 64 (framed s.offices 0 (owns_of s.own i)) ≡ true
-  pub head : token_head s.offices s.count (length (id_words s.read)) ≡ token_head s.offices (length (content_of s).own) (length (id_words s.read))
-  pub size : length (token_words (content_of s)) ≡ s.offices + length (id_words s.read) + length (own_rows s.offices (tab s.count (owns_of s.own))) + 2
+  pub frames : (i : ℕ) → i < length s.own → frame_ok s.offices 64 (framed s.offices 0 (get_or s.own i nobody)) ≡ true
+  pub size : length (token_words s) ≡ s.offices + length (id_words s.read) + length (own_rows s.offices s.own) + 2
 
-pub size_of : (s : Session)
-    → length (token_words (content_of s)) ≡ s.offices + length (id_words s.read) + length (own_rows s.offices (tab s.count (owns_of s.own))) + 2
-unfolding content_of
-size_of s = length_token (content_of s)
-
-turn_entry : (n p : ℕ) (read : List ℕ) (f : ℕ → Entry) (i : ℕ) → OwnAt n p read f i ≡ true → entry_ok n p (f i) ≡ true
-unfolding own_turn
-turn_entry n p read f i e = (both_true (entry_ok n p (f i)) _ e).0
-
-pub writable : (s : Session) → ring_ok s.offices 64 ≡ true → session_ok s.offices 64 (content_of s) ≡ true → Writable s
-unfolding content_of
+pub writable : (s : Content) → ring_ok s.offices 64 ≡ true → session_ok s.offices 64 s ≡ true → Writable s
 writable s ring ok =
     let G = ring_facts s.offices 64 ring in
-    let F = session_facts s.offices 64 (content_of s) ok in
-    let t = tab_length s.count (owns_of s.own) in
-    let b : all_below s.count (OwnAt s.offices 64 s.read (owns_of s.own)) ≡ true = owns_below s.offices 64 s.read (owns_of s.own) s.count ∙ F.own in
+    let F = session_facts s.offices 64 s ok in
     record {
-      low = G.low;
       high = G.high;
-      few = omega (arith, t, F.few);
+      few = F.few;
       reads = omega (arith, ids_size s.read, size_le s.read);
       clock = λ j l. (clock_facts s.offices s.clock F.clock j l).small;
-      frames = λ i l. own_frame s.offices 64 (owns_of s.own i) G.low G.high (turn_entry s.offices 64 s.read (owns_of s.own) i (all_at (OwnAt s.offices 64 s.read (owns_of s.own)) s.count b i l));
-      head = ap (λ (k : ℕ). token_head s.offices k (length (id_words s.read))) (sym t);
-      size = size_of s;
+      frames = λ i l. own_frame s.offices 64 (get_or s.own i nobody) G.low G.high (own_ok_lem s.offices 64 s F (get_or s.own i nobody) (at_mem s.own i l));
+      size = length_token s;
     }
 
 -- ---- one own frame, read
@@ -224,27 +213,22 @@ module _ (n p : ℕ) (ws : List ℕ) where
   abbrev L : ℕ
   L = frame_length n ws
 
-  pub own_short : length ws < L → own_frame_ok n p ws ≡ false
-  unfolding own_frame_ok both
+  abbrev NoOwn : Type 0
+  NoOwn = ◌≡◌ {A = Option (Entry × ℕ)} None (own_in n p ws)
+
+  pub own_short : length ws < L → NoOwn
+  unfolding own_in own_frame_ok both
   own_short h = rw (lt-leb L (length ws) h) refl
 
-  code_nine : ring_ok n p ≡ true → (t : Bool) → accepts n p (take L ws) ≡ t → (read_frame_code n p (take L ws) ≡ 0 → ⊥) → t ≡ false
-  unfolding read_frame_code check
-  code_nine r true e h = absurd (h (rw (r, e) refl))
-  code_nine r false e h = refl
+  pub own_none : L ≤ length ws → None ≡ frame_in n p (take L ws) → NoOwn
+  unfolding own_in own_frame_ok both
+  own_none l e = rw (le-leb L (length ws) l, frame_none n p (take L ws) e) refl
 
-  pub own_bad : ring_ok n p ≡ true → L ≤ length ws → (read_frame_code n p (take L ws) ≡ 0 → ⊥) → own_frame_ok n p ws ≡ false
-  unfolding own_frame_ok both
-  own_bad r l h = rw (le-leb L (length ws) l, code_nine r (accepts n p (take L ws)) refl h) refl
-
-  pub own_good : L ≤ length ws → (f : Frame) → read_frame_code n p (take L ws) ≡ 0 → f ≡ read_frame n p (take L ws)
-      → (eqb f.hops 0 ≡ own_frame_ok n p ws) × (f.entry ≡ (frame_of (take L ws)).entry)
-  unfolding own_frame_ok both read_frame frame_if read_frame_code
-  own_good l f e q =
-      let a = check_none (ring_ok n p) 1 (check (accepts n p (take L ws)) 9 0) (omega arith) e in
-      let b = check_none (accepts n p (take L ws)) 9 0 (omega arith) a.1 in
-      let g : f ≡ frame_of (take L ws) = q ∙ ap (λ (k : ℕ). frame_if k (take L ws)) e in
-      (rw (le-leb L (length ws) l, b.0) (ap (λ (x : Frame). eqb x.hops 0) g), ap (λ (x : Frame). x.entry) g)
+  pub own_some : L ≤ length ws → (f : Frame) → Some f ≡ frame_in n p (take L ws) → (b : Bool) → b ≡ eqb f.hops 0 → cond b (Some (f.entry, L)) None ≡ own_in n p ws
+  unfolding own_in own_frame_ok both
+  own_some l f e b q =
+      let s = frame_some n p (take L ws) f e in
+      rw (le-leb L (length ws) l, s.0, q, s.1) refl
 
 -- ---- own frames, read
 

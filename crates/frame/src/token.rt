@@ -33,15 +33,14 @@ fn own_frame(n: u32, e: &Entry) -> Frame
 }
 
 // How many words the own writes take.
+#[tactic(auto, using(crate::proofs::TokenTurns::rows_size, crate::proofs::TokenTurns::rows_few))]
 fn own_words(n: u32, own: &[Entry]) -> usize
     requires { (n ≤ 8) × (length own.now ≤ 16) }
     ensures { result ≡ length (own_rows n own.now) }
 {
-    let mut words = 0;
-    for e in own {
-        words += crate::writer::words_of(&own_frame(n, e));
-    }
-    words
+    own.iter()
+        .map(|e| crate::writer::words_of(&own_frame(n, e)))
+        .sum()
 }
 
 // How many words a token takes.
