@@ -15,7 +15,7 @@ use Rattle.frame.specs.declared.entry.Entry.{Entry}
 use Rattle.frame.specs.declared.session.Session.{Session}
 use Rattle.frame.specs.Entries.{id_of, clock_ok, under_ok, ids_ok, bounds_ok, entry_ok, blank_entry}
 use Rattle.frame.specs.Sessions.{Content, nobody, content_of, filled, session_of, ids_of, own_turn, own_ok, head_ok, session_ok}
-use Rattle.frame.proofs.Entries.{EntryFacts, entry_facts, facts_ids, ids_facts}
+use Rattle.frame.proofs.Entries.{EntryFacts, entry_facts, facts_ids, ids_facts, far_entry}
 use Rattle.frame.proofs.Sessions.{ids_with}
 
 -- ---- own writes, one after the other
@@ -214,6 +214,10 @@ unfolding own_turn entry_ok
 own_tests n p most read seen e x y u =
     tests_in_row _ _ _ _ _ _ _ (in_ring n read seen e.deps x y)
     ∙ ap (λ (q : Bool). both (bounds_ok n p e.office e.serial e.plot e.value) (both (eqb (get_or e.clock e.office 0) e.serial) (both (not (is_in e.deps (id_of e))) (both (not (is_in seen (id_of e))) (both q (subset_of e.deps (unite read seen))))))) (sym (u e.clock))
+
+pub far_own : (n p : ℕ) (read seen : List ℕ) (e : Entry) → length e.clock ≡ 8 → 7 < e.office → own_turn n p read seen e ≡ false
+unfolding own_turn both
+far_own n p read seen e l far = rw (far_entry n p e l far) refl
 
 -- nothing over its bound and nothing unknown, asked at once
 pub at_once : (most clock deps known over unknown bad : List ℕ) (r : Bool) → is_empty over ≡ under_ok most clock → unknown ≡ minus deps known → bad ≡ unite over unknown → r ≡ is_empty bad → r ≡ both (under_ok most clock) (subset_of deps known)

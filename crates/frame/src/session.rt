@@ -41,6 +41,7 @@ pub fn blank_session() -> Session
 
 // The tests of an own write that ask its clock and dependencies: its own number, not on itself, an id that is not among the earlier ones; then at
 // once no number over its bound and no dependency but on what was read or written before.
+#[tactic(auto, using(crate::proofs::Words::in_serial, causal::proofs::Sets::empty_unite, causal::proofs::Sets::subset_left), unfolding(causal::specs::Tests::both))]
 fn own_past_ok(
     most: [u32; 8],
     office: usize,
@@ -53,44 +54,25 @@ fn own_past_ok(
     requires { (office < 8) × (1 ≤ serial) × (serial ≤ 32) }
     ensures { result ≡ both (slice_index clock office == serial) (both (not (is_in deps (32 * office + (serial - 1)))) (both (not (is_in seen (32 * office + (serial - 1)))) (both (under_ok most clock) (subset_of deps (unite read seen))))) }
 {
-    if clock[office] != serial {
-        return false;
-    }
-    if crate::entry::in_word(deps[office], serial) {
-        return false;
-    }
-    if crate::entry::in_word(seen[office], serial) {
-        return false;
-    }
     let over = crate::entry::overs(most, clock);
-    let known = causal::set::union(read, seen);
-    let unknown = causal::set::without(deps, known);
-    let bad = causal::set::union(over, unknown);
-    causal::set::is_empty(bad)
+    let unknown = causal::set::without(deps, causal::set::union(read, seen));
+    clock[office] == serial
+        && !crate::entry::in_word(deps[office], serial)
+        && !crate::entry::in_word(seen[office], serial)
+        && causal::set::is_empty(causal::set::union(over, unknown))
 }
 
 // One own write: the entry rules, an id that is not among the earlier ones, and no dependency but on what was read or written before. All of
 // that is of offices that the ring has, so its dependencies are, too.
+#[tactic(auto, using(crate::proofs::Entries::bounds_facts))]
 fn own_ok(n: u32, p: u32, most: [u32; 8], read: [u32; 8], seen: [u32; 8], e: &Entry) -> bool
     requires { ((c : List ℕ) → under_ok most c ≡ clock_ok n c) × (ids_ok n read ≡ true) × (ids_ok n seen ≡ true) }
     ensures { result ≡ own_turn n p read seen e.now }
 {
-    if !crate::entry::bounds_ok(n, p, e) {
-        return false;
-    }
     // No clock has a number for a ninth office.
-    if e.office > 7 {
-        return false;
-    }
-    own_past_ok(
-        most,
-        e.office as usize,
-        e.serial,
-        e.clock,
-        e.deps,
-        read,
-        seen,
-    )
+    crate::entry::bounds_ok(n, p, e)
+        && e.office < 8
+        && own_past_ok(most, e.office as usize, e.serial, e.clock, e.deps, read, seen)
 }
 
 // The own writes, with the set of the ids seen so far.
