@@ -1,6 +1,7 @@
 -- What the writer's steps make of a token, and what each turn of the reader's loop over own frames does. Assumes nothing.
 use Rattle.std.proofs.Common.{◌≡◌, ℕ, zero, suc, ◌+◌, ◌-◌, ◌*◌, ◌<◌, ◌≤◌, Bool, true, false, eqb, leb, List, [], ◌∷◌, ◌++◌, length, get_or, take, drop, set, replicate, sym, refl, ap, ◌∙◌, append_assoc, append-nil, le_refl, zero-add, add-one, arith, length-append, length-drop, take_all, drop-drop, le-leb, leb-true, cond, None, Option, Some, sum_by, take-append-drop}
 use Rattle.std.proofs.lemmas.List.{take_more}
+use Rattle.std.proofs.lemmas.List.Sums.{sum_by-cons}
 use mathlib.Core.List.{Memᴰ}
 use native.Mathlib.Nat.{sub-zero}
 use lib.Seq.{sets, set-append_seam}
@@ -12,18 +13,20 @@ use Rattle.causal.proofs.Lists.{sets_append, sets_front, take_front}
 use Rattle.causal.proofs.Sets.{size_le}
 use Rattle.frame.specs.declared.entry.Entry.{Entry}
 use Rattle.frame.specs.declared.entry.Frame.{Frame}
+use Rattle.frame.specs.declared.session.Session.{Session}
 use Rattle.frame.specs.Refusals.{replied}
 use Rattle.frame.specs.Entries.{blank_entry}
 use Rattle.frame.specs.Words.{clock_words, id_words, sum_word, summed}
 use Rattle.frame.specs.Frames.{ring_ok, framed, frame_words, frame_ok, frame_of}
 use Rattle.frame.specs.Calls.{frame_in, laid, laid_if}
-use Rattle.frame.specs.Sessions.{Content, filled, nobody, session_ok}
+use Rattle.frame.specs.Sessions.{Content, content_of, filled, nobody, session_ok}
 use Rattle.frame.specs.Tokens.{rows_of, own_rows, token_head, token_words, frame_length, own_from}
 use Rattle.frame.specs.TokenReading.{own_in, own_frame_ok, own_frames_ok}
 use Rattle.frame.specs.TokenCalls.{write_token_code, write_token, write_token_row}
 use Rattle.frame.proofs.Entries.{ring_facts, clock_facts}
 use Rattle.frame.proofs.Sessions.{own_ok_lem, session_facts}
 use Rattle.frame.proofs.Tokens.{own_frame}
+use Rattle.frame.proofs.OwnTurns.{count_is}
 use Rattle.frame.proofs.Reading.{frame_none, frame_some}
 use Rattle.frame.proofs.Words.{ids_size, length_summed, length_clock}
 use Rattle.frame.proofs.Frames.{length_frame}
@@ -39,7 +42,7 @@ frame_few n e h = omega (arith, length_frame (framed n 0 e), ids_size e.deps, si
 pub rows_size : (n : ℕ) (es : List Entry) → length (own_rows n es) ≡ sum_by (size_in n) es
 unfolding rows_of
 rows_size n [] = refl
-rows_size n (e ∷ es) = omega (arith, length-append (frame_words (framed n 0 e)) (own_rows n es), rows_size n es)
+rows_size n (e ∷ es) = length-append (frame_words (framed n 0 e)) (own_rows n es) ∙ ap (λ (k : ℕ). size_in n e + k) (rows_size n es) ∙ sym (sum_by-cons (size_in n) e es)
 
 pub rows_few : (n : ℕ) (es : List Entry) → n ≤ 8 → length (own_rows n es) ≤ 268 * length es
 unfolding rows_of
@@ -54,20 +57,20 @@ rows_append n (e ∷ es) fs =
 
 -- a loop that writes them, before own write i
 module _ (n : ℕ) (own : List Entry) (i : ℕ) (h : i < length own) where
-  abbrev Next : List ℕ
-  Next = frame_words (framed n 0 (get_or own i nobody))
+  abbrev NextRow : List ℕ
+  NextRow = frame_words (framed n 0 (get_or own i nobody))
 
-  rows_more : own_rows n (take (i + 1) own) ≡ own_rows n (take i own) ++ Next
+  rows_more : own_rows n (take (i + 1) own) ≡ own_rows n (take i own) ++ NextRow
   unfolding rows_of
   rows_more =
       ap (own_rows n) (take_more own i nobody h) ∙ rows_append n (take i own) (get_or own i nobody ∷ [])
-      ∙ ap (λ (l : List ℕ). own_rows n (take i own) ++ l) (append-nil Next)
+      ∙ ap (λ (l : List ℕ). own_rows n (take i own) ++ l) (append-nil NextRow)
 
-  pub rows_length : length (own_rows n (take (i + 1) own)) ≡ length (own_rows n (take i own)) + length Next
-  rows_length = ap length rows_more ∙ length-append (own_rows n (take i own)) Next
+  pub rows_length : length (own_rows n (take (i + 1) own)) ≡ length (own_rows n (take i own)) + length NextRow
+  rows_length = ap length rows_more ∙ length-append (own_rows n (take i own)) NextRow
 
   -- there is room for its frame
-  pub rows_room : length (own_rows n (take i own)) + length Next ≤ length (own_rows n own)
+  pub rows_room : length (own_rows n (take i own)) + length NextRow ≤ length (own_rows n own)
   rows_room =
       let e = ap (λ (l : List Entry). length (own_rows n l)) (sym (take-append-drop (i + 1) own))
       ∙ ap length (rows_append n (take (i + 1) own) (drop (i + 1) own))
@@ -76,11 +79,11 @@ module _ (n : ℕ) (own : List Entry) (i : ℕ) (h : i < length own) where
       omega (arith, e, rows_length)
 
   pub rows_turn : (o o' : List ℕ) (at to : ℕ) → to ≡ at + length (own_rows n (take i own)) → o' ≡ sets o at (own_rows n (take i own))
-      → sets o' to Next ≡ sets o at (own_rows n (take (i + 1) own))
+      → sets o' to NextRow ≡ sets o at (own_rows n (take (i + 1) own))
   rows_turn o o' at to p q =
-      ap (λ (l : List ℕ). sets l to Next) q
-      ∙ ap (λ (k : ℕ). sets (sets o at (own_rows n (take i own))) k Next) p
-      ∙ sym (sets_append o at (own_rows n (take i own)) Next)
+      ap (λ (l : List ℕ). sets l to NextRow) q
+      ∙ ap (λ (k : ℕ). sets (sets o at (own_rows n (take i own))) k NextRow) p
+      ∙ sym (sets_append o at (own_rows n (take i own)) NextRow)
       ∙ ap (sets o at) (sym rows_more)
 
 -- ---- the writer's steps make the writing
@@ -186,25 +189,33 @@ at_mem [] i h = absurd (omega arith)
 at_mem (e ∷ es) zero h = Memᴰ.head refl
 at_mem (e ∷ es) (suc i) h = Memᴰ.tail (at_mem es i (omega arith))
 
-pub record Writable (s : Content) : Type 0 where
+pub record Writable (s : Session) : Type 0 where
   pub high : s.offices ≤ 8
-  pub few : length s.own ≤ 16
+  pub few : s.count ≤ 16
+  pub count : length (content_of s).own ≡ s.count
   pub reads : length (id_words s.read) ≤ 256
   pub clock : (j : ℕ) → j < 8 → get_or s.clock j 0 ≤ 32
-  pub frames : (i : ℕ) → i < length s.own → frame_ok s.offices 64 (framed s.offices 0 (get_or s.own i nobody)) ≡ true
-  pub size : length (token_words s) ≡ s.offices + length (id_words s.read) + length (own_rows s.offices s.own) + 2
+  pub frames : (i : ℕ) → i < length (content_of s).own → frame_ok s.offices 64 (framed s.offices 0 (get_or (content_of s).own i nobody)) ≡ true
+  pub size : length (token_words (content_of s)) ≡ s.offices + length (id_words s.read) + length (own_rows s.offices (content_of s).own) + 2
 
-pub writable : (s : Content) → ring_ok s.offices 64 ≡ true → session_ok s.offices 64 s ≡ true → Writable s
+pub size_of : (s : Session) → length (token_words (content_of s)) ≡ s.offices + length (id_words s.read) + length (own_rows s.offices (content_of s).own) + 2
+unfolding content_of
+size_of s = length_token (content_of s)
+
+pub writable : (s : Session) → ring_ok s.offices 64 ≡ true → session_ok s.offices 64 (content_of s) ≡ true → Writable s
+unfolding content_of
 writable s ring ok =
     let G = ring_facts s.offices 64 ring in
-    let F = session_facts s.offices 64 s ok in
+    let C = content_of s in
+    let F = session_facts s.offices 64 C ok in
     record {
       high = G.high;
-      few = F.few;
+      few = omega (arith, count_is s, F.few);
+      count = count_is s;
       reads = omega (arith, ids_size s.read, size_le s.read);
       clock = λ j l. (clock_facts s.offices s.clock F.clock j l).small;
-      frames = λ i l. own_frame s.offices 64 (get_or s.own i nobody) G.low G.high (own_ok_lem s.offices 64 s F (get_or s.own i nobody) (at_mem s.own i l));
-      size = length_token s;
+      frames = λ i l. own_frame s.offices 64 (get_or C.own i nobody) G.low G.high (own_ok_lem s.offices 64 C F (get_or C.own i nobody) (at_mem C.own i l));
+      size = size_of s;
     }
 
 -- ---- one own frame, read

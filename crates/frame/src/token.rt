@@ -73,16 +73,17 @@ fn put_owns(n: u32, own: &[Entry], out: &mut [u32], at: usize) -> usize
 }
 
 // The head, the clock and the read ids. The head is put behind what it counts.
-fn put_start(n: u32, count: usize, clock: [u32; 8], read: [u32; 8], out: &mut [u32]) -> Put
-    requires { (n ≤ 8) × (count ≤ 16) × ((j : ℕ) → j < 8 → slice_index clock j ≤ 32) × (1 + n + length (id_words read) ≤ length out.old) }
-    ensures { (result.to ≡ 1 + n + length (id_words read))
-        × (result.sum % 268435456 ≡ total (token_head n count (length (id_words read)) ∷ (clock_words n clock ++ id_words read)) % 268435456)
-        × (out.new ≡ sets (sets (slice_set out.old 0 (token_head n count (length (id_words read)))) 1 (clock_words n clock)) (1 + n) (id_words read)) }
+fn put_start(s: &Session, out: &mut [u32]) -> Put
+    requires { (s.now.offices ≤ 8) × (s.now.count ≤ 16) × ((j : ℕ) → j < 8 → slice_index s.now.clock j ≤ 32) × (1 + s.now.offices + length (id_words s.now.read) ≤ length out.old) }
+    ensures { (result.to ≡ 1 + s.now.offices + length (id_words s.now.read))
+        × (result.sum % 268435456 ≡ total (token_head s.now.offices s.now.count (length (id_words s.now.read)) ∷ (clock_words s.now.offices s.now.clock ++ id_words s.now.read)) % 268435456)
+        × (out.new ≡ sets (sets (slice_set out.old 0 (token_head s.now.offices s.now.count (length (id_words s.now.read)))) 1 (clock_words s.now.offices s.now.clock)) (1 + s.now.offices) (id_words s.now.read)) }
 {
-    let clocks = crate::word::put_clock(clock, n as usize, out, 1);
-    let put = crate::word::put_ids(read, out, 1 + n as usize);
+    let n = s.offices;
+    let clocks = crate::word::put_clock(s.clock, n as usize, out, 1);
+    let put = crate::word::put_ids(s.read, out, 1 + n as usize);
     let reads = put.to - 1 - n as usize;
-    let head = head_word(n, count as u32, reads as u32);
+    let head = head_word(n, s.count as u32, reads as u32);
     out[0] = head;
     Put {
         to: put.to,
@@ -90,18 +91,17 @@ fn put_start(n: u32, count: usize, clock: [u32; 8], read: [u32; 8], out: &mut [u
     }
 }
 
-// The words of a token, where there is room for them.
+// The words of a token, where there is room for them. Where nothing is carried, its check is the sum of what was put.
 fn fill(s: &Session, out: &mut [u32])
     requires { (ring_ok s.now.offices 64 ≡ true) × (session_ok s.now.offices 64 (content_of s.now) ≡ true) × (length (token_words (content_of s.now)) ≤ length out.old) }
     ensures { out.new ≡ laid (token_words (content_of s.now)) out.old }
 {
-    let n = s.offices;
-    let put = put_start(n, s.count, s.clock, s.read, &mut *out);
+    let put = put_start(s, &mut *out);
     if s.count == 0 {
         out[put.to] = 0xF000_0000 + put.sum % crate::word::LOW;
         return;
     }
-    let end = put_owns(n, crate::session::own_writes(s), &mut *out, put.to);
+    let end = put_owns(s.offices, crate::session::own_writes(s), &mut *out, put.to);
     crate::word::put_sum(out, end);
 }
 
