@@ -8,6 +8,7 @@ use lib.Seq.{sets, set-append_seam}
 use borrow.Author.Tests.{lt-leb}
 use Rattle.causal.specs.Tests.{both}
 use Rattle.causal.specs.Codes.{check}
+use Rattle.causal.specs.Lists.{tab}
 use Rattle.causal.proofs.Tests.{both_true}
 use Rattle.causal.proofs.Lists.{sets_append, sets_front, take_front}
 use Rattle.causal.proofs.Sets.{size_le}
@@ -54,6 +55,11 @@ unfolding rows_of
 rows_append n [] fs = refl
 rows_append n (e ∷ es) fs =
     ap (λ (l : List ℕ). frame_words (framed n 0 e) ++ l) (rows_append n es fs) ∙ sym (append_assoc (frame_words (framed n 0 e)) (own_rows n es) (own_rows n fs))
+
+-- a session that carries none
+pub rows_none : (s : Session) → s.count ≡ 0 → own_rows s.offices (content_of s).own ≡ []
+unfolding content_of tab rows_of
+rows_none s e = rw e refl
 
 -- a loop that writes them, before own write i
 module _ (n : ℕ) (own : List Entry) (i : ℕ) (h : i < length own) where

@@ -1,7 +1,7 @@
 use Rattle.std.proofs.Common.{◌^◌, ◌<◌, length, arith, rules, sum_by}
 use borrow.Author.Tests.{tests}
-use Rattle.std.proofs.lemmas.Iterator.{YieldsList-from_slice}
-use Rattle.std.proofs.lemmas.Iterator.Consumers.{YieldsList-from_map, fits_by_from_yields_list}
+use Rattle.std.proofs.lemmas.Iterator.{YieldsList-from_map, YieldsList-from_slice}
+use Rattle.std.proofs.lemmas.Iterator.Consumers.{fits_by_from_yields_list}
 use Rattle.frame.proofs.TokenTurns.{size_in, rows_size, rows_few}
 use Rattle.frame.proofs.token.own_words.Goals as goal
 
