@@ -1,6 +1,7 @@
 -- What the reader of a frame answers, by its steps. Assumes nothing.
 use Rattle.std.proofs.Common.{◌≡◌, ℕ, suc, ◌+◌, ◌-◌, ◌<◌, ◌≤◌, Bool, true, false, cond, eqb, ltb, leb, List, length, get_or, take, drop, sym, refl, ap, ◌∙◌, ⊎_elim, arith, le-ltb, lt-ltb, eqb-true, None, ok_or, Option, Result, Some}
 use Rattle.std.specs.Result.{result_unwrap_or}
+use Rattle.std.proofs.lemmas.Option.{cond_some}
 use Rattle.causal.specs.Tests.{both, all_below}
 use Rattle.causal.specs.Codes.{check}
 use Rattle.causal.specs.Lists.{part}
@@ -18,6 +19,11 @@ use Rattle.frame.proofs.Entries.{entry_facts, ring_facts, frame_facts}
 use Rattle.frame.proofs.Ascents.{ids_range}
 use Rattle.frame.proofs.Frames.{checks_accept}
 use Rattle.frame.proofs.Words.{clock_from_at}
+
+-- what an answer says of the test that it stands on
+pub none_is : {A : Type 0} (b : Bool) (x : A) → None ≡ cond b (Some x) None → b ≡ false
+none_is true x e = cc
+none_is false x e = refl
 
 -- what the shape says
 pub record Shape (n : ℕ) (ws : List ℕ) : Type 0 where
@@ -180,19 +186,11 @@ module _ (n p : ℕ) (ws : List ℕ) where
 
   pub frame_none : NoFrame → accepts n p ws ≡ false
   unfolding frame_in
-  frame_none e = go (accepts n p ws) e
-    where
-      go : (b : Bool) → None ≡ cond b (Some (frame_of ws)) None → b ≡ false
-      go true q = cc
-      go false q = refl
+  frame_none e = none_is (accepts n p ws) (frame_of ws) e
 
   pub frame_some : (f : Frame) → Some f ≡ frame_in n p ws → (accepts n p ws ≡ true) × (f ≡ frame_of ws)
   unfolding frame_in
-  frame_some f e = go (accepts n p ws) e
-    where
-      go : (b : Bool) → Some f ≡ cond b (Some (frame_of ws)) None → (b ≡ true) × (f ≡ frame_of ws)
-      go true q = (refl, cc)
-      go false q = absurd (cc)
+  frame_some f e = let s = cond_some (accepts n p ws) (frame_of ws) f (sym e) in (s.0, sym s.1)
 
   -- ---- the answer of the call
 

@@ -1,6 +1,7 @@
 -- What the writer's steps make of a token, and what each turn of the reader's loop over own frames does. Assumes nothing.
-use Rattle.std.proofs.Common.{◌≡◌, ℕ, zero, suc, ◌+◌, ◌-◌, ◌*◌, ◌<◌, ◌≤◌, Bool, true, false, eqb, leb, List, [], ◌∷◌, ◌++◌, length, get_or, take, drop, set, replicate, sym, refl, ap, ◌∙◌, append_assoc, append-nil, le_refl, zero-add, add-one, arith, length-append, length-drop, take_all, drop-drop, le-leb, leb-true, cond, None, Option, Some, sum_by, take-append-drop}
-use Rattle.std.proofs.lemmas.List.{take_more}
+use Rattle.std.proofs.Common.{◌≡◌, ℕ, zero, suc, ◌+◌, ◌-◌, ◌*◌, ◌<◌, ◌≤◌, Bool, true, false, eqb, leb, List, [], ◌∷◌, ◌++◌, length, get_or, take, drop, set, replicate, sym, refl, ap, ◌∙◌, append_assoc, append-nil, le_refl, zero-add, add-one, arith, length-append, length-drop, take_all, drop-drop, le-leb, leb-true, cond, length-set, length-take-le, None, Option, Some, sum_by, take-append-drop}
+use Rattle.std.proofs.lemmas.List.{drop-replicate, take_more, take_more_set}
+use Rattle.std.proofs.lemmas.Option.{cond_some}
 use Rattle.std.proofs.lemmas.List.Sums.{sum_by-cons}
 use mathlib.Core.List.{Memᴰ}
 use native.Mathlib.Nat.{sub-zero}
@@ -28,7 +29,7 @@ use Rattle.frame.proofs.Entries.{ring_facts, clock_facts}
 use Rattle.frame.proofs.Sessions.{own_ok_lem, session_facts}
 use Rattle.frame.proofs.Tokens.{own_frame}
 use Rattle.frame.proofs.OwnTurns.{count_is}
-use Rattle.frame.proofs.Reading.{frame_none, frame_some}
+use Rattle.frame.proofs.Reading.{frame_none, frame_some, none_is}
 use Rattle.frame.proofs.Words.{ids_size, length_summed, length_clock}
 use Rattle.frame.proofs.Frames.{length_frame}
 
@@ -281,74 +282,107 @@ next_of (suc i) (y ∷ es) x rest e =
     let r = next_of i es x rest e in
     record { before = ap (λ (l : List Entry). y ∷ l) r.before; behind = r.behind; place = ap suc r.place }
 
+-- what is answered of k own frames, and blanks behind them
+abbrev pub Carried : ℕ → ℕ → ℕ → List ℕ → Option (List Entry)
+Carried k n p ws = cond (own_frames_ok k n p ws) (Some (filled (own_from k n ws))) None
+
 -- what holds of the loop over own frames before turn i, where the next frame stands at `at`
-pub record Turn (ws : List ℕ) (n p count : ℕ) (own : List Entry) (at i : ℕ) : Type 0 where
+pub record Turn (ws : List ℕ) (n p count : ℕ) (items : List Entry) (at i : ℕ) : Type 0 where
   pub few : i ≤ count
   pub within : at ≤ length ws
+  pub size : length items ≡ count
   pub checks : own_frames_ok count n p ws ≡ own_frames_ok (count - i) n p (drop at ws)
   pub left : drop i (own_from count n ws) ≡ own_from (count - i) n (drop at ws)
-  pub done : own ≡ filled (take i (own_from count n ws))
+  pub done : take i items ≡ take i (own_from count n ws)
 
 module _ (ws : List ℕ) (n p count : ℕ) where
-  pub turn_first : (blank : Entry) → blank ≡ blank_entry → Turn ws n p count (replicate 16 blank) 0 0
-  unfolding filled
-  turn_first blank e =
+  pub turn_first : (blank : Entry) → count ≤ 16 → Turn ws n p count (take count (replicate 16 blank)) 0 0
+  turn_first blank few =
       let z = sub-zero count in
       record {
         few = omega arith;
         within = omega arith;
+        size = length-take-le count (replicate 16 blank) few;
         checks = ap (λ (k : ℕ). own_frames_ok k n p ws) (sym z);
         left = ap (λ (k : ℕ). own_from k n ws) (sym z);
-        done = ap (λ (x : Entry). replicate 16 x) e;
+        done = refl;
       }
 
-  pub lent_rest : (at : ℕ) → take (length ws - at) (drop at ws) ≡ drop at ws
+  abbrev pub Lent : ℕ → List ℕ
+  Lent at = take (length ws - at) (drop at ws)
+
+  pub lent_rest : (at : ℕ) → Lent at ≡ drop at ws
   lent_rest at = take_all (length ws - at) (drop at ws) (simp length-drop (le_refl _))
 
-  module _ (own : List Entry) (at i : ℕ) (T : Turn ws n p count own at i) (l : i < count) where
+  module _ (items : List Entry) (at i : ℕ) (T : Turn ws n p count items at i) (l : i < length items) where
+    abbrev Here : List ℕ
+    Here = drop at ws
+
     one : count - i ≡ suc (count - (i + 1))
-    one = omega arith
+    one = omega (arith, T.size)
 
-    pub turn_fails : own_frame_ok n p (drop at ws) ≡ false → own_frames_ok count n p ws ≡ false
-    unfolding own_frames_ok both
-    turn_fails e = T.checks ∙ ap (λ (k : ℕ). own_frames_ok k n p (drop at ws)) one ∙ rw e refl
+    pub turn_fails : None ≡ own_in n p (Lent at) → None ≡ Carried count n p ws
+    unfolding own_in own_frames_ok both
+    turn_fails e =
+        let bad : own_frame_ok n p Here ≡ false = none_is (own_frame_ok n p Here) _ (e ∙ ap (own_in n p) (lent_rest at)) in
+        let out : own_frames_ok count n p ws ≡ false = T.checks ∙ ap (λ (k : ℕ). own_frames_ok k n p Here) one ∙ rw bad refl in
+        rw out refl
 
-    pub own_fits : own_frame_ok n p (drop at ws) ≡ true → at + frame_length n (drop at ws) ≤ length ws
-    unfolding own_frame_ok
-    own_fits e =
-        let a = both_true (leb (frame_length n (drop at ws)) (length (drop at ws))) _ e in
-        omega (arith, leb-true (frame_length n (drop at ws)) (length (drop at ws)) a.0, length-drop at ws, T.within)
+    module _ (x : Entry) (k : ℕ) (q : Some (x, k) ≡ own_in n p (Lent at)) where
+      record Own : Type 0 where
+        pub ok : own_frame_ok n p Here ≡ true
+        pub entry : (frame_of (take (frame_length n Here) Here)).entry ≡ x
+        pub words : frame_length n Here ≡ k
 
-    pub turn_next : own_frame_ok n p (drop at ws) ≡ true → count ≤ 16 → (x : Entry) (k : ℕ) → k ≡ frame_length n (drop at ws)
-        → x ≡ (frame_of (take (frame_length n (drop at ws)) (drop at ws))).entry → Turn ws n p count (set own i x) (at + k) (i + 1)
-    unfolding own_frames_ok own_from both
-    turn_next e c x k q g =
-        let m : ℕ = count - (i + 1) in
-        let d : drop (frame_length n (drop at ws)) (drop at ws) ≡ drop (at + k) ws = drop-drop (frame_length n (drop at ws)) at ws ∙ ap (λ (j : ℕ). drop (at + j) ws) (sym q) in
-        let es : List Entry = own_from count n ws in
-        let here : drop i es ≡ x ∷ own_from m n (drop (at + k) ws) =
-        T.left ∙ ap (λ (j : ℕ). own_from j n (drop at ws)) one ∙ ap (λ (y : Entry). y ∷ own_from m n (drop (frame_length n (drop at ws)) (drop at ws))) (sym g)
-        ∙ ap (λ (r : List ℕ). x ∷ own_from m n r) d
-        in
-        let N = next_of i es x (own_from m n (drop (at + k) ws)) here in
-        record {
-          few = omega arith;
-          within = omega (arith, own_fits e);
-          checks =
-              T.checks ∙ ap (λ (j : ℕ). own_frames_ok j n p (drop at ws)) one ∙ rw e (ap (own_frames_ok m n p) d);
-          left = ap (λ (j : ℕ). drop j es) (add-one i) ∙ N.behind;
-          done =
-              ap (λ (r : List Entry). set r i x) T.done
-              ∙ ap (λ (j : ℕ). set (filled (take i es)) j x) (sym N.place)
-              ∙ fill_next (take i es) x (omega (arith, N.place))
-              ∙ ap filled (sym N.before ∙ ap (λ (j : ℕ). take j es) (sym (add-one i)));
-        }
+      own_is : Own
+      unfolding own_in
+      own_is =
+          let s = cond_some (own_frame_ok n p Here) ((frame_of (take (frame_length n Here) Here)).entry, frame_length n Here) (x, k) (sym (q ∙ ap (own_in n p) (lent_rest at))) in
+          record { ok = s.0; entry = ap (λ (y : Entry × ℕ). y.0) s.1; words = ap (λ (y : Entry × ℕ). y.1) s.1 }
 
-  pub turn_last : (own : List Entry) (at i : ℕ) → Turn ws n p count own at i → count ≤ i
-      → (eqb (length ws - at) 1 ≡ own_frames_ok count n p ws) × (own ≡ filled (own_from count n ws))
-  unfolding own_frames_ok
-  turn_last own at i T l =
-      let z : count - i ≡ 0 = omega arith in (
-        ap (λ (k : ℕ). eqb k 1) (sym (length-drop at ws)) ∙ sym (T.checks ∙ ap (λ (k : ℕ). own_frames_ok k n p (drop at ws)) z),
-        T.done ∙ ap filled (take_all i (own_from count n ws) (omega (arith, own_count count n ws))),
-      )
+      pub turn_fits : at + k ≤ length ws
+      unfolding own_frame_ok
+      turn_fits =
+          let O = own_is in
+          let a = both_true (leb (frame_length n Here) (length Here)) _ O.ok in
+          omega (arith, leb-true (frame_length n Here) (length Here) a.0, length-drop at ws, T.within, O.words)
+
+      pub turn_next : Turn ws n p count (set items i x) (at + k) (i + 1)
+      unfolding own_frames_ok own_from both
+      turn_next =
+          let O = own_is in
+          let m : ℕ = count - (i + 1) in
+          let d : drop (frame_length n Here) Here ≡ drop (at + k) ws = drop-drop (frame_length n Here) at ws ∙ ap (λ (j : ℕ). drop (at + j) ws) O.words in
+          let es : List Entry = own_from count n ws in
+          let here : drop i es ≡ x ∷ own_from m n (drop (at + k) ws) =
+          T.left ∙ ap (λ (j : ℕ). own_from j n Here) one ∙ ap (λ (y : Entry). y ∷ own_from m n (drop (frame_length n Here) Here)) O.entry
+          ∙ ap (λ (r : List ℕ). x ∷ own_from m n r) d
+          in
+          let N = next_of i es x (own_from m n (drop (at + k) ws)) here in
+          record {
+            few = omega (arith, T.size);
+            within = turn_fits;
+            size = length-set items i x ∙ T.size;
+            checks =
+                T.checks ∙ ap (λ (j : ℕ). own_frames_ok j n p Here) one ∙ rw O.ok (ap (own_frames_ok m n p) d);
+            left = ap (λ (j : ℕ). drop j es) (add-one i) ∙ N.behind;
+            done =
+                take_more_set items i x l ∙ ap (λ (r : List Entry). r ++ (x ∷ [])) T.done ∙ sym N.before ∙ ap (λ (j : ℕ). take j es) (sym (add-one i));
+          }
+
+  -- behind the last one stands the check
+  pub turn_last : (items : List Entry) (at i : ℕ) → Turn ws n p count items at i → length items ≤ i → (blank : Entry) → blank ≡ blank_entry
+      → (b : Bool) → b ≡ eqb (length ws - at) 1 → cond b (Some (items ++ drop count (replicate 16 blank))) None ≡ Carried count n p ws
+  unfolding own_frames_ok filled
+  turn_last items at i T l blank e b q =
+      let z : count - i ≡ 0 = omega (arith, T.size) in
+      let es : List Entry = own_from count n ws in
+      let k = own_count count n ws in
+      let a : b ≡ own_frames_ok count n p ws =
+      q ∙ ap (λ (j : ℕ). eqb j 1) (sym (length-drop at ws)) ∙ sym (T.checks ∙ ap (λ (j : ℕ). own_frames_ok j n p (drop at ws)) z)
+      in
+      let own : items ≡ es = sym (take_all i items l) ∙ T.done ∙ take_all i es (omega (arith, k, T.size)) in
+      let blanks : drop count (replicate 16 blank) ≡ replicate (16 - length es) blank_entry =
+      ap (λ (x : Entry). drop count (replicate 16 x)) e ∙ drop-replicate count 16 blank_entry ∙ ap (λ (j : ℕ). replicate (16 - j) blank_entry) (sym k)
+      in
+      λ i. cond (a i) (Some (own i ++ blanks i)) None

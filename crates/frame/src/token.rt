@@ -1,5 +1,5 @@
 // Tokens (01: slips): a session as a row of words.
-ghost use Rattle.std.specs.Prelude.{◌≡◌, ℕ, ◌+◌, ◌%◌, ◌<◌, ◌≤◌, true, false, [], ◌∷◌, ◌++◌, length, get_or, take, if◌then◌else◌, slice_index, slice_index_or, slice_set};
+ghost use Rattle.std.specs.Prelude.{◌≡◌, ℕ, ◌+◌, ◌%◌, ◌<◌, ◌≤◌, true, false, [], ◌∷◌, ◌++◌, length, get_or, take, cond, None, Some, slice_index, slice_index_or, slice_set};
 ghost use Rattle.std.specs.Result.{result_unwrap_or};
 ghost use Rattle.std.proofs.lemmas.List.Edits.{sets};
 ghost use Rattle.causal.specs.Lists.{tab};
@@ -124,6 +124,7 @@ pub fn write_token(s: Session, out: &mut [u32]) -> Result<usize, Refusal>
 // ---- reading
 
 // The head is one, for n offices, and what it counts may stand in the row.
+#[tactic(auto, unfolding(crate::specs::TokenReading::token_shape, causal::specs::Tests::both))]
 fn shape_ok(ws: &[u32], n: u32) -> bool
     requires { n ≤ 8 }
     ensures { result ≡ token_shape n ws.now }
@@ -166,7 +167,7 @@ fn owns_from(ws: &[u32], n: u32, p: u32, count: usize) -> Option<[Entry; 16]>
 {
     let mut own = [crate::entry::blank_entry(); 16];
     let mut at = 0;
-    for place in own.iter_mut().take(count) {
+    for place in &mut own[..count] {
         let (e, words) = own_from(&ws[at..], n, p)?;
         *place = e;
         at += words;
@@ -178,6 +179,7 @@ fn owns_from(ws: &[u32], n: u32, p: u32, count: usize) -> Option<[Entry; 16]>
 }
 
 // All of a row but the numbers of the clock and the own frames: the head, the kinds of the clock words, the read ids, the check.
+#[tactic(auto, using(crate::proofs::TokenReads::reads_between), unfolding(crate::specs::TokenReading::start_ok, causal::specs::Tests::both))]
 fn start_ok(ws: &[u32], n: u32) -> bool
     requires { n ≤ 8 }
     ensures { result ≡ start_ok n ws.now }
@@ -185,15 +187,11 @@ fn start_ok(ws: &[u32], n: u32) -> bool
     if !shape_ok(ws, n) {
         return false;
     }
-    if !crate::word::clock_kinds(ws, 1, n as usize) {
-        return false;
-    }
     let from = 1 + n as usize;
     let to = from + (ws[0] % crate::word::LOW % 512) as usize;
-    if !crate::word::ids_ascend(&ws[from..to], n) {
-        return false;
-    }
-    crate::word::sum_ok(ws)
+    crate::word::clock_kinds(ws, 1, n as usize)
+        && crate::word::ids_ascend(&ws[from..to], n)
+        && crate::word::sum_ok(ws)
 }
 
 // The session whose own frames stand in ws, up to the last word.
