@@ -1,10 +1,13 @@
 -- What chains of iterators over words give: their sum, a test of each. Assumes nothing.
-use Rattle.std.proofs.Common.{◌≡◌, ℕ, ◌+◌, ◌-◌, ◌%◌, ◌≤◌, Bool, List, [], ◌∷◌, drop, length, get_or, take, refl, sym, ap, ◌∙◌, add-zero, zero-add, arith, length-drop, length-take}
+use Rattle.std.proofs.Common.{◌≡◌, ℕ, ◌+◌, ◌-◌, ◌%◌, ◌<◌, ◌≤◌, Bool, List, [], ◌∷◌, ◌++◌, drop, length, get_or, take, refl, sym, ap, subst, ⊎_elim, ext_get_or, ◌∙◌, add-zero, zero-add, arith, length-drop, length-take}
 use Rattle.std.specs.List.{fold, list_all}
+use Rattle.causal.specs.Lists.{tab}
 use Rattle.causal.specs.Tests.{both, all_below}
 use Rattle.causal.proofs.Equal.{and_both}
-use lib.Seq.{get_or-take, get_or-drop}
-use Rattle.causal.proofs.Tests.{all_front, all_ext}
+use lib.ListN.{get_or-append}
+use lib.Seq.{get_or-take, get_or-drop, get_or_at}
+use Rattle.causal.proofs.Lists.{tab_length, tab_at}
+use Rattle.causal.proofs.Tests.{all_front, all_ext, split}
 use Rattle.frame.specs.Words.{total}
 
 -- ---- sums: the kinds and what wraps are multiples of 2^28
@@ -38,3 +41,17 @@ all_part p ws at n h =
     all_list p (take (at + n - at) (drop at ws))
     ∙ ap (λ (m : ℕ). all_below m (λ j. p (get_or (take (at + n - at) (drop at ws)) j 0))) (simp (length-take, length-drop) (omega arith))
     ∙ all_ext _ _ n (λ i l. ap p (get_or-take (at + n - at) (drop at ws) i 0 (omega arith) ∙ get_or-drop at ws i 0))
+
+-- ---- words put one by one, each by its place
+
+pub each_more : (P : ℕ → ℕ → Type 0) (ws : List ℕ) (w n : ℕ) → length ws ≡ n → ((j : ℕ) → j < n → P j (get_or ws j 0)) → P n w
+    → (j : ℕ) → j < n + 1 → P j (get_or (ws ++ (w ∷ [])) j 0)
+each_more P ws w n l each last j h =
+    ⊎_elim
+    (λ (k : j < n). subst (P j) (sym (get_or-append ws (w ∷ []) 0 j (rw l k))) (each j k))
+    (λ (e : j ≡ n). rw e (subst (P n) (sym (get_or_at ws w [] 0 n l)) last))
+    (split j n (omega arith))
+
+pub words_are : (ws : List ℕ) (f : ℕ → ℕ) (n : ℕ) → length ws ≡ n → ((j : ℕ) → j < n → get_or ws j 0 ≡ f j) → ws ≡ tab n f
+words_are ws f n l each =
+    ext_get_or 0 ws (tab n f) (l ∙ sym (tab_length n f)) (λ j h. let k : j < n = omega (arith, l) in each j k ∙ sym (tab_at n f j 0 k))

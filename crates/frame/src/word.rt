@@ -1,5 +1,5 @@
 // Words: the top four bits are the kind, the lower 28 the payload.
-ghost use Rattle.std.specs.Prelude.{◌≡◌, ℕ, ◌+◌, ◌/◌, ◌%◌, ◌<◌, ◌≤◌, true, length, take, set, ◌==◌, nat_le, slice_index, slice_set};
+ghost use Rattle.std.specs.Prelude.{◌≡◌, ℕ, ◌+◌, ◌/◌, ◌%◌, ◌<◌, ◌≤◌, true, length, take, set, ◌==◌, nat_le, slice_index, slice_set, List};
 ghost use Rattle.std.proofs.lemmas.List.Edits.{sets};
 ghost use Rattle.causal.specs.Lists.{tab};
 ghost use Rattle.causal.specs.Tests.{both};
@@ -32,18 +32,27 @@ pub struct Put {
     pub sum: u32,
 }
 
+// So many words from at on, each by its place; gives their sum.
+fn put_words<F: Fn(usize) -> u32>(count: usize, word: F, out: &mut [u32], at: usize) -> u32
+    requires room { at + count ≤ length out.old }
+    requires asked { (j : ℕ) → j < count → F.pre word j }
+    ensures { (ws : List ℕ) × (length ws ≡ count) × ((j : ℕ) → j < count → F.post word j (slice_index ws j)) × (result % 268435456 ≡ total ws % 268435456) × (out.new ≡ sets out.old at ws) }
+{
+    let mut sum: u32 = 0;
+    for j in 0..count {
+        let w = word(j);
+        out[at + j] = w;
+        sum = sum.wrapping_add(w);
+    }
+    sum
+}
+
 // n clock words from at on; gives their sum.
 pub fn put_clock(clock: [u32; 8], n: usize, out: &mut [u32], at: usize) -> u32
     requires { (n ≤ 8) × (at + n ≤ length out.old) × ((j : ℕ) → j < 8 → slice_index clock j ≤ 32) }
     ensures { (result % 268435456 ≡ total (clock_words n clock) % 268435456) × (out.new ≡ sets out.old at (clock_words n clock)) }
 {
-    let mut sum: u32 = 0;
-    for (j, &c) in clock[..n].iter().enumerate() {
-        let w = 0x5000_0000 + c;
-        out[at + j] = w;
-        sum = sum.wrapping_add(w);
-    }
-    sum
+    put_words(n, |j| 0x5000_0000 + clock[j], out, at)
 }
 
 // The words of count ids, one next to the other, from at on: first is the word of the lowest. Gives their sum.
@@ -51,13 +60,7 @@ fn put_run(first: u32, count: usize, out: &mut [u32], at: usize) -> u32
     requires { (first ≤ 1879048192) × (count ≤ 32) × (at + count ≤ length out.old) }
     ensures { (result % 268435456 ≡ total (tab count (λ i. first + i)) % 268435456) × (out.new ≡ sets out.old at (tab count (λ i. first + i))) }
 {
-    let mut sum: u32 = 0;
-    for i in 0..count {
-        let w = first + i as u32;
-        out[at + i] = w;
-        sum = sum.wrapping_add(w);
-    }
-    sum
+    put_words(count, |i| first + i as u32, out, at)
 }
 
 // The words of the ids in word j of a set, lowest first, from at on. One at a time.
