@@ -158,8 +158,9 @@ pub fn clock_from(ws: &[u32], at: usize, n: usize) -> [u32; 8]
     ensures { result ≡ clock_from ws.now at n }
 {
     let mut clock = [0u32; 8];
-    for j in 0..n {
-        clock[j] = ws[at + j] % LOW;
+    // No zip with `clock.iter_mut()`: a proof knows nothing of what an adapter of `iter_mut` leaves.
+    for (j, &w) in ws[at..at + n].iter().enumerate() {
+        clock[j] = w % LOW;
     }
     clock
 }
@@ -179,25 +180,18 @@ fn not_next(before: u32, w: u32) -> u32
 pub fn ids_ascend(ws: &[u32], n: u32) -> bool
     ensures { result ≡ ascends n 0 ws.now }
 {
-    if ws.len() < 1 {
+    if ws.is_empty() {
         return true;
     }
-    let end = ws.len() - 1;
     let first = ws[0];
-    let last = ws[end];
-    if !kind_is(6, first) {
+    let last = ws[ws.len() - 1];
+    if !kind_is(6, first) || !kind_is(6, last) || last % LOW / 256 >= n {
         return false;
     }
-    if !kind_is(6, last) {
-        return false;
-    }
-    if last % LOW / 256 >= n {
-        return false;
-    }
-    let mut wrong = not_next(0x6000_0000, first);
-    for i in 0..end {
-        wrong = wrong | not_next(ws[i], ws[i + 1]);
-    }
+    let wrong = ws
+        .iter()
+        .zip(&ws[1..])
+        .fold(not_next(0x6000_0000, first), |wrong, (&a, &b)| wrong | not_next(a, b));
     wrong == 0
 }
 
