@@ -18,12 +18,18 @@ stored to b k vs e h =
     ∙ sym (append_assoc (take b to) vs (drop (b + length vs) to))
     ∙ sym (sets-eq vs to b h))
 
+-- the same where what was copied is known by an equation
+pub stored_as : (to : List ℕ) (b k : ℕ) (vs new : List ℕ) → new ≡ vs → k ≡ length vs → b + length vs ≤ length to → put_mid b k to new ≡ sets to b vs
+stored_as to b k vs new v e h = rw v (stored to b k vs e h)
+
+-- `ws[a..e]`
+pub between_part : (ws : List ℕ) (a n e : ℕ) → e ≡ a + n → between a e ws ≡ part ws a n
+unfolding part
+between_part ws a n e q = let m : e - a ≡ n = omega arith in ap (λ (i : ℕ). take i (drop a ws)) m
+
 -- the n words of another row from a on
 pub copied : (to : List ℕ) (b k : ℕ) (vs from : List ℕ) (a n e : ℕ)
     → vs ≡ between a e from → e ≡ a + n → k ≡ n → a + n ≤ length from → b + n ≤ length to → put_mid b k to vs ≡ sets to b (part from a n)
-unfolding part
 copied to b k vs from a n e v p q h l =
-    let m : e - a ≡ n = omega arith in
-    let w : vs ≡ part from a n = v ∙ ap (λ (i : ℕ). take i (drop a from)) m in
     let s : length (part from a n) ≡ n = part_length from a n h in
-    rw w (stored to b k (part from a n) (omega arith) (omega arith))
+    stored_as to b k (part from a n) vs (v ∙ between_part from a n e p) (omega arith) (omega arith)

@@ -104,10 +104,6 @@ pub two_wrapped : (x y : ℕ) → (x % 4294967296 + y % 4294967296) % 4294967296
 two_wrapped x y = omega arith
 
 -- a word more, and sums that are added
--- the sums of four parts, put together one after the other
-pub three_wrapped : (w x y z : ℕ) → (((w + x) % 4294967296 + y) % 4294967296 + z) % 4294967296 % 268435456 ≡ (w + x + y + z) % 268435456
-three_wrapped w x y z = omega arith
-
 pub sum_more : (s w : ℕ) (ws : List ℕ) → s % 268435456 ≡ total ws % 268435456 → (s + w) % 4294967296 % 268435456 ≡ total (ws ++ (w ∷ [])) % 268435456
 sum_more s w ws h = wrapped s w (total ws) h ∙ ap (λ (x : ℕ). x % 268435456) (sym (total_snoc ws w))
 

@@ -56,10 +56,11 @@ fn own_past_ok(
 {
     let over = crate::entry::overs(most, clock);
     let unknown = causal::set::without(deps, causal::set::union(read, seen));
+    let bad = causal::set::union(over, unknown);
     clock[office] == serial
         && !crate::entry::in_word(deps[office], serial)
         && !crate::entry::in_word(seen[office], serial)
-        && causal::set::is_empty(causal::set::union(over, unknown))
+        && causal::set::is_empty(bad)
 }
 
 // One own write: the entry rules, an id that is not among the earlier ones, and no dependency but on what was read or written before. All of

@@ -27,7 +27,7 @@ fn head_word(office: u32, serial: u32, hops: u32, offices: u32, count: u32) -> u
 }
 
 // The check word of a frame, by the sums of its parts: the kinds of plot and value words fall away.
-#[tactic(auto, using(crate::proofs::Words::three_wrapped))]
+#[tactic(auto, using(crate::proofs::Chains::three_wrapped))]
 fn check_word(head: u32, fields: u32, clocks: u32, deps: u32) -> u32
     ensures { result ≡ 4026531840 + (head + fields + clocks + deps) % 268435456 }
 {
