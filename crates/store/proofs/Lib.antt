@@ -11,7 +11,9 @@ pub mod Rules
 pub mod Deps
 pub mod Places
 pub mod Ready
+pub mod Steps
 pub mod Joins
+pub mod Ands
 pub mod Alike
 pub mod Changes
 pub mod SoundChanges

@@ -6,6 +6,7 @@ ghost use Rattle.frame.specs.Entries.{outranks};
 ghost use Rattle.store.specs.Offices.{slot_at, entry_at, sound_store};
 ghost use Rattle.store.specs.Current.{WordReaches, InSlots, weighed, place_in, current_at};
 
+use crate::bits::Bits;
 use crate::layout;
 
 // Does the entry in slot j outrank that in slot k?
@@ -38,11 +39,8 @@ fn best_in(store: &[u32], plot: u32, i: usize, w: u32, before: Option<usize>) ->
     ensures { result ≡ place_in store.now plot i w 32 before }
 {
     let mut best = before;
-    let mut rest = w;
-    while rest != 0 {
-        let k = 32 * i + u32::trailing_zeros(rest) as usize;
-        best = weigh(store, plot, k, best);
-        rest = rest & (rest - 1);
+    for b in Bits(w) {
+        best = weigh(store, plot, 32 * i + b, best);
     }
     best
 }
@@ -54,8 +52,8 @@ pub fn current(store: &[u32], visible: [u32; 8], plot: u32) -> Option<usize>
 {
     let n = store[0] as usize;
     let mut best = None;
-    for i in 0..n {
-        best = best_in(store, plot, i, visible[i], best);
+    for (i, &w) in visible[..n].iter().enumerate() {
+        best = best_in(store, plot, i, w, best);
     }
     best
 }
