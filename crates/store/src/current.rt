@@ -10,6 +10,7 @@ use crate::bits::Bits;
 use crate::layout;
 
 // Does the entry in slot j outrank that in slot k?
+#[tactic(auto, unfolding(crate::specs::Offices::entry_at, frame::specs::Entries::outranks))]
 fn ranks_above(store: &[u32], j: usize, k: usize) -> bool
     requires { (j < 256) × (k < 256) × (slot_at j + 18 ≤ length store.now) × (slot_at k + 18 ≤ length store.now) }
     ensures { result ≡ outranks (entry_at store.now j) (entry_at store.now k) }
@@ -20,6 +21,7 @@ fn ranks_above(store: &[u32], j: usize, k: usize) -> bool
 }
 
 // The better of id k, if it is on the plot, and the best so far.
+#[tactic(auto, unfolding(crate::specs::Current::weighed, crate::specs::Current::better_at), using(std::proofs::lemmas::Bool::Decides::nat_tests))]
 fn weigh(store: &[u32], plot: u32, k: usize, best: Option<usize>) -> Option<usize>
     requires { (k < 256) × (slot_at k + 18 ≤ length store.now) × InSlots (length store.now) best }
     ensures { result ≡ weighed store.now plot k best }
@@ -46,6 +48,7 @@ fn best_in(store: &[u32], plot: u32, i: usize, w: u32, before: Option<usize>) ->
 }
 
 // The id of the current entry where the visible set is the one given.
+#[tactic(auto, using(crate::proofs::Rules::numbers))]
 pub fn current(store: &[u32], visible: [u32; 8], plot: u32) -> Option<usize>
     requires { (sound_store store.now ≡ true) × (subset_of visible (part store.now 3 8) ≡ true) }
     ensures { result ≡ current_at store.now visible plot }
