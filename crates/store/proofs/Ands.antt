@@ -1,6 +1,5 @@
 -- `a && b && c`, which code reads as `(a && b) && c`: its result is the chain of the tests. Assumes nothing.
-use Rattle.std.proofs.Common.{◌≡◌, ℕ, ◌+◌, ◌-◌, Bool, true, false, eqb, ltb, leb, List, refl, sym, ap, ◌∙◌, arith}
-use Rattle.std.specs.List.{between}
+use Rattle.std.proofs.Common.{◌≡◌, ℕ, ◌+◌, ◌-◌, Bool, true, false, eqb, ltb, leb, List, take, drop, refl, sym, ap, ◌∙◌, arith}
 use lib.Pointwise.{pointwise}
 use Rattle.causal.specs.Tests.{both}
 use Rattle.causal.specs.Lists.{part, eq_words}
@@ -27,9 +26,7 @@ three x v a b c p q = q ∙ ap (λ (y : Bool). both y c) p ∙ both_assoc a b c
 pub four : (x v w a b c d : Bool) → v ≡ both a b → w ≡ both v c → x ≡ both w d → x ≡ both a (both b (both c d))
 four x v w a b c d p q r = r ∙ ap (λ (y : Bool). both y d) (three w v a b c p q) ∙ both_assoc a (both b c) d ∙ ap (both a) (both_assoc b c d)
 
--- `xs == ws[a..b]`
-pub same_part : (r : Bool) (xs ws : List ℕ) (a b n : ℕ) → r ≡ pointwise eqb xs (between a b ws) → b ≡ a + n → r ≡ eq_words xs (part ws a n)
+-- `xs == ws[a..b]`, where k is b - a
+pub part_words : (xs ws : List ℕ) (a k : ℕ) → pointwise eqb xs (take k (drop a ws)) ≡ eq_words xs (part ws a k)
 unfolding part
-same_part r xs ws a b n e h =
-    let m : b - a ≡ n = omega arith in
-    e ∙ pointwise_words xs (between a b ws) ∙ ap (λ (k : ℕ). eq_words xs (part ws a k)) m
+part_words xs ws a k = pointwise_words xs (take k (drop a ws))

@@ -8,7 +8,7 @@ ghost use Rattle.store.specs.Offices.{need, slot_at, entry_at, settings_ok};
 use frame::entry::Entry;
 
 // Offices 2 to 8, plots 1 to 64, the own office one of the ring.
-#[tactic(auto, unfolding(crate::specs::Offices::settings_ok), using(causal::proofs::Chain::chain))]
+#[tactic(auto, unfolding(crate::specs::Offices::settings_ok, causal::specs::Tests::both), using(std::proofs::lemmas::Bool::Decides::nat_tests))]
 pub fn settings_ok(offices: u32, own: u32, plots: u32) -> bool
     ensures { result ≡ settings_ok offices own plots }
 {

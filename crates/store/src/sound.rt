@@ -11,6 +11,7 @@ use crate::bits::Bits;
 use crate::layout;
 
 // Are the bits of w that are set the lowest ones?
+#[tactic(auto, using(crate::proofs::Gaps::no_gap_lem))]
 fn no_gap(w: u32) -> bool
     ensures { result ≡ no_gap w }
 {
@@ -18,6 +19,7 @@ fn no_gap(w: u32) -> bool
 }
 
 // The rules that single words of a slot say: the slot of serial b + 1 of office i.
+#[tactic(auto, unfolding(crate::specs::Deps::lone_ok, causal::specs::Sets::bit, causal::specs::Tests::both), using(std::proofs::lemmas::Bool::Decides::nat_tests))]
 fn slot_ok(store: &[u32], p: u32, i: usize, b: usize) -> bool
     requires { (slot_at (32 * i + b) + 18 ≤ length store.now) × (i < 8) × (b < 32) }
     ensures { result ≡ lone_ok store.now p i b }
