@@ -13,7 +13,6 @@ pub mod Places
 pub mod Ready
 pub mod Steps
 pub mod Joins
-pub mod Ands
 pub mod Alike
 pub mod Changes
 pub mod SoundChanges
