@@ -1,7 +1,7 @@
 // A line whose end has not come yet: its first 32 bytes, and its length, which stops at 33. The longest proper line has 25 bytes.
 ghost use Rattle.std.specs.Prelude.{◌≡◌, [], ◌≤◌, length};
 ghost use Rattle.script.specs.Lines.{Named};
-ghost use Rattle.script.specs.Pendings.{Takes, pending_of, parsed, is_empty};
+ghost use Rattle.script.specs.Pendings.{Takes, pending_of, parsed, is_empty, pushed};
 
 use crate::line::{Line, parse_line};
 
@@ -9,6 +9,19 @@ use crate::line::{Line, parse_line};
 pub struct Pending {
     pub bytes: [u8; 32],
     pub len: usize,
+}
+
+impl Pending {
+    fn push(&mut self, b: u8)
+        ensures { self.new ≡ pushed self.old b }
+    {
+        if self.len < 32 {
+            self.bytes[self.len] = b;
+            self.len += 1;
+        } else {
+            self.len = 33;
+        }
+    }
 }
 
 pub fn nothing() -> Pending
@@ -24,12 +37,10 @@ pub fn nothing() -> Pending
 pub fn parse(p: Pending) -> Line
     ensures { (result ≡ parsed p) × Named result }
 {
-    let len = p.len;
-    let bytes = p.bytes;
-    if len > 32 {
-        return Line::Other;
+    match p.bytes.get(..p.len) {
+        Some(line) => parse_line(line),
+        None => Line::Other,
     }
-    parse_line(&bytes[..len])
 }
 
 pub fn is_empty(p: Pending) -> bool
@@ -38,6 +49,7 @@ pub fn is_empty(p: Pending) -> bool
     p.len == 0
 }
 
+// All three are read whether a line has ended or not.
 #[derive(Clone, Copy)]
 pub struct Taken {
     pub pending: Pending,
@@ -50,28 +62,20 @@ pub fn take(p: Pending, bytes: &[u8], from: usize) -> Taken
     requires { from ≤ length bytes.now }
     ensures { Takes p bytes.now from result }
 {
-    let mut row = p.bytes;
-    let mut len = p.len;
-    let mut i = from;
-    while i < bytes.len() {
-        if bytes[i] == 10 {
+    let mut pending = p;
+    for (i, b) in bytes[from..].iter().enumerate() {
+        if *b == b'\n' {
             return Taken {
-                pending: Pending { bytes: row, len },
-                next: i + 1,
+                pending,
+                next: from + i + 1,
                 ended: true,
             };
         }
-        if len >= 32 {
-            len = 33;
-        } else {
-            row[len] = bytes[i];
-            len += 1;
-        }
-        i += 1;
+        pending.push(*b);
     }
     Taken {
-        pending: Pending { bytes: row, len },
-        next: i,
+        pending,
+        next: bytes.len(),
         ended: false,
     }
 }
