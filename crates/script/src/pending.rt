@@ -12,10 +12,11 @@ pub struct Pending {
 }
 
 impl Pending {
+    #[tactic(auto, using(crate::proofs::Pendings::push_short, crate::proofs::Pendings::push_long))]
     fn push(&mut self, b: u8)
         ensures { self.new ≡ pushed self.old b }
     {
-        if self.len < 32 {
+        if self.len < self.bytes.len() {
             self.bytes[self.len] = b;
             self.len += 1;
         } else {
@@ -24,6 +25,7 @@ impl Pending {
     }
 }
 
+#[tactic(auto, unfolding(crate::specs::Pendings::pending_of))]
 pub fn nothing() -> Pending
     ensures { result ≡ pending_of [] }
 {
@@ -34,6 +36,7 @@ pub fn nothing() -> Pending
 }
 
 // The line that it is.
+#[tactic(auto, using(crate::proofs::Lines::line_named), unfolding(crate::specs::Pendings::parsed))]
 pub fn parse(p: Pending) -> Line
     ensures { (result ≡ parsed p) × Named result }
 {
@@ -43,6 +46,7 @@ pub fn parse(p: Pending) -> Line
     }
 }
 
+#[tactic(auto, unfolding(crate::specs::Pendings::is_empty))]
 pub fn is_empty(p: Pending) -> bool
     ensures { result ≡ is_empty p }
 {
