@@ -1,0 +1,21 @@
+use Rattle.std.proofs.Common.{◌≡◌, ◌%◌, ◌+◌, ap, length, arith, rules}
+use Rattle.script.proofs.Decimals.{decimal_small, decimal_more, one_more}
+use Rattle.script.proofs.Puts.{put_then, put_one}
+use Rattle.script.proofs.put.Row.+decimal.Goals as goal
+use Rattle.script.proofs.put.Row.+decimal.Goals.{then-v-gt9, else-v-gt9}
+
+pub decimal-requires : goal.decimal-requires
+decimal-requires t c = (omega (arith, c.decreases), omega (arith, one_more c.args.v c.if-v-gt9.true))
+
+pub text-requires : goal.text-requires
+text-requires t c = elim c.if-v-gt9.branch [
+  | then-v-gt9 w ↦ rw w.self-is (omega (arith, one_more c.args.v w.if-v-gt9.true, w.decimal.ensures.puts.ends, w.decimal.ensures.room))
+  | else-v-gt9 w ↦ rw w.self-is (omega (arith, ap length (decimal_small c.args.v (omega arith))))
+]
+
+pub returns-clause-puts : goal.returns-clause-puts
+returns-clause-puts t c = elim c.if-v-gt9.branch [
+  | then-v-gt9 w ↦ rw (decimal_more c.args.v w.if-v-gt9.true) (put_then w.decimal.ensures.puts (rw w.self-is at c.text.ensures.puts))
+  | else-v-gt9 w ↦ let e : c.args.v % 10 ≡ c.args.v = omega arith in
+    rw (decimal_small c.args.v (omega arith)) (rw (w.self-is, e) at c.text.ensures.puts)
+]
