@@ -1,21 +1,17 @@
--- The line of a letter and one, two or three fields, by the numbers that the fields write; and the fields of a line, as the code has them. Assumes nothing.
-use Rattle.std.proofs.Common.{◌≡◌, ℕ, ◌<◌, Bool, true, false, cond, eqb, ltb, List, [], ◌∷◌, length, Option, Some, None, unwrap_or, option_map, option_and_then, refl, sym, ap, ◌∙◌, arith}
-use Rattle.std.proofs.lemmas.Bool.{ne_eqb, eqb-true, ltb-true}
+-- A line whose first field is no letter, a field that is below a number or not, and what a line names. Assumes nothing.
+use Rattle.std.proofs.Common.{◌≡◌, ℕ, ◌<◌, Bool, true, false, cond, eqb, ltb, List, [], ◌∷◌, length, Some, None, refl}
+use Rattle.std.proofs.lemmas.Bool.{ltb-true}
 use Rattle.std.proofs.lemmas.Option.{cond_some}
 use Rattle.causal.specs.Tests.{both}
 use Rattle.causal.specs.Lists.{eq_words}
-use Rattle.causal.proofs.Tests.{both_true, both_false, both_one, false_true}
-use Rattle.script.specs.Fields.{fields, in_front, is_below, proper, value_of}
+use Rattle.causal.proofs.Tests.{both_true, both_false}
+use Rattle.script.specs.Fields.{fields, is_below, proper, value_of}
 use Rattle.script.specs.Lines.{Named, is, line_in, line_of}
-use Rattle.script.specs.Steps.{below_of, number_of}
+use Rattle.script.specs.Steps.{below_of}
 use Rattle.script.specs.declared.line.Line.{Line}
 use Rattle.script.specs.declared.line.Line.TheVariants.{Write, Read, Move, Receive, Other}
 
 -- ---- the letter
-
-letter_is : (b k : ℕ) → is b (k ∷ []) ≡ eqb k b
-unfolding eq_words
-letter_is b k = both_one (eqb k b)
 
 no_letter : (b : ℕ) (k : List ℕ) → (length k ≡ 1 → ⊥) → is b k ≡ false
 unfolding eq_words

@@ -1,5 +1,5 @@
 -- Laws of the numbers of fields: what is read byte by byte is the number of the definition. Assumes nothing.
-use Rattle.std.proofs.Common.{◌≡◌, ℕ, ◌+◌, ◌-◌, ◌*◌, ◌<◌, ◌≤◌, Bool, true, false, cond, eqb, leb, ltb, List, [], ◌∷◌, length, slice_get, Option, Some, ◌⊎◌, ⊎_elim, None, refl, ap, ◌∙◌, sym, arith}
+use Rattle.std.proofs.Common.{◌≡◌, ℕ, ◌+◌, ◌-◌, ◌*◌, ◌<◌, ◌≤◌, Bool, true, false, cond, leb, ltb, List, [], ◌∷◌, length, slice_get, Option, Some, ◌⊎◌, ⊎_elim, None, refl, ◌∙◌, sym, arith}
 use mathlib.Core.List.{foldl}
 use Rattle.std.proofs.lemmas.Bool.{lt-ltb, le-ltb, ltb-false, ltb-true, le-leb, eq-eqb, ne_eqb}
 use Rattle.std.proofs.lemmas.Option.{cond_some}
@@ -12,7 +12,7 @@ pub digit_is : (b : ℕ) → 48 ≤ b → b ≤ 57 → is_digit b ≡ true
 unfolding is_digit
 digit_is b p q = both_intro (leb 48 b) (leb b 57) (le-leb 48 b p) (le-leb b 57 q)
 
-pub value_grows : (v : ℕ) (f : List ℕ) → v ≤ foldl with_digit v f
+value_grows : (v : ℕ) (f : List ℕ) → v ≤ foldl with_digit v f
 value_grows v [] = omega arith
 value_grows v (b ∷ f) = omega (arith, value_grows (10 * v + (b - 48)) f)
 

@@ -1,4 +1,6 @@
 // A line of a script: what it asks for.
+#![tactic(auto, using(crate::proofs::Lines::below_no, crate::proofs::Lines::below_yes), unfolding(crate::specs::Lines::line_in, crate::specs::Steps::number_of, causal::specs::Tests::both, causal::specs::Lists::eq_words))]
+
 ghost use Rattle.std.specs.Prelude.{◌≡◌, ◌∷◌, [], unwrap_or};
 ghost use Rattle.script.specs.Lines.{line_in, line_of};
 
@@ -23,7 +25,6 @@ pub enum Line {
 }
 
 // A letter and one field.
-#[tactic(auto, using(crate::proofs::Lines::below_no, crate::proofs::Lines::below_yes), unfolding(crate::specs::Lines::line_in, crate::specs::Steps::number_of, causal::specs::Tests::both, causal::specs::Lists::eq_words))]
 fn one(letter: u8, office: &[u8]) -> Option<Line>
     ensures { unwrap_or result Line.Other ≡ line_in ((letter ∷ []) ∷ office.now ∷ []) }
 {
@@ -34,7 +35,6 @@ fn one(letter: u8, office: &[u8]) -> Option<Line>
 }
 
 // A letter and two fields.
-#[tactic(auto, using(crate::proofs::Lines::below_no, crate::proofs::Lines::below_yes), unfolding(crate::specs::Lines::line_in, crate::specs::Steps::number_of, causal::specs::Tests::both, causal::specs::Lists::eq_words))]
 fn two(letter: u8, s: &[u8], x: &[u8]) -> Option<Line>
     ensures { unwrap_or result Line.Other ≡ line_in ((letter ∷ []) ∷ s.now ∷ x.now ∷ []) }
 {
@@ -46,7 +46,6 @@ fn two(letter: u8, s: &[u8], x: &[u8]) -> Option<Line>
 }
 
 // A letter and three fields.
-#[tactic(auto, using(crate::proofs::Lines::below_no, crate::proofs::Lines::below_yes), unfolding(crate::specs::Lines::line_in, crate::specs::Steps::number_of, causal::specs::Tests::both, causal::specs::Lists::eq_words))]
 fn three(letter: u8, s: &[u8], plot: &[u8], value: &[u8]) -> Option<Line>
     ensures { unwrap_or result Line.Other ≡ line_in ((letter ∷ []) ∷ s.now ∷ plot.now ∷ value.now ∷ []) }
 {
@@ -56,7 +55,7 @@ fn three(letter: u8, s: &[u8], plot: &[u8], value: &[u8]) -> Option<Line>
     }
 }
 
-// What a line that is none of the others asks for.
+// What the line asks for; None for any other line.
 fn asked(bytes: &[u8]) -> Option<Line>
     ensures { unwrap_or result Line.Other ≡ line_of bytes.now }
 {

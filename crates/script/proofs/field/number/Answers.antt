@@ -1,4 +1,4 @@
-use Rattle.std.proofs.Common.{arith, ◌≡◌, ◌≤◌, ◌∙◌, sym, length}
+use Rattle.std.proofs.Common.{arith, ◌∙◌, sym}
 use Rattle.std.proofs.lemmas.List.{at_drop_more, at_drop_all}
 use Rattle.script.proofs.Numbers.{behind, behind_none, behind_digit, digit_below, behind_stop, no_first, zero_first, whole_number}
 use Rattle.script.proofs.field.number.Goals as goal

@@ -1,5 +1,4 @@
-use Rattle.std.proofs.Common.{append_assoc}
-use Rattle.script.specs.Replies.{reply_bytes, name_bytes, numbered}
+use Rattle.script.specs.Replies.{reply_bytes, numbered}
 use Rattle.script.proofs.Puts.{put_then}
 use Rattle.script.proofs.put.Row.reply.Goals as goal
 use Rattle.script.proofs.put.Row.reply.Goals.{in-Wrote, in-Found, in-NoEntry, in-Moved, in-Received, in-NoFrame, in-Refused, in-Full, in-Odd}
