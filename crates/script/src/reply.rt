@@ -1,8 +1,8 @@
 // The reply to a line of a script, with a newline behind it.
 ghost use Rattle.std.specs.Prelude.{◌≡◌, ◌+◌, ◌≤◌, length};
 ghost use Rattle.std.proofs.lemmas.List.Edits.{sets};
-ghost use Rattle.script.specs.Puts.{Put};
 ghost use Rattle.script.specs.Replies.{reply_bytes};
+ghost use Rattle.script.specs.Steps.{Puts};
 
 use crate::put::Row;
 
@@ -32,9 +32,8 @@ impl Row<'_> {
     #[tactic(auto, using(crate::proofs::Decimals::ten_enough, crate::proofs::Decimals::name_length))]
     fn reply(&mut self, reply: Reply)
         requires { self.old.at + 40 ≤ length self.old.out.now }
-        ensures same { self.new.out.ghost_name ≡ self.old.out.ghost_name }
+        ensures puts { Puts self.old (reply_bytes reply) self.new }
         ensures short { self.new.at ≤ self.old.at + 40 }
-        ensures puts { Put self.old.out.now self.old.at (reply_bytes reply) self.new.out.now self.new.at }
     {
         match reply {
             Reply::Wrote(o, s) => {

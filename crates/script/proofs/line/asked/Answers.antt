@@ -28,7 +28,7 @@ returns-in-None-default-default c =
     let a = first_field _ _ c.args.bytes.now c.split-fields.ensures.rest c.split-fields.ensures.done c.split-fields.ensures.closure c.next.ensures.steps c.in_ok-next.was (λ x b q k. search (rules, tests)) in
     let b = next_some a.2 c.next-2.ensures.steps c.in_ok-first.was in
     let n = c.in-None-default-default in
-    rw (a.1, b.1, next_none b.2 c.next-3.ensures.steps n.is-0, one_byte c.in_ok-next.field-0.now (omega arith)) c.one.ensures
+    rw (a.1, b.1, next_none {all = b.0} b.2 c.next-3.ensures.steps n.is-0, one_byte c.in_ok-next.field-0.now (omega arith)) c.one.ensures
 
 pub returns-in-Some-None-default : goal.returns-in-Some-None-default
 unfolding line_of

@@ -1,7 +1,7 @@
 use Rattle.script.specs.Replies.{name_bytes}
-use Rattle.script.proofs.Puts.{put_then}
+use Rattle.script.proofs.Puts.{puts_then}
 use Rattle.script.proofs.put.Row.name.Goals as goal
 
-pub returns-clause-puts : goal.returns-clause-puts
+pub returns : goal.returns
 unfolding name_bytes
-returns-clause-puts c = put_then c.decimal.ensures.puts (put_then c.text.ensures.puts c.decimal-2.ensures.puts)
+returns c = puts_then c.decimal.ensures (puts_then c.text.ensures c.decimal-2.ensures)

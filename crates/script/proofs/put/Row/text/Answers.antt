@@ -1,6 +1,10 @@
-use Rattle.std.proofs.Common.{arith}
+use Rattle.std.proofs.Common.{ap, length, refl, ◌∙◌, arith}
+use Rattle.std.proofs.Math.Seq.{length-sets}
 use Rattle.script.proofs.Puts.{put_part}
 use Rattle.script.proofs.put.Row.text.Goals as goal
 
-pub returns-clause-puts : goal.returns-clause-puts
-returns-clause-puts c = put_part c.args.self.now.out.now c.args.self.now.at _ c.args.text.now _ c.requires (omega arith) c.copy_from_slice.ensures.after
+pub returns : goal.returns
+returns c =
+    let row = c.args.self.now in
+    let e = put_part row.out.now row.at _ c.args.text.now _ c.requires (omega arith) c.copy_from_slice.ensures.after in
+    record { same = refl; room = ap length e ∙ length-sets row.out.now row.at c.args.text.now; put = record { ends = refl; holds = e } }
