@@ -21,7 +21,8 @@ pub enum Stay {
 }
 
 impl From<Refusal> for Stay {
-    ghost from_gives = { λ refusal stay. stay ≡ Stay.Refused refusal };
+    ghost use Rattle.player.specs.declared.ahead.Stay.TheVariants.{Refused};
+    ghost from_gives = { λ refusal stay. stay ≡ Refused refusal };
 
     fn from(refusal: Refusal) -> Stay {
         Stay::Refused(refusal)
@@ -31,6 +32,7 @@ impl From<Refusal> for Stay {
 impl From<Stay> for Reply {
     ghost from_gives = { λ stay reply. reply ≡ stay_reply stay };
 
+    #[tactic(auto, unfolding(crate::specs::Steps::stay_reply))]
     fn from(stay: Stay) -> Reply {
         match stay {
             Stay::Full => Reply::Full,

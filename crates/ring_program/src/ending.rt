@@ -7,75 +7,44 @@ ghost use Rattle.ring_program.specs.Fed.{Staged, desk_of};
 ghost use Rattle.ring_program.specs.Promises.{Closes};
 
 use crate::feed::{Stage, finish};
-use crate::input::Chunk;
 use crate::output::write_all;
+use std::io;
 use std::io::{Stderr, Stdout};
 
-#[derive(Clone, Copy)]
-pub enum Ending {
-    Done, // at the input's end
-    ReadFailed,
-    WriteFailed,
-    TooLong, // after more bytes than a number of 64 bits counts
+// Why the program ends before the input does, or with replies that were not taken.
+#[derive(Clone, Copy, Debug, PartialEq, Eq)]
+pub enum Failure {
+    Read,
+    Write,
+    TooLong, // more bytes than a number of 64 bits counts
 }
 
-#[derive(Clone, Copy)]
-pub struct Closed {
-    pub ending: Ending,
-    pub stage: Stage,
-}
-
-// The last chunk, which has no bytes. At the input's end what is pending is the last line; before a failed read it may be half a line, and is
-// not played.
+// No more bytes come, by what the last read said. At the input's end what is pending is the last line; before a failed read it may be half a line,
+// and is not played.
 pub fn close(
+    said: io::Result<usize>,
     stdout: Stdout,
-    stage: Stage,
-    chunk: Chunk,
+    stage: &mut Stage,
     stores: &mut [u32],
     lines: &mut [u32],
     out: &mut [u32],
     text: &mut [u8],
-) -> Closed
-    requires { (length out.old ≡ 1751) × (length text.old ≡ 8192) × (stage.at ≡ 0) × Staged stage stores.old lines.old × (stage.wrote ≡ true) }
-    ensures { (g : Scene) (l : List ℕ) → Shows g (desk_of stage) stores.old lines.old → stage.pending ≡ pending_of l → Closes result.ending chunk.failed g l text.old result.stage stores.new lines.new text.new }
+) -> Result<(), Failure>
+    requires { (length out.old ≡ 1751) × (length text.old ≡ 8192) × (stage.old.at ≡ 0) × Staged stage.old stores.old lines.old × (stage.old.wrote ≡ true) }
+    ensures { (g : Scene) (l : List ℕ) → Shows g (desk_of stage.old) stores.old lines.old → stage.old.pending ≡ pending_of l → Closes result said g l text.old stage.new stores.new lines.new text.new }
 {
-    if chunk.failed {
-        return Closed {
-            ending: Ending::ReadFailed,
-            stage,
-        };
+    if said.is_err() {
+        return Err(Failure::Read);
     }
-    let last = finish(stdout, stage, stores, lines, out, text);
-    if last.wrote {
-        return Closed {
-            ending: Ending::Done,
-            stage: last,
-        };
-    }
-    Closed {
-        ending: Ending::WriteFailed,
-        stage: last,
-    }
+    finish(stdout, stage, stores, lines, out, text)
 }
 
 // A failure is said on standard error, and the exit status is 0 however the program ends.
-pub fn say(mut stderr: Stderr, ending: Ending) {
-    match ending {
-        Ending::Done => {}
-        Ending::ReadFailed => {
-            write_all(
-                &mut stderr,
-                b"ring_program: standard input cannot be read\n",
-            );
-        }
-        Ending::WriteFailed => {
-            write_all(
-                &mut stderr,
-                b"ring_program: standard output cannot be written\n",
-            );
-        }
-        Ending::TooLong => {
-            write_all(&mut stderr, b"ring_program: standard input is too long\n");
-        }
-    }
+pub fn say(mut stderr: Stderr, failure: Failure) {
+    let text: &[u8] = match failure {
+        Failure::Read => b"ring_program: standard input cannot be read\n",
+        Failure::Write => b"ring_program: standard output cannot be written\n",
+        Failure::TooLong => b"ring_program: standard input is too long\n",
+    };
+    let _ = write_all(&mut stderr, text);
 }
