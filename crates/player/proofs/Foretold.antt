@@ -1,5 +1,5 @@
 -- What is said ahead of a call. Assumes nothing.
-use Rattle.std.proofs.Common.{Err, Ok, Result, IfOk}
+use Rattle.std.proofs.Common.{Err, IfOk, Ok, Result}
 use Prim.Native.Nat.{ℕ, suc, zero, ◌-◌, ◌<◌, ◌≤◌}
 use mathlib.Core.Bool.{Bool, cond, false, true}
 use mathlib.Core.List.{List, [], ◌∷◌}
@@ -52,8 +52,8 @@ module _ (ws : List ℕ) (n : get_or ws 0 0 ≡ 3) (s : Session) (plot value : �
       absurd (write_never ws n (content_of s) plot value row long (sym (ap (λ (r : Reply). r.code) (write_late ws s plot value row z l).0))))
       (λ (l : length (rows_of (write_sends (office_of ws) (content_of s) plot value)) ≤ length row).
       sym (ap (λ (r : Reply). r.code)
-      (write_done ws s plot value row z _ _ _ _ (part ws 3 8) (new_entry (office_of ws) (content_of s) plot value) refl refl
-      (omega (arith, ap length (row_left ws s plot value (part ws 3 8) (new_entry (office_of ws) (content_of s) plot value) refl refl))) refl refl refl refl).0))
+      (write_done ws s plot value row z _ _ _ _ (part ws 3 8) (content_of s).own (new_entry (office_of ws) (content_of s) plot value) refl refl refl
+      (omega (arith, ap length (row_left ws s plot value (part ws 3 8) (content_of s).own (new_entry (office_of ws) (content_of s) plot value) refl refl refl))) refl refl refl refl).0))
       (lt_or_le (length row) (length (rows_of (write_sends (office_of ws) (content_of s) plot value))))
 
   -- what the forecast said of an equal store

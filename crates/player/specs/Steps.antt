@@ -25,21 +25,21 @@ Foretells code sent waiting (Err Full) = (code ≡ 0) × (32 < waiting + sent)
 Foretells code sent waiting (Err (Refused x)) = code ≡ number_of x
 
 -- the reply where all stays
-unfoldable pub stay_reply : Stay → Reply
+abbrev pub stay_reply : Stay → Reply
 stay_reply Full = FullReply
 stay_reply (Refused x) = RefusedReply (number_of x)
 
-unfoldable pub entry_reply : Option Entry → Reply
+abbrev pub entry_reply : Option Entry → Reply
 entry_reply (Some e) = FoundEntry e.value e.office e.serial
 entry_reply None = NoEntry
 
 -- the session after a reading, by what it has seen
-unfoldable pub after_read : Session → Option Seen → Session
+abbrev pub after_read : Session → Option Seen → Session
 after_read s (Some x) = with_seen s x
 after_read s None = s
 
 -- the session after a write, by the entry that was made
-unfoldable pub after_write : Session → Option Entry → Session
+abbrev pub after_write : Session → Option Entry → Session
 after_write s (Some e) = extended_by s e
 after_write s None = s
 
@@ -60,12 +60,12 @@ abbrev pub Few : Session → Result (Board × Entry) Stay → Type 0
 Few s r = IsOk r → s.count < 16
 
 -- what session i, which is s, has played by a write
-unfoldable pub written : List Session → ℕ → Session → Board → Result (Board × Entry) Stay → Played
+abbrev pub written : List Session → ℕ → Session → Board → Result (Board × Entry) Stay → Played
 written ss i s b (Ok (b', e)) = record { desk = desk (set ss i (extended_by s e)) b'; reply = Wrote e.office e.serial }
 written ss i s b (Err x) = record { desk = desk (set ss i s) b; reply = stay_reply x }
 
 -- what the office o has played by a hearing
-unfoldable pub received : List Session → ℕ → Board → Result Board Stay → Played
+abbrev pub received : List Session → ℕ → Board → Result Board Stay → Played
 received ss o b (Ok b') = record { desk = desk ss b'; reply = Received (count_at (desk ss b) o - 1) }
 received ss o b (Err x) = record { desk = desk ss b; reply = stay_reply x }
 

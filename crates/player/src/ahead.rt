@@ -32,7 +32,6 @@ impl From<Refusal> for Stay {
 impl From<Stay> for Reply {
     ghost from_gives = { λ stay reply. reply ≡ stay_reply stay };
 
-    #[tactic(auto, unfolding(crate::specs::Steps::stay_reply))]
     fn from(stay: Stay) -> Reply {
         match stay {
             Stay::Full => Reply::Full,

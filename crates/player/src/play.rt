@@ -116,7 +116,6 @@ pub fn read_at(stores: &mut [u32], office: usize, s: &Session, plot: u32) -> Res
     reading::read::see_plot(&mut stores[from..end], s, plot)
 }
 
-#[tactic(auto, unfolding(crate::specs::Steps::entry_reply))]
 pub fn reply_of(found: Option<Entry>) -> Reply
     ensures { result ≡ entry_reply found }
 {

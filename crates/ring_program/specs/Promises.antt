@@ -1,7 +1,6 @@
 -- What the program has done when it ends. Paper 01, "The ring program": "It reads standard input". No contract can say which bytes come, so there are
 -- some, as many as were counted; all that the program shows is what these lead to. Assumes nothing.
-use Rattle.std.specs.Prelude.{ℕ, ◌+◌, ◌<◌, Err, IsErr, List, Ok, Result, [], ◌⊎◌, ◌≡◌, false, length, take, true, ⊤}
-use Rattle.std.specs.Io.{Error}
+use Rattle.std.specs.Prelude.{ℕ, ◌+◌, ◌<◌, Err, IsErr, IsOk, List, Ok, Result, [], ◌⊎◌, ◌≡◌, false, length, take, true, ⊤}
 use Rattle.script.specs.Pendings.{pending_of}
 use Rattle.player.specs.Play.{Scene, opening}
 use Rattle.player.specs.Shows.{Shows, stores_in}
@@ -14,10 +13,10 @@ use Rattle.ring_program.specs.Fed.{Finishes, Leads, desk_of, fed}
 
 -- no more bytes come, with the bytes l of a line pending, by what the last read said: at the input's end it is the last line; where the read failed it
 -- is not played, since it may be half a line
-abbrev pub Closes : Result ⊤ Failure → Result ℕ Error → Scene → List ℕ → List ℕ → Stage → List ℕ → List ℕ → List ℕ → Type 0
-Closes (Ok _) said g l text r stores lines text' = (is_err said ≡ false) × (r.wrote ≡ true) × Finishes g l text r stores lines text'
-Closes (Err Write) said g l text r stores lines text' = (is_err said ≡ false) × (r.wrote ≡ false) × Finishes g l text r stores lines text'
-Closes (Err Read) said g l text r stores lines text' = (is_err said ≡ true) × (r.wrote ≡ true) × Leads (record { scene = g; rest = l; text = [] }) r stores lines × (text' ≡ text)
+abbrev pub Closes : {E : Type 0} → Result ⊤ Failure → Result ℕ E → Scene → List ℕ → List ℕ → Stage → List ℕ → List ℕ → List ℕ → Type 0
+Closes (Ok _) said g l text r stores lines text' = IsOk said × (r.wrote ≡ true) × Finishes g l text r stores lines text'
+Closes (Err Write) said g l text r stores lines text' = IsOk said × (r.wrote ≡ false) × Finishes g l text r stores lines text'
+Closes (Err Read) said g l text r stores lines text' = IsErr said × (r.wrote ≡ true) × Leads (record { scene = g; rest = l; text = [] }) r stores lines × (text' ≡ text)
 Closes (Err TooLong) said g l text r stores lines text' = ⊥
 
 -- the end that the input's end leads to: all lines are played, the last one with or without a newline

@@ -7,7 +7,7 @@ ghost use Rattle.ring_program.specs.Fed.{Staged, desk_of};
 ghost use Rattle.ring_program.specs.Promises.{Closes};
 
 use crate::feed::{Stage, finish};
-use crate::output::write_all;
+use crate::output::{Untaken, write_all};
 use std::io;
 use std::io::{Stderr, Stdout};
 
@@ -17,6 +17,15 @@ pub enum Failure {
     Read,
     Write,
     TooLong, // more bytes than a number of 64 bits counts
+}
+
+impl From<Untaken> for Failure {
+    ghost use Rattle.ring_program.specs.declared.ending.Failure.TheVariants.{Write};
+    ghost from_gives = { λ _ failure. failure ≡ Write };
+
+    fn from(_untaken: Untaken) -> Failure {
+        Failure::Write
+    }
 }
 
 // No more bytes come, by what the last read said. At the input's end what is pending is the last line; before a failed read it may be half a line,
@@ -36,7 +45,8 @@ pub fn close(
     if said.is_err() {
         return Err(Failure::Read);
     }
-    finish(stdout, stage, stores, lines, out, text)
+    finish(stdout, stage, stores, lines, out, text)?;
+    Ok(())
 }
 
 // A failure is said on standard error, and the exit status is 0 however the program ends.

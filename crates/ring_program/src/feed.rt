@@ -8,11 +8,10 @@ ghost use Rattle.player.specs.Shows.{Shows, Shown};
 ghost use Rattle.player.specs.Steps.{Plays};
 ghost use Rattle.ring_program.specs.Fed.{Finishes, Follows, Leads, Staged, desk_of, emptied, fed};
 
-use crate::ending::Failure;
-use crate::output::write_all;
+use crate::output::{Untaken, write_all};
 use frame::session::Session;
 use office::note::set_seen;
-use player::board::Board;
+use player::board::{Board, BoardTurn};
 use player::play::{play_other, read_line, write_line};
 use script::line::Line;
 use script::pending::{Pending, is_empty, nothing, parse, take};
@@ -63,9 +62,9 @@ fn play(
             turn.reply
         }
         _ => {
-            let turn = play_other(stage.board, line, stores, lines, out);
-            stage.board = turn.board;
-            turn.reply
+            let BoardTurn { board, reply } = play_other(stage.board, line, stores, lines, out);
+            stage.board = board;
+            reply
         }
     }
 }
@@ -103,7 +102,7 @@ pub fn feed_some(
 }
 
 // The text goes out: the one place that writes replies.
-pub fn write_out(mut stdout: Stdout, stage: &mut Stage, text: &[u8]) -> Result<(), Failure>
+pub fn write_out(mut stdout: Stdout, stage: &mut Stage, text: &[u8]) -> Result<(), Untaken>
     requires { stage.old.at ≤ length text.now }
     ensures { stage.new ≡ emptied stage.old (is_ok result) }
 {
@@ -122,7 +121,7 @@ pub fn feed_all(
     lines: &mut [u32],
     out: &mut [u32],
     text: &mut [u8],
-) -> Result<(), Failure>
+) -> Result<(), Untaken>
     requires { (length out.old ≡ 1751) × (length text.old ≡ 8192) × (stage.old.at ≡ 0) × Staged stage.old stores.old lines.old × (stage.old.wrote ≡ true) }
     ensures { (stage.new.at ≡ 0) × (stage.new.wrote ≡ is_ok result)
         × ((next : ℕ) × (next ≤ length bytes.now) × (IsOk result → next ≡ length bytes.now) × ((g : Scene) (l : List ℕ) → Shows g (desk_of stage.old) stores.old lines.old → stage.old.pending ≡ pending_of l → Leads (fed g l (part bytes.now 0 next)) stage.new stores.new lines.new)) }
@@ -151,7 +150,7 @@ pub fn finish(
     lines: &mut [u32],
     out: &mut [u32],
     text: &mut [u8],
-) -> Result<(), Failure>
+) -> Result<(), Untaken>
     requires { (length out.old ≡ 1751) × (length text.old ≡ 8192) × (stage.old.at ≡ 0) × Staged stage.old stores.old lines.old × (stage.old.wrote ≡ true) }
     ensures { (stage.new.wrote ≡ is_ok result)
         × ((g : Scene) (l : List ℕ) → Shows g (desk_of stage.old) stores.old lines.old → stage.old.pending ≡ pending_of l → Finishes g l text.old stage.new stores.new lines.new text.new) }
