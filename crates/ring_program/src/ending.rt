@@ -7,7 +7,8 @@ ghost use Rattle.ring_program.specs.Fed.{Staged, desk_of};
 ghost use Rattle.ring_program.specs.Promises.{Closes};
 
 use crate::feed::{Stage, finish};
-use crate::output::{Untaken, write_all};
+use crate::output::Untaken;
+use std::fmt;
 use std::io;
 use std::io::{Stderr, Stdout};
 
@@ -17,6 +18,16 @@ pub enum Failure {
     Read,
     Write,
     TooLong, // more bytes than a number of 64 bits counts
+}
+
+impl fmt::Display for Failure {
+    fn fmt<W: fmt::Write>(&self, f: &mut fmt::Formatter<W>) -> fmt::Result {
+        f.write_str(match self {
+            Failure::Read => "ring_program: standard input cannot be read",
+            Failure::Write => "ring_program: standard output cannot be written",
+            Failure::TooLong => "ring_program: standard input is too long",
+        })
+    }
 }
 
 impl From<Untaken> for Failure {
@@ -50,11 +61,6 @@ pub fn close(
 }
 
 // A failure is said on standard error, and the exit status is 0 however the program ends.
-pub fn say(mut stderr: Stderr, failure: Failure) {
-    let text: &[u8] = match failure {
-        Failure::Read => b"ring_program: standard input cannot be read\n",
-        Failure::Write => b"ring_program: standard output cannot be written\n",
-        Failure::TooLong => b"ring_program: standard input is too long\n",
-    };
-    let _ = write_all(&mut stderr, text);
+pub fn say(stderr: Stderr, failure: Failure) {
+    let _ = stderr.eprintln(failure);
 }
