@@ -130,11 +130,7 @@ pub fn frame_ok(n: u32, p: u32, f: &Frame) -> bool
 pub fn id_of(e: &Entry) -> usize
     ensures { result ≡ id_of e.now }
 {
-    let first = 32 * e.office as usize;
-    if e.serial < 1 {
-        return first;
-    }
-    first + (e.serial - 1) as usize
+    32 * e.office as usize + e.serial.saturating_sub(1) as usize
 }
 
 // Have two entries the same content?
