@@ -3,7 +3,7 @@ use Rattle.std.proofs.lemmas.Bool.Decides.{nat_tests}
 use borrow.Author.Tests.{not-true, not-false}
 use Rattle.std.specs.List.{list_all, zip}
 use Rattle.std.proofs.lemmas.Fn.{fold_over, fronts}
-use Rattle.std.proofs.lemmas.Iterator.{YieldsList, YieldsList-from_slice, YieldsList-from_zip, zips}
+use Rattle.std.proofs.lemmas.Iterator.{YieldsList-from_slice, YieldsList-from_zip, zips}
 use Rattle.causal.specs.Tests.{both}
 use Rattle.causal.proofs.Tests.{both_one}
 use Rattle.frame.specs.Reading.{next_ok}
@@ -19,9 +19,9 @@ returns-then-not-kind_is c =
     let ws = c.args.ws.now in
     let some : 0 < length ws = grind (arith, nat_tests) in
     elim c.then-not-kind_is.branch [
-      then-not-kind_is-via-then-not-kind_is w ↦ first_wrong c.args.n ws some (sym c.kind_is.ensures ∙ not-true _ w.if-not-kind_is.true-raw)
-    | then-not-kind_is-via-else-not-kind_is+then-not-kind_is-2 w ↦ last_wrong c.args.n ws some (sym w.kind_is-else-not-kind_is.ensures ∙ not-true _ w.if-not-kind_is-2.true-raw)
-    | then-not-kind_is-via-else-not-kind_is+else-not-kind_is-2+then-last-n w ↦ office_wrong c.args.n ws some w.if-last-n.true
+      | then-not-kind_is-via-then-not-kind_is w ↦ first_wrong c.args.n ws some (sym c.kind_is.ensures ∙ not-true _ w.if-not-kind_is.true-raw)
+      | then-not-kind_is-via-else-not-kind_is+then-not-kind_is-2 w ↦ last_wrong c.args.n ws some (sym w.kind_is-else-not-kind_is.ensures ∙ not-true _ w.if-not-kind_is-2.true-raw)
+      | then-not-kind_is-via-else-not-kind_is+else-not-kind_is-2+then-last-n w ↦ office_wrong c.args.n ws some w.if-last-n.true
     ]
 
 pub returns : goal.returns
