@@ -10,6 +10,7 @@ use types.Logic.{Logic}
 use seplogic.Ra.Ura.{Ura}
 use prog.Memory.{Memory}
 use prog.Routine.{Routine}
+use Rattle.frame.specs.declared.refusal.Refusal.{Refusal}
 use Rattle.frame.specs.Refusals.{code_of, reply_of}
 use Rattle.frame.specs.Sessions.{fresh_content, session_of}
 use Rattle.frame.specs.declared.refusal.Refusal.{Refusal}
