@@ -13,7 +13,6 @@ use prog.Routine.{Routine}
 use Rattle.frame.specs.declared.refusal.Refusal.{Refusal}
 use Rattle.frame.specs.Refusals.{code_of, reply_of}
 use Rattle.frame.specs.Sessions.{fresh_content, session_of}
-use Rattle.frame.specs.declared.refusal.Refusal.{Refusal}
 use Rattle.frame.specs.declared.session.Session.{Session}
 use Rattle.frame.proofs.Contract.{MutRow, One, Row}
 use Rattle.office.specs.Promises.{FreshPromise, NeedPromise, OpenPromise, SettingsPromise}

@@ -1,6 +1,6 @@
 -- To read one plot: what code decides and does is what Calls says. Assumes nothing.
 use Rattle.std.proofs.Common.{Err, None, Ok, Result, Some}
-use Rattle.std.specs.Option.{option_unwrap_or}
+use Rattle.std.specs.Option.{unwrap_or}
 use Rattle.std.specs.Prelude.{is_some}
 use Rattle.std.specs.Result.{IsErrAnd}
 use Prim.Native.Nat.{ℕ, zero, suc, ◌^◌, ◌<◌, ◌≤◌}
@@ -42,7 +42,7 @@ unfolding any_found
 found_any None = refl
 found_any (Some e) = refl
 
-found_entry : (f : Found) → option_unwrap_or f blank_entry ≡ entry_found (f ∷ [])
+found_entry : (f : Found) → unwrap_or f blank_entry ≡ entry_found (f ∷ [])
 unfolding entry_found
 found_entry None = refl
 found_entry (Some e) = refl
