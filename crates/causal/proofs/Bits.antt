@@ -5,7 +5,10 @@ use Prim.Native.Nat.{ℕ, zero, suc, ◌-◌, ◌*◌, ◌/◌, ◌%◌, ◌^◌
 use native.Mathlib.Nat.{zero-div, pow-suc, one-mul, mod-eq_of_lt, not-suc-le-zero, le_of_suc-le-suc}
 use native.Mathlib.Numerals.{one-add}
 use native.Mathlib.Omega.{arith}
-use lib.Bits.{bit_and, bit_or, bit_xor, differ, and_step, or_step, xor_step, and_shr, or_shr, xor_shr, or_add_and, xor_add_and, xor_self, and_le_l, and_le_r}
+use lib.Bits.{bit_and, bit_or, bit_xor, differ, and_step, or_step, xor_step, and_shr, or_shr, xor_shr, or_add_and, xor_add_and, or_lt, xor_lt, xor_self, and_le_l, and_le_r}
+use mir.Syntax.{w32}
+use Rattle.std.specs.Int.{bit_not}
+use Rattle.std.proofs.lemmas.Nat.Bits.{bit_at_not}
 use lib.Pow.{pow-lt, shr-shr}
 use lib.Count.{count_trailing_zeros, under}
 use Rattle.causal.specs.Sets.{bit}
@@ -96,6 +99,16 @@ bit_minus a b i =
     go x y o e =
         let d : differ (o % 2) (y % 2) ≡ x % 2 - y % 2 = rw e (digit (x % 2) (y % 2) (omega arith) (omega arith)) in
         omega (arith, xor_step o y)
+
+not_bit : (b i : ℕ) → b < 2 ^ 32 → i < 32 → bit (bit_not w32 b) i ≡ 1 - bit b i
+unfolding bit
+not_bit b i h l = bit_at_not w32 b i h l
+
+-- the same as a & !b
+pub and_not : (a b : ℕ) → a < 2 ^ 32 → b < 2 ^ 32 → bit_and a (bit_not w32 b) ≡ bit_xor (bit_or a b) b
+and_not a b p q =
+    bits_ext 32 _ _ (omega (arith, and_le_l a (bit_not w32 b))) (xor_lt 32 _ _ (or_lt 32 a b p q) q)
+    (λ i h. omega (arith, bit_and_lem a (bit_not w32 b) i, not_bit b i q h, bit_minus a b i, bit_lt a i, bit_lt b i))
 
 -- ---- what count_trailing_zeros says
 

@@ -8,3 +8,5 @@ pub mod Ranks
 pub mod Clocks
 pub mod Array
 pub mod Walk
+pub mod Equal
+pub mod Copies

@@ -1,15 +1,16 @@
 -- Laws of rank: a strict order, total on clocks of one length. Assumes nothing.
-use Prim.Native.Nat.{ℕ, suc, ◌+◌, ◌<◌, ◌≤◌}
+use Prim.Native.Nat.{ℕ, ◌+◌, ◌<◌}
 use mathlib.Core.Path.{◌≡◌, refl, sym, ap, ◌∙◌}
-use mathlib.Core.Bool.{Bool, true, false, cond}
+use mathlib.Core.Bool.{Bool, true, false}
 use mathlib.Core.Logic.{◌⊎◌, inl, inr, ⊎_elim}
 use mathlib.Core.List.{List, [], ◌∷◌, ◌++◌}
 use native.Mathlib.Omega.{arith}
 use lib.Dec.{ltb}
-use borrow.Author.Tests.{ltb-true, ltb-false, lt-ltb, le-ltb}
-use native.Mathlib.Numerals.{add-one}
-use lib.ListN.{length, get_or, drop, length-append, drop_of_length-le}
-use lib.Seq.{drop-cons}
+use borrow.Author.Tests.{ltb-true, ltb-false, lt-ltb, le-ltb, eq-eqb, ne_eqb}
+use lib.ListN.{length, length-append}
+use Rattle.std.specs.Ordering.{nat_cmp, ordering_then, is_gt}
+use Rattle.std.specs.declared.cmp.Ordering.TheVariants.{Less, Equal, Greater}
+use Rattle.std.specs.Cmp.Lexicographic.{slice_cmp}
 use Rattle.causal.specs.Rank.{higher, rank_of, ranks_above}
 use Rattle.causal.proofs.Tests.{false_true}
 
@@ -115,29 +116,34 @@ above_total c d o p l f g =
     let ll : length (rank_of c o) ≡ length (rank_of d p) = length-append c (o ∷ []) ∙ ap (λ (n : ℕ). n + 1) l ∙ sym (length-append d (p ∷ [])) in
     snoc_eq c d o p (higher_total (rank_of c o) (rank_of d p) ll f g)
 
--- ---- a comparison from the front, place by place
+-- ---- `c.cmp(&d).then(o.cmp(&p)).is_gt()`
 
-module _ (c d : List ℕ) (o p j : ℕ) where
-  abbrev Left : Bool
-  Left = higher (rank_of (drop j c) o) (rank_of (drop j d) p)
+nat_less : (x y : ℕ) → x < y → nat_cmp x y ≡ Less
+nat_less x y h = rw (lt-ltb x y h)
 
-  pub rank_same : j < length c → j < length d → get_or c j 0 ≡ get_or d j 0 → Left ≡ higher (rank_of (drop (j + 1) c) o) (rank_of (drop (j + 1) d) p)
-  rank_same h k e = rw (add-one, drop-cons c j 0 h, drop-cons d j 0 k) (higher_same (get_or c j 0) (get_or d j 0) _ _ e)
+nat_same : (x y : ℕ) → x ≡ y → nat_cmp x y ≡ Equal
+nat_same x y h = rw (le-ltb x y (omega arith), eq-eqb x y h)
 
-  pub rank_differs : j < length c → j < length d → (get_or c j 0 ≡ get_or d j 0 → ⊥) → ltb (get_or d j 0) (get_or c j 0) ≡ Left
-  rank_differs h k n = rw (drop-cons c j 0 h, drop-cons d j 0 k) (go (order (get_or c j 0) (get_or d j 0)))
-    where
-      go : Order (get_or c j 0) (get_or d j 0)
-          → ltb (get_or d j 0) (get_or c j 0) ≡ higher (get_or c j 0 ∷ rank_of (drop (suc j) c) o) (get_or d j 0 ∷ rank_of (drop (suc j) d) p)
-      go (less a) = le-ltb (get_or d j 0) (get_or c j 0) (omega arith) ∙ sym (higher_less _ _ _ _ a)
-      go (same a) = absurd (n a)
-      go (more a) = lt-ltb _ _ a ∙ sym (higher_more _ _ _ _ a)
+nat_more : (x y : ℕ) → y < x → nat_cmp x y ≡ Greater
+nat_more x y h = rw (le-ltb x y (omega arith), ne_eqb x y (λ (e : x ≡ y). omega arith))
 
-  pub rank_end : length c ≤ j → length d ≤ j → ltb p o ≡ Left
-  unfolding higher
-  rank_end h k = rw (drop_of_length-le c {i = j} h, drop_of_length-le d {i = j} k) (go (ltb p o) refl (ltb o p) refl)
-    where
-      go : (a : Bool) → ltb p o ≡ a → (b : Bool) → ltb o p ≡ b → a ≡ cond a true (cond b false false)
-      go true e b f = refl
-      go false e true f = refl
-      go false e false f = refl
+higher_cmp : (c d : List ℕ) (o p : ℕ) → length c ≡ length d → is_gt (ordering_then (slice_cmp nat_cmp c d) (nat_cmp o p)) ≡ higher (rank_of c o) (rank_of d p)
+higher_cmp [] [] o p l = go (order o p)
+  where
+    go : Order o p → is_gt (nat_cmp o p) ≡ higher (o ∷ []) (p ∷ [])
+    go (less a) = rw (nat_less o p a) (sym (higher_less o p [] [] a))
+    go (same a) = rw (nat_same o p a) (sym (higher_same o p [] [] a ∙ higher_irrefl []))
+    go (more a) = rw (nat_more o p a) (sym (higher_more o p [] [] a))
+higher_cmp [] (y ∷ d) o p l = absurd (omega arith)
+higher_cmp (x ∷ c) [] o p l = absurd (omega arith)
+higher_cmp (x ∷ c) (y ∷ d) o p l = go (order x y) (higher_cmp c d o p (omega arith))
+  where
+    go : Order x y → is_gt (ordering_then (slice_cmp nat_cmp c d) (nat_cmp o p)) ≡ higher (rank_of c o) (rank_of d p)
+        → is_gt (ordering_then (slice_cmp nat_cmp (x ∷ c) (y ∷ d)) (nat_cmp o p)) ≡ higher (rank_of (x ∷ c) o) (rank_of (y ∷ d) p)
+    go (less a) ih = rw (nat_less x y a) (sym (higher_less x y _ _ a))
+    go (same a) ih = rw (nat_same x y a) (ih ∙ sym (higher_same x y _ _ a))
+    go (more a) ih = rw (nat_more x y a) (sym (higher_more x y _ _ a))
+
+pub above_cmp : (c d : List ℕ) (o p : ℕ) → length c ≡ length d → is_gt (ordering_then (slice_cmp nat_cmp c d) (nat_cmp o p)) ≡ ranks_above c o d p
+unfolding ranks_above
+above_cmp c d o p l = higher_cmp c d o p l

@@ -1,13 +1,16 @@
 -- Laws of sets of ids, by membership. Assumes nothing.
-use Rattle.std.proofs.Common.{None, Some}
 use mathlib.Core.Path.{◌≡◌, refl, sym, ap, ◌∙◌}
-use mathlib.Core.Bool.{Bool, true, false, cond}
+use mathlib.Core.Bool.{Bool, true, false}
 use mathlib.Core.List.{List, [], ◌∷◌}
 use Prim.Native.Nat.{ℕ, zero, suc, ◌+◌, ◌-◌, ◌*◌, ◌/◌, ◌%◌, ◌^◌, ◌≤◌, ◌<◌, max}
 use mathlib.Core.Logic.{◌⊎◌, inl, inr, ⊎_elim}
+use native.Mathlib.Nat.{zero-mul}
 use native.Mathlib.Numerals.{add-one}
 use native.Mathlib.Omega.{arith}
-use lib.Bits.{bit_or, bit_xor, or_lt, or_zero_r, xor_lt}
+use mir.Syntax.{w32}
+use Rattle.std.specs.Int.{bit_not}
+use Rattle.std.specs.Int.{from_bool}
+use lib.Bits.{bit_and, bit_or, bit_xor, or_lt, or_zero_r, xor_lt}
 use lib.Count.{count_trailing_zeros}
 use lib.Dec.{eqb, lit<}
 use lib.ListN.{length, get_or, set, drop, length-set, get_or-replicate, get_or-eq_default, drop_of_length-le}
@@ -15,11 +18,12 @@ use lib.Seq.{drop-cons, ext_get_or, get_or-set_same, get_or-set_other, set_out}
 use lib.Pow.{pow-lt}
 use borrow.Author.Tests.{eq-eqb, ne_eqb, eqb-true, eqb-false}
 use Rattle.causal.specs.Tests.{both, all_below}
-use Rattle.causal.specs.Lists.{zip8, zeros, sum_below}
+use Rattle.causal.specs.Lists.{zip8, zeros, sum_below, eq_words}
 use Rattle.causal.specs.Sets.{bit, has, is_in, IdSet, unite, minus, inserted, is_empty, word_in, subset_of, size_of, Within, lowest_in, lowest_of}
+use Rattle.std.specs.Prelude.{None, Some}
 use Rattle.causal.proofs.Tests.{lt_or_le, eq_or_ne, same_test, both_intro, both_true, all_at, all_both, all_intro, split}
-use Rattle.causal.proofs.Lists.{zip8_at, sum_le}
-use Rattle.causal.proofs.Bits.{bit_lt, bit_or_lem, bit_minus, bit_pow, bit_zero_word, bits_ext, same, same_eq, same_ne, tz_below, tz_at, or_is_zero, none_left}
+use Rattle.causal.proofs.Lists.{zip8_at, sum_le, eq_words_refl, eq_words_eq}
+use Rattle.causal.proofs.Bits.{bit_lt, bit_or_lem, bit_minus, and_not, bit_pow, bit_zero_word, bits_ext, same, same_eq, same_ne, tz_below, tz_at, or_is_zero, none_left, one_shl}
 
 pub has_lt : (s : List ℕ) (k : ℕ) → has s k < 2
 unfolding has
@@ -69,6 +73,11 @@ has_unite a b k h = rw (zip8_at bit_or a b (k / 32) (omega arith)) (bit_or_lem _
 pub has_minus : (a b : List ℕ) (k : ℕ) → k < 256 → has (minus a b) k ≡ has a k - has b k
 unfolding has minus
 has_minus a b k h = rw (zip8_at (λ x y. bit_xor (bit_or x y) y) a b (k / 32) (omega arith)) (bit_minus _ _ _)
+
+-- word i of what is left, as the code has it
+pub minus_at : (a b : List ℕ) → IdSet a → IdSet b → (i : ℕ) → i < 8 → bit_and (get_or a i 0) (bit_not w32 (get_or b i 0)) ≡ get_or (minus a b) i 0
+unfolding minus
+minus_at a b x y i h = and_not _ _ (x.fits i) (y.fits i) ∙ sym (zip8_at (λ x y. bit_xor (bit_or x y) y) a b i h)
 
 -- inserting k: k is a member, and any other name is one where it was
 pub has_inserted : (s : List ℕ) (k j : ℕ) → k < 32 * length s → has (inserted s k) j ≡ max (has s j) (same j k)
@@ -129,36 +138,19 @@ ids_inserted s k w = record { eight = length-set s (k / 32) v ∙ w.eight; fits 
 
 -- ---- a member more, place by place
 
--- eight words, each with what a test of its place gives it
-pub insert_eight : (s : List ℕ) (k w : ℕ) → length s ≡ 8 → k < 256 → w ≡ 2 ^ (k % 32) → (a b c d e f g h : ℕ)
-    → a ≡ cond (eqb (k / 32) 0) w 0 → b ≡ cond (eqb (k / 32) 1) w 0 → c ≡ cond (eqb (k / 32) 2) w 0 → d ≡ cond (eqb (k / 32) 3) w 0
-    → e ≡ cond (eqb (k / 32) 4) w 0 → f ≡ cond (eqb (k / 32) 5) w 0 → g ≡ cond (eqb (k / 32) 6) w 0 → h ≡ cond (eqb (k / 32) 7) w 0
-    → unite s (a ∷ b ∷ c ∷ d ∷ e ∷ f ∷ g ∷ h ∷ []) ≡ inserted s k
-unfolding unite inserted
-insert_eight s k w l m q a b c d e f g h ea eb ec ed ee ef eg eh = ext_get_or 0 (zip8 bit_or s more) (inserted s k) (sym (length-set s (k / 32) _ ∙ l)) word
+-- word i, as the code has it
+pub insert_at : (s : List ℕ) (k : ℕ) → IdSet s → k < 256 → (i : ℕ) → i < 8
+    → bit_or (get_or s i 0) (from_bool (eqb i (k / 32)) * 2 ^ (k % 32) % 2 ^ 32) ≡ get_or (inserted s k) i 0
+unfolding inserted
+insert_at s k w l i h = ⊎_elim here there (eq_or_ne i (k / 32))
   where
-    more : List ℕ
-    more = a ∷ b ∷ c ∷ d ∷ e ∷ f ∷ g ∷ h ∷ []
+    here : i ≡ k / 32 → bit_or (get_or s i 0) (from_bool (eqb i (k / 32)) * 2 ^ (k % 32) % 2 ^ 32) ≡ get_or (set s (k / 32) (bit_or (get_or s (k / 32) 0) (2 ^ (k % 32)))) i 0
+    here e =
+        let b : k / 32 < length s = omega (arith, w.eight) in
+        rw e (rw (eq-eqb (k / 32) (k / 32) refl, one_shl (k % 32) (omega arith), get_or-set_same s (k / 32) _ 0 b) refl)
 
-    at : (j : ℕ) → j < 8 → get_or more j 0 ≡ cond (eqb (k / 32) j) w 0
-    at zero r = ea
-    at (suc zero) r = eb
-    at (suc (suc zero)) r = ec
-    at (suc (suc (suc zero))) r = ed
-    at (suc (suc (suc (suc zero)))) r = ee
-    at (suc (suc (suc (suc (suc zero))))) r = ef
-    at (suc (suc (suc (suc (suc (suc zero)))))) r = eg
-    at (suc (suc (suc (suc (suc (suc (suc zero))))))) r = eh
-    at (suc (suc (suc (suc (suc (suc (suc (suc j)))))))) r = omega arith
-
-    word : (j : ℕ) → j < 8 → get_or (zip8 bit_or s more) j 0 ≡ get_or (inserted s k) j 0
-    word j r = zip8_at bit_or s more j r ∙ ap (bit_or (get_or s j 0)) (at j r) ∙ ⊎_elim here there (eq_or_ne (k / 32) j)
-      where
-        here : k / 32 ≡ j → bit_or (get_or s j 0) (cond (eqb (k / 32) j) w 0) ≡ get_or (inserted s k) j 0
-        here n = rw (← n) (rw (eq-eqb (k / 32) (k / 32) refl, q) (sym (get_or-set_same s (k / 32) _ 0 (omega arith))))
-
-        there : (k / 32 ≡ j → ⊥) → bit_or (get_or s j 0) (cond (eqb (k / 32) j) w 0) ≡ get_or (inserted s k) j 0
-        there n = rw (ne_eqb (k / 32) j n, get_or-set_other s (k / 32) j _ 0 (λ (x : j ≡ k / 32). n (sym x))) (or_zero_r (get_or s j 0))
+    there : (i ≡ k / 32 → ⊥) → bit_or (get_or s i 0) (from_bool (eqb i (k / 32)) * 2 ^ (k % 32) % 2 ^ 32) ≡ get_or (set s (k / 32) (bit_or (get_or s (k / 32) 0) (2 ^ (k % 32)))) i 0
+    there n = rw (ne_eqb i (k / 32) n, zero-mul, get_or-set_other s (k / 32) i _ 0 n) (or_zero_r (get_or s i 0))
 
 -- ---- the empty set
 
@@ -274,6 +266,8 @@ pub lowest_end : (s : List ℕ) (i : ℕ) → length s ≤ i → lowest_in (drop
 unfolding lowest_in
 lowest_end s i h = rw (drop_of_length-le s {i = i} h)
 
+pub ruleset scan = (lowest_skip, lowest_hit, lowest_end)
+
 -- ---- subset
 
 pub subset_sound : (a b : List ℕ) → subset_of a b ≡ true → (k : ℕ) → k < 256 → has a k ≤ has b k
@@ -300,19 +294,18 @@ subset_complete a b x y f = all_intro (word_in a b) 8 word
 
 -- ---- eight words at once
 
-module _ (s : List ℕ) where
-  abbrev OrTo : ℕ → ℕ
-  OrTo zero = get_or s 0 0
-  OrTo (suc i) = bit_or (OrTo i) (get_or s (suc i) 0)
+-- `set == [0; 8]`
+pub zero_words : (s : List ℕ) → length s ≡ 8 → eq_words s zeros ≡ is_empty s
+unfolding is_empty
+zero_words s l = same_test _ _ all none
+  where
+    all : eq_words s zeros ≡ true → all_below 8 (λ i. eqb (get_or s i 0) 0) ≡ true
+    all e = all_intro _ 8 (λ i h. eq-eqb _ 0 (rw (eq_words_eq s zeros e) (zero_at i)))
 
-  or_to : (i : ℕ) → eqb (OrTo i) 0 ≡ all_below (suc i) (λ j. eqb (get_or s j 0) 0)
-  unfolding all_below both
-  or_to zero = refl
-  or_to (suc i) = or_is_zero (OrTo i) (get_or s (suc i) 0) ∙ ap (λ (t : Bool). both t (eqb (get_or s (suc i) 0) 0)) (or_to i)
-
-  pub or_eight : eqb (bit_or (bit_or (bit_or (bit_or (bit_or (bit_or (bit_or (get_or s 0 0) (get_or s 1 0)) (get_or s 2 0)) (get_or s 3 0)) (get_or s 4 0)) (get_or s 5 0)) (get_or s 6 0)) (get_or s 7 0)) 0 ≡ is_empty s
-  unfolding is_empty
-  or_eight = or_to 7
+    none : all_below 8 (λ i. eqb (get_or s i 0) 0) ≡ true → eq_words s zeros ≡ true
+    none e =
+        let q : s ≡ zeros = ext_get_or 0 s zeros l (λ i h. eqb-true _ 0 (all_at (λ j. eqb (get_or s j 0) 0) 8 e i (omega arith)) ∙ sym (zero_at i)) in
+        rw q (eq_words_refl zeros)
 
 -- eight words, each of them 0 where a test of its place holds and only there
 pub eight_tests : (p : ℕ → Bool) (a b c d e f g h : ℕ) → eqb a 0 ≡ p 0 → eqb b 0 ≡ p 1 → eqb c 0 ≡ p 2 → eqb d 0 ≡ p 3 → eqb e 0 ≡ p 4 → eqb f 0 ≡ p 5 → eqb g 0 ≡ p 6 → eqb h 0 ≡ p 7

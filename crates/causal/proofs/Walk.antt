@@ -10,9 +10,12 @@ use native.Mathlib.Omega.{arith}
 use lib.Bits.{bit_and, and_le_r}
 use lib.Count.{count_trailing_zeros, under, ones, ones_step}
 use lib.Dec.{eqb-suc-suc}
-use lib.ListN.{get_or}
+use lib.ListN.{length, take, get_or}
+use Rattle.std.specs.List.{sum_by}
+use Rattle.std.proofs.lemmas.List.Sums.{sum_by_more}
+use Rattle.std.proofs.Math.Seq.{take-length}
 use Rattle.causal.specs.Lists.{sum_below}
-use Rattle.causal.specs.Sets.{bit, has}
+use Rattle.causal.specs.Sets.{IdSet, bit, has, size_of}
 use Rattle.causal.proofs.Tests.{lt_or_le, split}
 use Rattle.causal.proofs.Bits.{bit_lt, bit_and_lem, bit_low, bit_suc, bit_zero_word, flag, same, same_eq, same_ne, tz_below, tz_at}
 
@@ -161,9 +164,24 @@ ones_bits (suc k) w h =
     ∙ sym (sum_front (bit w) k)
 
 -- one more word of a set
-pub size_more : (s : List ℕ) (j : ℕ) → get_or s j 0 < 2 ^ 32 → sum_below (32 * suc j) (has s) ≡ sum_below (32 * j) (has s) + ones (get_or s j 0)
+size_more : (s : List ℕ) (j : ℕ) → get_or s j 0 < 2 ^ 32 → sum_below (32 * suc j) (has s) ≡ sum_below (32 * j) (has s) + ones (get_or s j 0)
 size_more s j f =
     let e : 32 * suc j ≡ 32 * j + 32 = omega arith in
     rw e
     (sum_add (has s) (32 * j) 32
     ∙ ap (λ (x : ℕ). sum_below (32 * j) (has s) + x) (sum_ext (λ i. has s (32 * j + i)) (bit (get_or s j 0)) 32 (λ i h. has_word s j i h) ∙ sym (ones_bits 32 (get_or s j 0) f)))
+
+-- a word at a time: what `set.iter().map(count_ones).sum()` adds up
+words_more : (s : List ℕ) (j : ℕ) → j ≤ length s → IdSet s → sum_by ones (take j s) ≡ sum_below (32 * j) (has s)
+unfolding sum_below
+words_more s zero h w = refl
+words_more s (suc j) h w =
+    let m : sum_by ones (take (j + 1) s) ≡ sum_by ones (take j s) + ones (get_or s j 0) = sum_by_more ones s j 0 (omega arith) in
+    let m' = rw add-one at m in
+    m' ∙ ap (λ (x : ℕ). x + ones (get_or s j 0)) (words_more s j (omega arith) w) ∙ sym (size_more s j (w.fits j))
+
+pub size_words : (s : List ℕ) → IdSet s → sum_by ones s ≡ size_of s
+unfolding size_of
+size_words s w =
+    let n : 32 * length s ≡ 256 = omega (arith, w.eight) in
+    ap (λ (l : List ℕ). sum_by ones l) (sym (take-length s)) ∙ words_more s (length s) (omega arith) w ∙ ap (λ (n : ℕ). sum_below n (has s)) n

@@ -6,12 +6,5 @@ ghost use Rattle.causal.specs.Rank.{ranks_above};
 pub fn outranks(c: [u32; 8], o: u32, d: [u32; 8], p: u32) -> bool
     ensures { result ≡ ranks_above c o d p }
 {
-    let mut j = 0;
-    while j < 8 {
-        if c[j] != d[j] {
-            return c[j] > d[j];
-        }
-        j += 1;
-    }
-    o > p
+    c.cmp(&d).then(o.cmp(&p)).is_gt()
 }

@@ -4,11 +4,10 @@ ghost use Rattle.std.proofs.lemmas.List.Edits.{sets};
 ghost use Rattle.causal.specs.Lists.{part};
 
 // n words of a row, from word a on, to those of another from word b on.
+#[tactic(auto, using(crate::proofs::Copies::copied))]
 pub fn copy_words(from: &[u32], a: usize, to: &mut [u32], b: usize, n: usize)
     requires { (a + n ≤ length from.now) × (b + n ≤ length to.old) }
     ensures { to.new ≡ sets to.old b (part from.now a n) }
 {
-    for j in 0..n {
-        to[b + j] = from[a + j];
-    }
+    to[b..b + n].copy_from_slice(&from[a..a + n]);
 }

@@ -8,6 +8,7 @@ use types.Logic.{Logic}
 use seplogic.Ra.Ura.{Ura}
 use prog.Memory.{Memory}
 use prog.Routine.{Routine}
+use Rattle.frame.specs.declared.refusal.Refusal.{Refusal}
 use Rattle.frame.specs.Refusals.{reply_of}
 use Rattle.frame.proofs.Contract.{MutRow, Row, Three}
 use Rattle.office.specs.Promises.{ReceivePromise}

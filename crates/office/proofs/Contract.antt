@@ -9,6 +9,7 @@ use types.Logic.{Logic}
 use seplogic.Ra.Ura.{Ura}
 use prog.Memory.{Memory}
 use prog.Routine.{Routine}
+use Rattle.frame.specs.declared.refusal.Refusal.{Refusal}
 use Rattle.frame.specs.Refusals.{code_of, reply_of}
 use Rattle.frame.specs.declared.refusal.Status.{Status}
 use Rattle.frame.proofs.Contract.{MutRow, One, Row}

@@ -3,6 +3,7 @@
 -- and so do those of the lent calls, the exports and the player; a step of a run is one that keeps it (ring/specs/Claim.antt), but for need and
 -- settings, which change nothing. A row lent as `&[u32]` is only read: by its type it is left as it came. Assumes nothing.
 use Rattle.std.specs.Prelude.{ℕ, Bool, List, ◌≡◌, Result}
+use Rattle.frame.specs.declared.refusal.Refusal.{Refusal}
 use Rattle.frame.specs.Refusals.{Reply, reply_of}
 use Rattle.frame.specs.Sessions.{content_of, session_of}
 use Rattle.frame.specs.declared.entry.Entry.{Entry}

@@ -1,7 +1,7 @@
 -- What the answers of a reading of one plot say: is an entry handed back, and which, a fixed blank where none is; and the session as it is left, on a
 -- refusal as it came. Assumes nothing.
 use Rattle.std.specs.Prelude.{ℕ, Bool, false, is_some, None, Option, Result, Ok, Err}
-use Rattle.std.specs.Option.{option_unwrap_or}
+use Rattle.std.specs.Option.{unwrap_or}
 use Rattle.frame.specs.declared.entry.Entry.{Entry}
 use Rattle.frame.specs.declared.refusal.Refusal.{Refusal}
 use Rattle.frame.specs.declared.session.Session.{Session}
@@ -20,7 +20,7 @@ abbrev pub found_by : Result PlotRead Refusal → Bool
 found_by r = is_some (handed_by (λ (x : PlotRead). x.entry) r)
 
 abbrev pub entry_by : Result PlotRead Refusal → Entry
-entry_by r = option_unwrap_or (handed_by (λ (x : PlotRead). x.entry) r) blank_entry
+entry_by r = unwrap_or (handed_by (λ (x : PlotRead). x.entry) r) blank_entry
 
 unfoldable pub session_by : Session → Result PlotRead Refusal → Session
 session_by s (Ok x) = x.session
@@ -32,7 +32,7 @@ abbrev pub seen_found : Result PlotSeen Refusal → Bool
 seen_found r = is_some (handed_by (λ (x : PlotSeen). x.entry) r)
 
 abbrev pub seen_entry : Result PlotSeen Refusal → Entry
-seen_entry r = option_unwrap_or (handed_by (λ (x : PlotSeen). x.entry) r) blank_entry
+seen_entry r = unwrap_or (handed_by (λ (x : PlotSeen). x.entry) r) blank_entry
 
 unfoldable pub seen_session : Session → Result PlotSeen Refusal → Session
 seen_session s (Ok x) = with_seen s x.seen
