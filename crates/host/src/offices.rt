@@ -9,7 +9,7 @@ use crate::answer::{
 use crate::lent::{PlotFound, burial_lent_read_joint, burial_lent_read_plot, burial_lent_write};
 use frame::refusal::code_of;
 use frame::session::{Session, blank_session};
-use office::settings::{NO_SETTINGS, Settings};
+use office::settings::NO_SETTINGS;
 
 // 01: the call that gives the store's need.
 #[inline(always)]
@@ -34,16 +34,12 @@ pub fn burial_store_settings(store: &[u32]) -> SettingsAnswer
 {
     let settings = office::settings::store_settings(store);
     let refusal = code_of(&settings);
-    let Settings {
-        offices,
-        own,
-        plots,
-    } = settings.unwrap_or(NO_SETTINGS);
+    let opened = settings.unwrap_or(NO_SETTINGS);
     SettingsAnswer {
         refusal,
-        offices,
-        own,
-        plots,
+        offices: opened.offices,
+        own: opened.own,
+        plots: opened.plots,
     }
 }
 
@@ -85,8 +81,9 @@ pub fn burial_read_joint(
     ensures { JointPromise store.old session plots.now answer.old result.refusal result.session store.new answer.new }
 {
     let mut left = session;
+    let refusal = burial_lent_read_joint(store, &mut left, plots, answer);
     SessionAnswer {
-        refusal: burial_lent_read_joint(store, &mut left, plots, answer),
+        refusal,
         session: left,
     }
 }

@@ -10,7 +10,7 @@ use Prim.Native.Nat.{ℕ}
 use mathlib.Core.Path.{◌≡◌, refl, sym, ap, ◌∙◌}
 use Rattle.causal.specs.Lists.{tab}
 use Rattle.host.specs.Bytes.{word_at}
-use Rattle.host.proofs.frames.check_words.Goals as goal
+use Rattle.host.proofs.frames.read_words.Goals as goal
 
 pub loop-i-init : goal.loop-i-init
 unfolding tab
@@ -37,4 +37,4 @@ pub returns : goal.returns
 returns c = let l = c.loop-i in
     let e : l.i ≡ c.args.n = omega arith in
     let f : l.row ≡ sets (replicate 267 0) 0 (tab c.args.n (word_at c.args.bytes.now)) = rw e at l.invariant.2 in
-    c.code_of.ensures ∙ c.read_frame-read.ensures.0 ∙ ap (read_frame_code c.args.offices c.args.plots) (filled c.args.bytes.now l.row c.args.n c.requires.0 f)
+    c.read_frame.ensures.0 ∙ ap (read_frame_code c.args.offices c.args.plots) (filled c.args.bytes.now l.row c.args.n c.requires.0 f)
