@@ -32,3 +32,7 @@ pub written_small : (w : Result ℕ Refusal) → (reply_of w).code ≤ 12
 unfolding reply_of
 written_small (Ok n) = omega arith
 written_small (Err r) = (number_range r).1
+
+-- no refusal has the number of none
+pub number_some : (r : Refusal) → number_of r ≡ 0 → ⊥
+number_some r h = omega (arith, number_range r, h)

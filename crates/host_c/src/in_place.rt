@@ -5,14 +5,14 @@ ghost use Rattle.host.specs.Flags.{is_set};
 
 use frame::session::Session;
 use host::answer::WordsAnswer;
-use host::lent::PlotFound;
+use host::in_place::PlotFound;
 
 // 01: read one plot.
 #[unsafe(no_mangle)]
 pub extern "C" fn burial_lent_read_plot(store: &mut [u32], s: &mut Session, plot: u32) -> PlotFound
     ensures { (result.found ≤ 1) × ReadPromise store.old s.old plot result.refusal (is_set result.found) result.entry s.new store.new }
 {
-    host::lent::burial_lent_read_plot(store, s, plot)
+    host::in_place::burial_lent_read_plot(store, s, plot)
 }
 
 // 01: read jointly.
@@ -25,7 +25,7 @@ pub extern "C" fn burial_lent_read_joint(
 ) -> u32
     ensures { JointPromise store.old s.old plots.now answer.old result s.new store.new answer.new }
 {
-    host::lent::burial_lent_read_joint(store, s, plots, answer)
+    host::in_place::burial_lent_read_joint(store, s, plots, answer)
 }
 
 // 01: write.
@@ -39,5 +39,5 @@ pub extern "C" fn burial_lent_write(
 ) -> WordsAnswer
     ensures { WritePromise store.old s.old plot value out.old (record { code = result.refusal; words = result.words }) s.new store.new out.new }
 {
-    host::lent::burial_lent_write(store, s, plot, value, out)
+    host::in_place::burial_lent_write(store, s, plot, value, out)
 }
