@@ -188,10 +188,9 @@ pub fn ids_ascend(ws: &[u32], n: u32) -> bool
     if !kind_is(6, first) || !kind_is(6, last) || last % LOW / 256 >= n {
         return false;
     }
-    let wrong = ws.iter().zip(&ws[1..]).fold(
-        not_next(0x6000_0000, first),
-        |wrong, (&a, &b)| wrong | not_next(a, b),
-    );
+    let start = not_next(0x6000_0000, first);
+    let pairs = ws.iter().zip(&ws[1..]);
+    let wrong = pairs.fold(start, |wrong, (&a, &b)| wrong | not_next(a, b));
     wrong == 0
 }
 
