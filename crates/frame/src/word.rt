@@ -39,6 +39,7 @@ fn put_words<F: Fn(usize) -> u32>(count: usize, word: F, out: &mut [u32], at: us
     ensures { (ws : List ℕ) × (length ws ≡ count) × ((j : ℕ) → j < count → F.post word j (slice_index ws j)) × (result % 268435456 ≡ total ws % 268435456) × (out.new ≡ sets out.old at ws) }
 {
     let mut sum = 0u32;
+    // By index: it is what `word` is asked for.
     for j in 0..count {
         let w = word(j);
         out[at + j] = w;
