@@ -39,6 +39,7 @@ fn put_words<F: Fn(usize) -> u32>(count: usize, word: F, out: &mut [u32], at: us
     ensures { (ws : List ℕ) × (length ws ≡ count) × ((j : ℕ) → j < count → F.post word j (slice_index ws j)) × (result % 268435456 ≡ total ws % 268435456) × (out.new ≡ sets out.old at ws) }
 {
     let mut sum = 0u32;
+    // By index: it is what `word` is asked for.
     for j in 0..count {
         let w = word(j);
         out[at + j] = w;
@@ -188,10 +189,9 @@ pub fn ids_ascend(ws: &[u32], n: u32) -> bool
     if !kind_is(6, first) || !kind_is(6, last) || last % LOW / 256 >= n {
         return false;
     }
-    let wrong = ws.iter().zip(&ws[1..]).fold(
-        not_next(0x6000_0000, first),
-        |wrong, (&a, &b)| wrong | not_next(a, b),
-    );
+    let start = not_next(0x6000_0000, first);
+    let pairs = ws.iter().zip(&ws[1..]);
+    let wrong = pairs.fold(start, |wrong, (&a, &b)| wrong | not_next(a, b));
     wrong == 0
 }
 

@@ -33,8 +33,8 @@ returns c =
     let tail = take (length ws - 1) (drop 1 ws) in
     let whole : tail ≡ drop 1 ws = take_all (length ws - 1) (drop 1 ws) (simp length-drop (omega arith)) in
     let r : J (zip ws tail) c.fold-wrong.result =
-    fold_over (zips fronts fronts) (λ p. (p.0.now, p.1.now)) _ J _ (λ ps a x b f' h k. search (rules, tests, wrong_more)) c.zip.result (zip ws tail) _ c.fold-wrong.result
-    (YieldsList-from_zip {s = c.zip.result} (YieldsList-from_slice ws cc) (YieldsList-from_slice tail cc)).runs (c.not_next.ensures ∙ sym (both_one s)) c.fold-wrong.ensures.ran
+    fold_over (zips fronts fronts) (λ p. (p.0.now, p.1.now)) _ J _ (λ ps a x b f' h k. search (rules, tests, wrong_more)) c.zip-pairs.result (zip ws tail) _ c.fold-wrong.result
+    (YieldsList-from_zip {s = c.zip-pairs.result} (YieldsList-from_slice ws cc) (YieldsList-from_slice tail cc)).runs (c.not_next-start.ensures ∙ sym (both_one s)) c.fold-wrong.ensures.ran
     in
     r ∙ ap (λ (l : List ℕ). both s (list_all Next (zip ws l))) whole ∙ steps_pairs 1610612736 ws some
     ∙ all_right c.args.n ws some (sym c.kind_is-else-not-kind_is.ensures ∙ not-false _ c.if-not-kind_is-2.false-raw) c.if-last-n.false
