@@ -1,13 +1,16 @@
 -- What chains of iterators over words give: their sum, a test of each. Assumes nothing.
-use Rattle.std.proofs.Common.{◌≡◌, ℕ, ◌+◌, ◌-◌, ◌%◌, ◌<◌, ◌≤◌, Bool, List, [], ◌∷◌, ◌++◌, drop, length, get_or, take, refl, sym, ap, subst, ⊎_elim, ext_get_or, ◌∙◌, add-zero, zero-add, arith, length-drop, length-take}
+use Rattle.std.proofs.Common.{◌≡◌, ℕ, zero, suc, ◌+◌, ◌-◌, ◌%◌, ◌<◌, ◌≤◌, Bool, eqb, List, [], ◌∷◌, ◌++◌, drop, length, get_or, take, refl, sym, ap, subst, ⊎_elim, ext_get_or, ◌∙◌, add-zero, zero-add, arith, length-drop, length-take}
+use denote.Param.Members.{Mut, Called}
+use Rattle.std.specs.Array.{IsFromFnResult, IsFromFnResultFrom}
 use Rattle.std.specs.List.{fold, list_all}
 use Rattle.causal.specs.Lists.{tab}
+use Rattle.causal.specs.Sets.{is_empty}
 use Rattle.causal.specs.Tests.{both, all_below}
 use Rattle.causal.proofs.Equal.{and_both}
 use lib.ListN.{get_or-append}
 use lib.Seq.{get_or-take, get_or-drop, get_or_at}
 use Rattle.causal.proofs.Lists.{tab_length, tab_at}
-use Rattle.causal.proofs.Tests.{all_front, all_ext, split}
+use Rattle.causal.proofs.Tests.{all_front, all_ext, eq_or_ne, split}
 use Rattle.frame.specs.Words.{total}
 
 -- ---- sums: the kinds and what wraps are multiples of 2^28
@@ -55,3 +58,24 @@ each_more P ws w n l each last j h =
 pub words_are : (ws : List ℕ) (f : ℕ → ℕ) (n : ℕ) → length ws ≡ n → ((j : ℕ) → j < n → get_or ws j 0 ≡ f j) → ws ≡ tab n f
 words_are ws f n l each =
     ext_get_or 0 ws (tab n f) (l ∙ sym (tab_length n f)) (λ j h. let k : j < n = omega (arith, l) in each j k ∙ sym (tab_at n f j 0 k))
+
+-- ---- eight words by `from_fn`, of a closure that changes nothing: what it gives at each place
+
+module _ {F : Type 0} (g : Mut F (ℕ × Unit {0}) ℕ) (s : F) (P : ℕ → ℕ → Type 0) (n : ℕ) (gives : (i y : ℕ) (q : F) → i < n → Called g s (i, tt) y q → (q ≡ s) × P i y) where
+  each_from : (ys : List ℕ) (i k : ℕ) → i + k ≤ n → IsFromFnResultFrom g s ys i k → (j : ℕ) → i ≤ j → j < i + k → P j (get_or ys j 0)
+  each_from ys i zero h w j a b = absurd (omega arith)
+  each_from ys i (suc k) h w j a b =
+      let r = gives i w.1 w.0 (omega arith) w.3 in
+      let more = subst (λ (p : F). IsFromFnResultFrom g p ys (i + 1) k) r.0 w.4 in
+      ⊎_elim
+      (λ (e : j ≡ i). rw e (subst (P i) (sym (w.2.1 0)) r.1))
+      (λ (e : j ≡ i → ⊥). each_from ys (i + 1) k (omega arith) more j (omega arith) (omega arith))
+      (eq_or_ne j i)
+
+  pub each_made : (ys : List ℕ) → IsFromFnResult g s ys n → (j : ℕ) → j < n → P j (get_or ys j 0)
+  each_made ys w j h = each_from ys 0 n (omega arith) w.each j (omega arith) (omega arith)
+
+-- no word is set where a test of each place says so
+pub none_set : (ys : List ℕ) (t : ℕ → Bool) → ((j : ℕ) → j < 8 → eqb (get_or ys j 0) 0 ≡ t j) → is_empty ys ≡ all_below 8 t
+unfolding is_empty
+none_set ys t each = all_ext _ _ 8 each

@@ -39,10 +39,6 @@ pub ids_next : (f : ℕ → Entry) (i : ℕ) → ids_of (tab (i + 1) f) ≡ inse
 unfolding ids_of
 ids_next f i = ap ids_of (tab_more i f) ∙ foldl-append (λ (s : List ℕ) (e : Entry). inserted s (id_of e)) zeros (tab i f) (f i ∷ [])
 
-pub ids_turn : (f : ℕ → Entry) (i k : ℕ) (s r : List ℕ) → s ≡ ids_of (tab i f) → k ≡ id_of (f i) → r ≡ inserted s k → r ≡ ids_of (tab (i + 1) f)
-ids_turn f i k s r p q e =
-    e ∙ ap (λ (l : List ℕ). inserted l k) p ∙ ap (inserted (ids_of (tab i f))) q ∙ sym (ids_next f i)
-
 -- own write i, behind those before it
 abbrev pub OwnAt : ℕ → ℕ → List ℕ → (ℕ → Entry) → ℕ → Bool
 OwnAt n p read f i = own_turn n p read (ids_of (tab i f)) (f i)
@@ -52,9 +48,6 @@ unfolding all_below tab own_ok ids_of
 owns_below n p read f zero = refl
 owns_below n p read f (suc m) =
     ap (λ (b : Bool). both b (OwnAt n p read f m)) (owns_below n p read f m) ∙ sym (own_snoc n p read zeros (tab m f) (f m))
-
-pub own_turn_lem : (n p : ℕ) (read seen : List ℕ) (f : ℕ → Entry) (i : ℕ) (r : Bool) → seen ≡ ids_of (tab i f) → r ≡ own_turn n p read seen (f i) → r ≡ OwnAt n p read f i
-own_turn_lem n p read seen f i r q e = e ∙ ap (λ (s : List ℕ). own_turn n p read s (f i)) q
 
 -- how a loop that asks one own write after the other goes on, and how it ends: i are asked, and seen is the set of their ids
 asked_first : (n p : ℕ) (read seen : List ℕ) (e : Entry) (es : List Entry)
@@ -176,18 +169,15 @@ in_ring n read seen deps x y h = facts_ids n deps none
         eqb-true _ 0 (both_true (eqb (get_or deps j 0) 0) _ (sym (or_is_zero (get_or deps j 0) (get_or (unite read seen) j 0)) ∙ eq-eqb _ 0 v)).0
 
 -- ids in range, and one more of an entry that keeps its bounds
-pub ids_turn_ok : (n p : ℕ) (read seen : List ℕ) (e : Entry) (k : ℕ) (r : List ℕ) → ids_ok n seen ≡ true → own_turn n p read seen e ≡ true → k ≡ id_of e → r ≡ inserted seen k → ids_ok n r ≡ true
+pub ids_kept : (n p : ℕ) (read seen : List ℕ) (e : Entry) → ids_ok n seen ≡ true → own_turn n p read seen e ≡ true → ids_ok n (inserted seen (id_of e)) ≡ true
 unfolding own_turn inserted
-ids_turn_ok n p read seen e k r x h q m = rw m (facts_ids n (inserted seen k) none)
+ids_kept n p read seen e x h = facts_ids n (inserted seen (id_of e)) none
   where
     kept : EntryFacts n p e
     kept = entry_facts n p e (both_true (entry_ok n p e) _ h).0
 
-    none : (j : ℕ) → j < 8 → n ≤ j → get_or (inserted seen k) j 0 ≡ 0
-    none j l g = get_or-set_other seen (k / 32) j _ 0 (λ w. omega (arith, w, q, kept.bounds.office_ok, kept.bounds.to)) ∙ ids_facts n seen x j l g
-
-pub ids_kept : (n p : ℕ) (read seen : List ℕ) (e : Entry) → ids_ok n seen ≡ true → own_turn n p read seen e ≡ true → ids_ok n (inserted seen (id_of e)) ≡ true
-ids_kept n p read seen e x h = ids_turn_ok n p read seen e (id_of e) _ x h refl refl
+    none : (j : ℕ) → j < 8 → n ≤ j → get_or (inserted seen (id_of e)) j 0 ≡ 0
+    none j l g = get_or-set_other seen (id_of e / 32) j _ 0 (λ w. omega (arith, w, kept.bounds.office_ok, kept.bounds.to)) ∙ ids_facts n seen x j l g
 
 pub none_seen : (n : ℕ) → ids_ok n zeros ≡ true
 none_seen n = facts_ids n zeros (λ j l g. zero_at j)
@@ -218,8 +208,3 @@ own_tests n p most read seen e x y u =
 pub far_own : (n p : ℕ) (read seen : List ℕ) (e : Entry) → length e.clock ≡ 8 → 7 < e.office → own_turn n p read seen e ≡ false
 unfolding own_turn both
 far_own n p read seen e l far = rw (far_entry n p e l far) refl
-
--- nothing over its bound and nothing unknown, asked at once
-pub at_once : (most clock deps known over unknown bad : List ℕ) (r : Bool) → is_empty over ≡ under_ok most clock → unknown ≡ minus deps known → bad ≡ unite over unknown → r ≡ is_empty bad → r ≡ both (under_ok most clock) (subset_of deps known)
-at_once most clock deps known over unknown bad r o u b e =
-    e ∙ ap is_empty b ∙ empty_unite over unknown ∙ (λ i. both (o i) ((ap is_empty u ∙ subset_left deps known) i))

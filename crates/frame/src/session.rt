@@ -73,7 +73,15 @@ fn own_ok(n: u32, p: u32, most: [u32; 8], read: [u32; 8], seen: [u32; 8], e: &En
     // No clock has a number for a ninth office.
     crate::entry::bounds_ok(n, p, e)
         && e.office < 8
-        && own_past_ok(most, e.office as usize, e.serial, e.clock, e.deps, read, seen)
+        && own_past_ok(
+            most,
+            e.office as usize,
+            e.serial,
+            e.clock,
+            e.deps,
+            read,
+            seen,
+        )
 }
 
 // The own writes, with the set of the ids seen so far.
@@ -119,6 +127,7 @@ pub fn ids_of(own: &[Entry]) -> [u32; 8]
     ensures { result ≡ ids_of own.now }
 {
     let mut ids = [0u32; 8];
+    // No `fold`: its proof does not close (tried fold_from_yields_List three ways).
     for e in own {
         let more = causal::set::insert(ids, crate::entry::id_of(e));
         ids = more;

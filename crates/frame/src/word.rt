@@ -38,7 +38,7 @@ fn put_words<F: Fn(usize) -> u32>(count: usize, word: F, out: &mut [u32], at: us
     requires asked { (j : ℕ) → j < count → F.pre word j }
     ensures { (ws : List ℕ) × (length ws ≡ count) × ((j : ℕ) → j < count → F.post word j (slice_index ws j)) × (result % 268435456 ≡ total ws % 268435456) × (out.new ≡ sets out.old at ws) }
 {
-    let mut sum: u32 = 0;
+    let mut sum = 0u32;
     for j in 0..count {
         let w = word(j);
         out[at + j] = w;
@@ -63,7 +63,7 @@ fn put_run(first: u32, count: usize, out: &mut [u32], at: usize) -> u32
     put_words(count, |i| first + i as u32, out, at)
 }
 
-// The words of the ids in word j of a set, lowest first, from at on. One at a time.
+// The words of the ids in word j of a set, lowest first, from at on. One at a time: no iterator gives the bits that are set.
 fn put_each(j: usize, w: u32, out: &mut [u32], at: usize) -> Put
     requires { (j < 8) × (at + length (id_words_in j w 32) ≤ length out.old) }
     ensures { (result.to ≡ at + length (id_words_in j w 32)) × (result.sum % 268435456 ≡ total (id_words_in j w 32) % 268435456) × (out.new ≡ sets out.old at (id_words_in j w 32)) }
@@ -188,10 +188,9 @@ pub fn ids_ascend(ws: &[u32], n: u32) -> bool
     if !kind_is(6, first) || !kind_is(6, last) || last % LOW / 256 >= n {
         return false;
     }
-    let wrong = ws
-        .iter()
-        .zip(&ws[1..])
-        .fold(not_next(0x6000_0000, first), |wrong, (&a, &b)| wrong | not_next(a, b));
+    let start = not_next(0x6000_0000, first);
+    let pairs = ws.iter().zip(&ws[1..]);
+    let wrong = pairs.fold(start, |wrong, (&a, &b)| wrong | not_next(a, b));
     wrong == 0
 }
 
@@ -250,11 +249,12 @@ pub fn ids_from(ws: &[u32]) -> [u32; 8]
 {
     let mut ids = [0u32; 8];
     let mut i: usize = 0;
+    // A `while`: a turn goes on by one, four or eight words.
     while i < ws.len() {
         let w = ws[i];
         let j = (w / 256 % 8) as usize;
         if !is_four(ws, i) {
-            ids[j] = ids[j] | bit_of(w);
+            ids[j] |= bit_of(w);
             i += 1;
         } else if is_run(ws, i) {
             ids[j] = with_eight(ids[j], (w - 1) % 32);

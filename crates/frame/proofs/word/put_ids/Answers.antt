@@ -23,8 +23,7 @@ loop-j-preserved c =
     let e = c.put_ids_of-put.ensures in
     let w = ids_word z.ids l.j in
     let I : List ℕ = id_words_in l.j (get_or z.ids l.j 0) 32 in
-    let before : List ℕ = id_words_to z.ids (32 * l.j) in
-    (
+    let before : List ℕ = id_words_to z.ids (32 * l.j) in (
       e.0 ∙ omega (arith, i.0, ap length w, length-append before I),
       sum_added l.sum c.put_ids_of-put.result.sum before I i.1 e.1 ∙ ap (λ (o : List ℕ). total o % 268435456) (sym w),
       e.2 ∙ ap (λ (o : List ℕ). sets o l.to I) i.2

@@ -1,4 +1,4 @@
-use Rattle.std.proofs.Common.{◌≡◌, ℕ, ◌+◌, List, [], ◌∷◌, ◌++◌, length, set, refl, sym, ap, ◌∙◌, arith, length-append}
+use Rattle.std.proofs.Common.{ℕ, ◌+◌, List, [], ◌∷◌, ◌++◌, set, refl, sym, ap, ◌∙◌, arith, length-append}
 use lib.Seq.{sets}
 use Rattle.causal.proofs.Lists.{sets_append}
 use Rattle.frame.specs.Words.{total}
@@ -16,8 +16,7 @@ loop-j-preserved g c =
     let i = l.invariant in
     let ws = i.0 in
     let w = c.word-w.result in
-    let at = c.args.at in
-    (
+    let at = c.args.at in (
       ws ++ (w ∷ []),
       length-append ws (w ∷ []) ∙ ap (λ (n : ℕ). n + 1) i.1,
       each_more (goal.F-post g c.args.word) ws w l.j i.1 i.2 c.word-w.ensures,
