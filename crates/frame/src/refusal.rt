@@ -67,7 +67,8 @@ impl fmt::Display for Refusal {
         f.write_str(match self {
             Refusal::Settings => "ring size, own office or plots out of range",
             Refusal::Store => "the store is not sound, or too short",
-            Refusal::Content => "a session is not sound for this ring, or no frame or token has this content",
+            Refusal::Content =>
+                "a session is not sound for this ring, or no frame or token has this content",
             Refusal::Plot => "a plot is out of range, or there are more than 16",
             Refusal::Value => "the value is too great",
             Refusal::OfficeFull => "the office has made its 32 entries",

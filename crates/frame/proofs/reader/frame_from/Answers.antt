@@ -1,4 +1,4 @@
-use Rattle.std.proofs.Common.{◌≡◌, ◌+◌, ◌-◌, ◌≤◌, true, false, length, sym, arith}
+use Rattle.std.proofs.Common.{◌+◌, ◌-◌, ◌≤◌, true, false, length, sym, arith}
 use Rattle.frame.proofs.Ascents.{ascends_wider}
 use Rattle.frame.proofs.Entries.{ring_facts}
 use Rattle.frame.proofs.Reading as R

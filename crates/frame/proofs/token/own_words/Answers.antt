@@ -1,4 +1,4 @@
-use Rattle.std.proofs.Common.{◌^◌, ◌<◌, length, arith, rules, sum_by}
+use Rattle.std.proofs.Common.{◌^◌, ◌<◌, arith, rules, sum_by}
 use borrow.Author.Tests.{tests}
 use Rattle.std.proofs.lemmas.Iterator.{YieldsList-from_map, YieldsList-from_slice}
 use Rattle.std.proofs.lemmas.Iterator.Consumers.{fits_by_from_yields_list}

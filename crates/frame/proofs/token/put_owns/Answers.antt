@@ -1,4 +1,4 @@
-use Rattle.std.proofs.Common.{ℕ, ◌+◌, length, refl, sym, ap, ◌∙◌, add-zero, arith}
+use Rattle.std.proofs.Common.{length, refl, sym, ap, ◌∙◌, add-zero, arith}
 use lib.Seq.{sets}
 use Rattle.frame.specs.Frames.{frame_ok, frame_words}
 use Rattle.frame.specs.Tokens.{rows_of}

@@ -1,4 +1,4 @@
-use Rattle.std.proofs.Common.{◌≡◌, ℕ, ◌+◌, ◌-◌, ◌%◌, List, ◌∷◌, ◌++◌, length, set, ap, ◌∙◌, arith, length-set}
+use Rattle.std.proofs.Common.{◌≡◌, ℕ, ◌+◌, ◌-◌, ◌%◌, List, ◌∷◌, ◌++◌, length, set, ap, ◌∙◌, arith}
 use lib.Seq.{sets}
 use Rattle.causal.proofs.Sets.{size_le}
 use Rattle.frame.specs.Words.{clock_words, id_words, total}

@@ -1,8 +1,6 @@
 use Rattle.std.proofs.Common.{◌+◌, ◌≤◌, length, refl, sym, ap, ◌∙◌, arith}
 use Rattle.frame.specs.Entries.{clock_ok, ids_ok}
-use Rattle.frame.specs.Reading.{ascends}
 use Rattle.frame.specs.Tokens.{token_reads}
-use Rattle.frame.specs.Words.{ids_from}
 use Rattle.frame.proofs.Entries.{ring_facts}
 use Rattle.frame.proofs.Ascents.{ascends_wider, ids_range}
 use Rattle.frame.proofs.TokenReads as R

@@ -9,9 +9,9 @@ pub returns-then-not-ring_ok : goal.returns-then-not-ring_ok
 unfolding reply_of number_of content_of
 returns-then-not-ring_ok c = let x = c.args.s in let o = c.args.out.now in
     elim c.then-not-ring_ok.branch [
-      then-not-ring_ok-via-then-not-ring_ok w ↦ T.write_refused (content_of x) o 2 (T.write_no_ring (content_of x) o (sym w.if-not-ring_ok.ensures))
-    | then-not-ring_ok-via-else-not-ring_ok+then-not-session_ok w ↦
-        T.write_refused (content_of x) o 2 (T.write_unsound (content_of x) o (sym w.if-not-ring_ok.ensures) (sym w.if-not-session_ok.ensures))
+      | then-not-ring_ok-via-then-not-ring_ok w ↦ T.write_refused (content_of x) o 2 (T.write_no_ring (content_of x) o (sym w.if-not-ring_ok.ensures))
+      | then-not-ring_ok-via-else-not-ring_ok+then-not-session_ok w ↦
+          T.write_refused (content_of x) o 2 (T.write_unsound (content_of x) o (sym w.if-not-ring_ok.ensures) (sym w.if-not-session_ok.ensures))
     ]
 
 pub words_of-words-requires : goal.words_of-words-requires
