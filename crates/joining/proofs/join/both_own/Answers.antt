@@ -22,8 +22,7 @@ loop-e-preserved c =
     let below : i < length es = omega (arith, length-take k (drop c.args.front es), length-drop c.args.front es, c.loop-e-test.true) in
     let step : c.args.front + (l.e-index + 1) ≡ i + 1 = omega arith in
     let e : Entry = get_or (take k (drop c.args.front es)) l.e-index nobody in
-    let is : e ≡ get_or es i nobody = at_behind es c.args.front k l.e-index c.loop-e-test.true in
-    (
+    let is : e ≡ get_or es i nobody = at_behind es c.args.front k l.e-index c.loop-e-test.true in (
       elim c.if-not-among.branch [
         | then-not-among w ↦ w.count-is ∙ T.place_more t es i _ below step e is c.args.first.now l.count l.own l.invariant.0 l.invariant.1 (sym c.among.ensures ∙ w.if-not-among.true)
         | else-not-among w ↦ w.count-is ∙ T.place_same t es i _ below step e is c.args.first.now l.count l.own l.invariant.0 l.invariant.1 (sym c.among.ensures ∙ w.if-not-among.false)

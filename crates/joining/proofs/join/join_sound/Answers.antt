@@ -46,8 +46,7 @@ both_own-both-requires c =
     let q = c.requires in
     let s = rw (c.own_writes-first_own.ensures, c.own_writes-second_own.ensures) at c.same_front-front.ensures in
     let ids = c.ids_of-ids.ensures ∙ ap ids_of c.own_writes-first_own.ensures in
-    rw (c.own_writes-first_own.ensures, c.own_writes-second_own.ensures)
-    (
+    rw (c.own_writes-first_own.ensures, c.own_writes-second_own.ensures) (
       omega (arith, count_is c.args.first.now, C.few c.args.offices c.args.plots c.args.first.now q.0 q.1),
       s.1,
       omega (arith, count_is c.args.second.now, C.few c.args.offices c.args.plots c.args.second.now q.0 q.2),
