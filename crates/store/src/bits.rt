@@ -1,4 +1,4 @@
-// The set bits of a word, lowest first.
+// The set bits of a word, lowest first. The library has no iterator over them.
 ghost use Rattle.std.specs.Iterator.{at_most};
 ghost use Rattle.store.specs.Bits.{TakesLowest};
 

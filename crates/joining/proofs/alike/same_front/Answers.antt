@@ -15,8 +15,7 @@ loop-e-preserved c =
     let z = zip_turn gs fs c.loop-e.yielded c.into_iter-e-iterator.result c.loop-e.e-iterator c.next.new.self c.next.result (cc) (cc) c.loop-e.yielded_by (c.in-Some.e, c.in-Some.f) c.in-Some.is c.next.ensures.steps in
     let e : c.in-Some.e.now ≡ get_or gs c.loop-e.front nobody = z.2 nobody ∙ ap (λ (i : ℕ). get_or gs i nobody) (sym l.2) in
     let f : c.in-Some.f.now ≡ get_or fs c.loop-e.front nobody = z.3 nobody ∙ ap (λ (i : ℕ). get_or fs i nobody) (sym l.2) in
-    let same : both (eqb (id_of c.in-Some.e.now) (id_of c.in-Some.f.now)) (same_content c.in-Some.e.now c.in-Some.f.now) ≡ true = sym c.same_entry.ensures ∙ c.if-not-same_entry.false in
-    (
+    let same : both (eqb (id_of c.in-Some.e.now) (id_of c.in-Some.f.now)) (same_content c.in-Some.e.now c.in-Some.f.now) ≡ true = sym c.same_entry.ensures ∙ c.if-not-same_entry.false in (
       l.0,
       l.1,
       simp length-append (omega (arith, l.2)),

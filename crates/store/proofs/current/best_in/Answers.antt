@@ -16,8 +16,7 @@ weigh-best-requires c =
 
 pub loop-b-preserved : goal.loop-b-preserved
 loop-b-preserved c =
-    let x = taken _ _ _ _ _ c.loop-b.invariant.1 c.in-Some.ensures.steps in
-    (
+    let x = taken _ _ _ _ _ c.loop-b.invariant.1 c.in-Some.ensures.steps in (
       c.in-Some.b + 1,
       rw c.in-Some.ensures.steps.2 x.then,
       rw c.weigh-best.ensures (in_slots c.args.store.now _ c.args.plot (32 * c.args.i + c.in-Some.b) c.loop-b.best (omega (arith, x.below)) (c.requires.1 _ x.below x.member) c.loop-b.invariant.2),

@@ -14,8 +14,7 @@ best_in-best-requires c =
     let r = rules_of c.args.store.now c.requires.0 in
     let e : length c.args.visible ≡ 8 = (id_set c.args.visible c.well_formed.1.0).eight in
     let m : c.loop-i.i < get_or c.args.store.now 0 0 = front_in _ _ _ c.loop-i-test.true in
-    rw (front_at c.args.visible _ c.loop-i.i c.loop-i-test.true, c.loop-i.invariant)
-    (
+    rw (front_at c.args.visible _ c.loop-i.i c.loop-i-test.true, c.loop-i.invariant) (
       omega (arith, r.laid.few),
       reach_word c.args.store.now c.args.visible r e c.requires.1 c.loop-i.i,
       place_in_slots c.args.store.now c.args.visible c.args.plot (length c.args.store.now)

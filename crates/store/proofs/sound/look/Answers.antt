@@ -30,8 +30,7 @@ deps_at-requires c =
 
 pub loop-b-preserved : goal.loop-b-preserved
 loop-b-preserved c =
-    let x = taken _ _ _ _ _ c.loop-b.invariant.1 c.in-Some.ensures.steps in
-    (
+    let x = taken _ _ _ _ _ c.loop-b.invariant.1 c.in-Some.ensures.steps in (
       c.in-Some.b + 1,
       rw c.in-Some.ensures.steps.2 x.then,
       look_more c.args.store.now (under_ok c.args.most) c.args.p c.args.i c.args.w _ _ c.loop-b.invariant.0 _ _ _ _ x c.loop-b.invariant.2 _ c.slot_ok.ensures c.if-not-slot_ok.false
