@@ -1,5 +1,5 @@
 -- Refusals as numbers are at most 12, so no call that answers a refusal answers 13 (paper 02, (i)). Assumes nothing.
-use Rattle.std.proofs.Common.{◌≡◌, ◌≤◌, arith, Err, Ok, Result}
+use Rattle.std.proofs.Common.{◌≤◌, arith, Err, Ok, Result}
 use Rattle.frame.specs.Refusals.{code_of, number_of, reply_of}
 use Rattle.frame.specs.declared.refusal.Refusal.{Refusal}
 use Rattle.frame.specs.declared.refusal.Refusal.TheVariants.{Settings, Store, Content, Plot, Value, OfficeFull, SessionFull, Room, Format, Unmade, Different, Missing}
@@ -28,19 +28,3 @@ pub written_small : (w : Result ℕ Refusal) → (reply_of w).code ≤ 12
 unfolding reply_of
 written_small (Ok n) = omega arith
 written_small (Err r) = number_small r
-
--- no refusal has the number of none
-pub number_some : (r : Refusal) → number_of r ≡ 0 → ⊥
-unfolding number_of
-number_some Settings h = omega arith
-number_some Store h = omega arith
-number_some Content h = omega arith
-number_some Plot h = omega arith
-number_some Value h = omega arith
-number_some OfficeFull h = omega arith
-number_some SessionFull h = omega arith
-number_some Room h = omega arith
-number_some Format h = omega arith
-number_some Unmade h = omega arith
-number_some Different h = omega arith
-number_some Missing h = omega arith
