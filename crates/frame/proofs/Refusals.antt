@@ -1,5 +1,5 @@
 -- Refusals as numbers are at most 12, so no call that answers a refusal answers 13 (paper 02, (i)). Assumes nothing.
-use Rattle.std.proofs.Common.{ℕ, ◌<◌, ◌≤◌, ◌≢◌, arith, Err, Ok, Result}
+use Rattle.std.proofs.Common.{◌≡◌, ℕ, ◌<◌, ◌≤◌, ◌≢◌, arith, Err, Ok, Result}
 use Rattle.frame.specs.Refusals.{code_of, number_of, reply_of}
 use Rattle.frame.specs.declared.refusal.Refusal.{Refusal}
 use Rattle.frame.specs.declared.refusal.Refusal.TheVariants.{Settings, Store, Content, Plot, Value, OfficeFull, SessionFull, Room, Format, Unmade, Different, Missing}

@@ -1,11 +1,11 @@
 -- What `write` answers and leaves, from what its parts do. Assumes nothing.
 use Rattle.std.proofs.Common.{Err, Ok, Result}
+use Rattle.std.specs.Result.{IsErrAnd}
 use Rattle.store.proofs.Rules.{laid as Laid-of}
 use Prim.Native.Nat.{ℕ, zero, suc, ◌+◌, ◌*◌, ◌^◌, ◌<◌, ◌≤◌}
 use mathlib.Core.Path.{◌≡◌, refl, sym, ap, ap₂, ◌∙◌, subst}
 use mathlib.Core.Bool.{Bool, true, false}
-use mathlib.Core.List.Memᴰ
-use mathlib.Core.List.{List, Memᴰ, [], ◌∷◌}
+use mathlib.Core.List.{List}
 use native.Mathlib.Omega.{arith}
 use lib.Dec.{ltb}
 use lib.ListN.{length, get_or}
@@ -22,13 +22,13 @@ use Rattle.frame.specs.Entries.{blank_entry, id_of, entry_ok}
 use Rattle.frame.specs.Frames.{frame_ok}
 use Rattle.frame.specs.Refusals.{Reply, number_of, reply_of}
 use Rattle.frame.specs.declared.refusal.Refusal.{Refusal}
-use Rattle.frame.specs.Sessions.{SaneContent, content_of, ids_of, nobody, session_ok}
+use Rattle.frame.specs.Sessions.{SaneContent, content_of, ids_of, session_ok}
 use Rattle.frame.specs.Tokens.{rows_of}
 use Rattle.frame.specs.Calls.{laid}
 use Rattle.frame.proofs.Entries.{RingFacts, entry_facts, facts_frame, frame_wider}
 use Rattle.frame.proofs.Ids.{id_range}
 use Rattle.frame.proofs.OwnTurns.{count_is}
-use Rattle.frame.proofs.Sessions.{ids_new, ids_set, session_facts, own_ok_lem}
+use Rattle.frame.proofs.Sessions.{session_facts}
 use Rattle.store.specs.Offices.{Office, need, slot_at, office_of, store_words, sound_store, made}
 use Rattle.store.specs.Slots.{hold_words}
 use Rattle.store.proofs.Bridge.{store_same}
@@ -38,11 +38,16 @@ use Rattle.office.specs.Calls.{Result as Outcome, refusal, new_entry, sent_of, w
 use Rattle.office.specs.Answers.{session_if, extended_by, made_by, with_made, write_session}
 use Rattle.office.specs.Promises.{MakePromise, WritePromise}
 use Rattle.office.specs.Steps.{own_at, holds_in, Slots}
+use Rattle.writing.specs.declared.write.Made.{Made}
+use Rattle.writing.specs.declared.write.Wrote.{Wrote}
+use Rattle.writing.specs.Answers.{entry_by, session_by, words_by, wrote_by}
+use Rattle.office.proofs.Exits.{number_some}
 use Rattle.writing.specs.Writes.{first_codes, second_codes, early_code, started, all_frames, Framed}
 use Rattle.office.proofs.KeepCalls.{all_known}
 use Rattle.office.proofs.Along.{Along, hold_end, start_along}
 use Rattle.office.proofs.KeepWrite.{A, takes, e_ok}
 use Rattle.writing.proofs.EarlyCodes.{write_code_lem}
+use Rattle.office.proofs.Shape.{own_kept}
 use Rattle.office.proofs.Slots.{settings, slot_of}
 use Rattle.writing.proofs.Sends.{all_frames_lem}
 use Rattle.office.proofs.Holds.{holds_are}
@@ -52,12 +57,6 @@ pub frame_of : (n p : ℕ) (e : Entry) → RingFacts n p → entry_ok n p e ≡ 
 frame_of n p e R ok =
     frame_wider n p 64 (started n e) R.to
     (facts_frame n p (started n e) (record { ring = refl; low = R.low; high = R.high; hops_ok = omega arith; entry = ok }))
-
--- what stands at a place of a list is of the list
-at_mem : {A : Type 0} (l : List A) (k : ℕ) (d : A) → k < length l → Memᴰ (get_or l k d) l
-at_mem [] k d h = absurd (omega arith)
-at_mem (x ∷ l) zero d h = Memᴰ.head refl
-at_mem (x ∷ l) (suc k) d h = Memᴰ.tail (at_mem l k d (omega arith))
 
 -- ---- nothing is refused but perhaps for the room
 
@@ -106,25 +105,23 @@ module _ (ws : List ℕ) (s : Session) (sound : sound_store ws ≡ true) (sessio
   pub count_le : s.count ≤ 16
   count_le = omega (arith, (session_facts (office_of ws).offices (office_of ws).plots (content_of s) session).few, count_is s)
 
-  own_entry : (i : ℕ) → i < length (content_of s).own → entry_ok (office_of ws).offices (office_of ws).plots (own_at (content_of s).own i) ≡ true
-  own_entry i l =
-      own_ok_lem (office_of ws).offices (office_of ws).plots (content_of s) (session_facts (office_of ws).offices (office_of ws).plots (content_of s) session) (own_at (content_of s).own i)
-      (at_mem (content_of s).own i nobody l)
-
   pub slots : (own : List Entry) → own ≡ (content_of s).own → Slots own (length ws)
   slots own q =
       subst (λ (x : List Entry). Slots x (length ws)) (sym q)
-      (λ i l. slot_of (office_of ws).offices (office_of ws).plots (length ws) (own_at (content_of s).own i) long (own_entry i l))
+      (λ i l. slot_of (office_of ws).offices (office_of ws).plots (length ws) (own_at (content_of s).own i) long (own_kept (office_of ws).offices (office_of ws).plots (content_of s) session i l))
 
   pub frames : (own : List Entry) → own ≡ (content_of s).own → Framed (get_or ws 0 0) own
   unfolding office_of
   frames own q =
       subst (Framed (get_or ws 0 0)) (sym q)
-      (λ i l. frame_of (get_or ws 0 0) (get_or ws 2 0) (own_at (content_of s).own i) (settings ws sound) (own_entry i l))
+      (λ i l. frame_of (get_or ws 0 0) (get_or ws 2 0) (own_at (content_of s).own i) (settings ws sound) (own_kept (office_of ws).offices (office_of ws).plots (content_of s) session i l))
 
 module _ (ws : List ℕ) (s : Session) (plot value : ℕ) (R : Ready ws s plot value) where
+  pub few_own : length (content_of s).own < 16
+  few_own = ltb-true (length (content_of s).own) 16 R.room
+
   pub few : s.count < 16
-  few = omega (arith, ltb-true (length (content_of s).own) 16 R.room, count_is s)
+  few = omega (arith, few_own, count_is s)
 
   module _ (words : (i : ℕ) → get_or ws i 0 < 2 ^ 32) (N : SaneContent (content_of s)) where
     S : Sound (office_of ws)
@@ -293,12 +290,16 @@ module _ (ws : List ℕ) (s : Session) (plot value : ℕ) (out : List ℕ) where
   none_made zero n e = absurd (n refl)
   none_made (suc c) n e = ap (λ (k : ℕ). made_by k (new_entry (office_of ws) (content_of s) plot value)) e
 
-  pub not_made : (w : Result ℕ Refusal) (e : Entry) (x : Refusal) → w ≡ Err x → e ≡ blank_entry → (number_of x ≡ 0 → ⊥)
-      → Says (record { code = number_of x; words = 0 }) s ws out → MakePromise ws s plot value out w e ws out
+  pub not_made : (x : Refusal) → Says (record { code = number_of x; words = 0 }) s ws out → MakePromise ws s plot value out (Err x) blank_entry ws out
   unfolding reply_of with_made
-  not_made w e x a b n S =
-      subst (λ (p : Result ℕ Refusal × Entry). MakePromise ws s plot value out p.0 p.1 ws out) (λ i. (sym a i, sym b i))
-      (S, none_made (number_of x) n (ap (λ (r : Reply). r.code) S.0))
+  not_made x S = (S, none_made (number_of x) (number_some x) (ap (λ (r : Reply). r.code) S.0))
+
+  -- the exit of a `?`
+  pub refused : (r : Result Made Refusal) (x : Refusal) → IsErrAnd r (λ y. y ≡ x) → Says (record { code = number_of x; words = 0 }) s ws out
+      → MakePromise ws s plot value out (words_by r) (entry_by r) ws out
+  unfolding words_by entry_by
+  refused (Ok m) x p S = absurd p
+  refused (Err y) x p S = rw p (not_made x S)
 
   pub made_is : (m : ℕ) (e : Entry) (z y : List ℕ) → e ≡ new_entry (office_of ws) (content_of s) plot value
       → Says (record { code = 0; words = m }) (extended_by s e) z y → MakePromise ws s plot value out (Ok m) e z y
@@ -313,15 +314,17 @@ module _ (ws : List ℕ) (s : Session) (plot value : ℕ) (out : List ℕ) where
       let k : suc x ≡ (write ws (content_of s) plot value out).code = ap (λ (r : Reply). r.code) S.0 in
       absurd (omega arith)
 
-  module _ (w : Result ℕ Refusal) (e : Entry) (z y : List ℕ) (A : MakePromise ws s plot value out w e z y) where
-    pub wrote_few : (m : ℕ) → w ≡ Ok m → s.count < 16
-    unfolding reply_of
-    wrote_few m h = few_of Early refl (ap (λ (r : Reply). r.code) (ap reply_of (sym h) ∙ A.0.0))
+  pub wrote_few : (m : Made) (z y : List ℕ) → MakePromise ws s plot value out (words_by (Ok m)) (entry_by (Ok m)) z y → s.count < 16
+  unfolding reply_of words_by
+  wrote_few m z y A = few_of Early refl (ap (λ (r : Reply). r.code) A.0.0)
 
-    pub wrote_same : (x : Refusal) → w ≡ Err x → WritePromise ws s plot value out (reply_of w) s z y
-    unfolding with_made
-    wrote_same x h = (A.0.0, ap (λ (v : Result ℕ Refusal). with_made s v e) (sym h) ∙ A.0.1, A.0.2, A.0.3)
+  pub wrote_not : (r : Result Wrote Refusal) (x : Refusal) (z y : List ℕ) → IsErrAnd r (λ v. v ≡ x) → MakePromise ws s plot value out (words_by (Err x)) (entry_by (Err x)) z y
+      → WritePromise ws s plot value out (reply_of (wrote_by r)) (session_by s r) z y
+  unfolding with_made words_by entry_by wrote_by session_by
+  wrote_not (Ok m) x z y p A = absurd p
+  wrote_not (Err v) x z y p A = rw p A.0
 
-    pub wrote_more : (m : ℕ) → w ≡ Ok m → (t : Session) → t ≡ extended_by s e → WritePromise ws s plot value out (reply_of w) t z y
-    unfolding with_made
-    wrote_more m h t q = (A.0.0, q ∙ ap (λ (v : Result ℕ Refusal). with_made s v e) (sym h) ∙ A.0.1, A.0.2, A.0.3)
+  pub wrote_more : (m : Made) (t : Session) (z y : List ℕ) → t ≡ extended_by s m.entry → MakePromise ws s plot value out (words_by (Ok m)) (entry_by (Ok m)) z y
+      → WritePromise ws s plot value out (reply_of (Ok m.words)) t z y
+  unfolding with_made words_by entry_by
+  wrote_more m t z y q A = rw q A.0

@@ -1,21 +1,19 @@
 use native.Mathlib.Omega.{arith}
 use mathlib.Core.Path.{refl}
-use Rattle.std.proofs.lemmas.Result.{err_from_is_err_and}
 use Rattle.std.proofs.Common.{length, ◌<◌}
 use lib.ListN.{get_or}
 use Rattle.causal.proofs.Codes.{lt_code_fails, lt_code_passes}
 use Rattle.frame.specs.Refusals.{code_of, number_of}
 use Rattle.frame.specs.Sessions.{content_of}
-use Rattle.frame.proofs.Refusals.{number_some}
 use Rattle.store.proofs.Rules.{laid}
+use Rattle.office.proofs.Exits.{number_some, err_code}
 use Rattle.writing.proofs.EarlyCodes.{first_stops, first_goes, start_sound}
 use Rattle.writing.proofs.write.may_start.Goals as goal
 
 pub returns-in_err-start : goal.returns-in_err-start
 unfolding code_of
 returns-in_err-start c = let z = c.args in
-    let p = err_from_is_err_and c.from_residual.result c.from_residual.ensures.1 in
-    rw (p.1, p.2) (first_stops z.store.now (content_of z.s.now) z.plot z.value _ c.in_err-start.ensures (number_some _))
+    err_code c.from_residual.result _ _ c.from_residual.ensures.1 (first_stops z.store.now (content_of z.s.now) z.plot z.value _ c.in_err-start.ensures (number_some _))
 
 pub bounds-store-2 : goal.bounds-store-2
 unfolding code_of

@@ -1,16 +1,15 @@
 use native.Mathlib.Omega.{arith}
 use mathlib.Core.Path.{◌≡◌, sym, ap, ◌∙◌}
 use Prim.Native.Nat.{ℕ}
-use Rattle.std.proofs.lemmas.Result.{err_from_is_err_and}
 use lib.ListN.{length}
 use Rattle.frame.specs.Refusals.{code_of, number_of}
 use Rattle.frame.specs.Sessions.{content_of}
 use Rattle.frame.proofs.OwnTurns.{count_is}
-use Rattle.frame.proofs.Refusals.{number_some}
 use Rattle.store.specs.Offices.{office_of, sound_store}
 use Rattle.store.proofs.Rules.{laid}
 use Rattle.office.specs.Calls.{own_code}
 use Rattle.writing.specs.Writes.{second_codes}
+use Rattle.office.proofs.Exits.{number_some, err_code}
 use Rattle.writing.proofs.EarlyCodes.{early_stops, early_second, early_own}
 use Rattle.writing.proofs.Writes.{first_ready, count_le, slots}
 use Rattle.writing.proofs.write.may_write.Goals as goal
@@ -18,8 +17,7 @@ use Rattle.writing.proofs.write.may_write.Goals as goal
 pub returns-in_err-may_start : goal.returns-in_err-may_start
 unfolding code_of office_of
 returns-in_err-may_start c = let z = c.args in
-    let p = err_from_is_err_and c.from_residual.result c.from_residual.ensures.1 in
-    rw (p.1, p.2) (early_stops (sound_store z.store.now) (office_of z.store.now) (content_of z.s.now) z.plot z.value _ c.in_err-may_start.ensures (number_some _))
+    err_code c.from_residual.result _ _ c.from_residual.ensures.1 (early_stops (sound_store z.store.now) (office_of z.store.now) (content_of z.s.now) z.plot z.value _ c.in_err-may_start.ensures (number_some _))
 
 pub set_at-held-requires : goal.set_at-held-requires
 unfolding code_of office_of
@@ -36,10 +34,9 @@ may_go_on-requires c = let z = c.args in
 pub returns-in_err-may_go_on : goal.returns-in_err-may_go_on
 unfolding code_of office_of content_of
 returns-in_err-may_go_on c = let z = c.args in
-    let p = err_from_is_err_and c.from_residual-in_err-may_go_on.result c.from_residual-in_err-may_go_on.ensures.1 in
     let second : number_of c.in_err-may_go_on.field-0.0 ≡ second_codes (office_of z.store.now) (length (content_of z.s.now).own) z.s.now.read =
     c.in_err-may_go_on.ensures ∙ ap (λ (n : ℕ). second_codes (office_of z.store.now) n z.s.now.read) (sym (count_is z.s.now)) in
-    rw (p.1, p.2)
+    err_code c.from_residual-in_err-may_go_on.result _ _ c.from_residual-in_err-may_go_on.ensures.1
     (early_second (sound_store z.store.now) (office_of z.store.now) (content_of z.s.now) z.plot z.value _ (sym c.in_ok-may_start.ensures) second (number_some _))
 
 pub own_writes-requires : goal.own_writes-requires
