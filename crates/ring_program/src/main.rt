@@ -24,7 +24,7 @@ use std::io::{Stdin, Stdout};
 #[derive(Clone, Copy)]
 pub struct Progress {
     pub stage: Stage,
-    pub left: u64,               // u64::MAX less the bytes read
+    pub left: u64, // u64::MAX less the bytes read
     pub said: io::Result<usize>, // what the last read said
 }
 

@@ -49,6 +49,6 @@ loop-reached-preserved c = let L = c.loop-reached in
       f.auto.text ∙ L.invariant.4,
       f.ensures.0,
       rn.goes_on _ _ _ L.reached _ _ L.invariant.6 (take n.result k.new.input) (record { stage = f.new.stage; left = k.new.left; said = k.result })
-      (omega (arith, k.ensures.1, n.ensures, length-take-le n.result k.new.input (omega (arith, k.ensures.0, n.ensures, k.auto.input, L.invariant.3, c.requires.1))))
-      f.ensures.2.0 _ _ f.ensures.2.3 (f.ensures.2.2 (ap is_ok c.in_ok-feed_all.was)) (f.ensures.1 ∙ ap is_ok c.in_ok-feed_all.was),
+          (omega (arith, k.ensures.1, n.ensures, length-take-le n.result k.new.input (omega (arith, k.ensures.0, n.ensures, k.auto.input, L.invariant.3, c.requires.1))))
+          f.ensures.2.0 _ _ f.ensures.2.3 (f.ensures.2.2 (ap is_ok c.in_ok-feed_all.was)) (f.ensures.1 ∙ ap is_ok c.in_ok-feed_all.was),
     )
