@@ -40,8 +40,7 @@ fn play(
     out: &mut [u32],
 ) -> Reply
     requires { Named line × (length out.old ≡ 1751) × Shown (desk_of stage.old) stores.old lines.old }
-    ensures { (stage.new.pending ≡ stage.old.pending) × (stage.new.at ≡ stage.old.at) × (stage.new.wrote ≡ stage.old.wrote)
-        × ((g : Scene) → Shows g (desk_of stage.old) stores.old lines.old → Plays out.old g line (record { desk = desk_of stage.new; reply = result }) stores.new lines.new) }
+    ensures { (stage.new.pending ≡ stage.old.pending) × (stage.new.at ≡ stage.old.at) × (stage.new.wrote ≡ stage.old.wrote) × ((g : Scene) → Shows g (desk_of stage.old) stores.old lines.old → Plays out.old g line (record { desk = desk_of stage.new; reply = result }) stores.new lines.new) }
 {
     match line {
         Line::Write(who, plot, value) => {

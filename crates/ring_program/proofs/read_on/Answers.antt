@@ -1,3 +1,4 @@
+use mathlib.Core.Bool.{true}
 use mathlib.Core.Path.{◌∙◌, ◌≡◌, ap, refl, sym}
 use native.Mathlib.Omega.{arith}
 use lib.ListN.{take}
@@ -41,7 +42,8 @@ pub loop-reached-preserved : goal.loop-reached-preserved
 loop-reached-preserved c = let L = c.loop-reached in
     let k = c.read_chunk-reached in
     let n = c.unwrap_or-n in
-    let f = c.feed_all in (
+    let f = c.feed_all in
+    let taken : is_ok f.result ≡ true = cc in (
       f.auto.stores ∙ L.invariant.0,
       f.auto.lines ∙ L.invariant.1,
       f.auto.out ∙ L.invariant.2,
@@ -50,5 +52,5 @@ loop-reached-preserved c = let L = c.loop-reached in
       f.ensures.0,
       rn.goes_on _ _ _ L.reached _ _ L.invariant.6 (take n.result k.new.input) (record { stage = f.new.stage; left = k.new.left; said = k.result })
           (omega (arith, k.ensures.1, n.ensures, length-take-le n.result k.new.input (omega (arith, k.ensures.0, n.ensures, k.auto.input, L.invariant.3, c.requires.1))))
-          f.ensures.2.0 _ _ f.ensures.2.3 (f.ensures.2.2 (ap is_ok c.in_ok-feed_all.was)) (f.ensures.1 ∙ ap is_ok c.in_ok-feed_all.was),
+          f.ensures.2.0 _ _ f.ensures.2.3 (f.ensures.2.2 taken) (f.ensures.1 ∙ taken),
     )

@@ -1,4 +1,5 @@
-use mathlib.Core.Path.{◌∙◌, ap, refl}
+use mathlib.Core.Bool.{true}
+use mathlib.Core.Path.{◌∙◌, ◌≡◌, ap, refl}
 use native.Mathlib.Omega.{arith}
 use Rattle.std.proofs.lemmas.Result.{err_from_is_err_and}
 use Rattle.std.specs.Prelude.{is_ok}
@@ -37,14 +38,15 @@ returns-in_err-write_out c = let L = c.loop-from in
 pub loop-from-preserved : goal.loop-from-preserved
 loop-from-preserved c = let L = c.loop-from in
     let q = c.feed_some-from in
-    let w = c.write_out in (
+    let w = c.write_out in
+    let taken : is_ok w.result ≡ true = cc in (
       q.ensures.1,
       q.auto.out ∙ L.invariant.1,
       q.auto.text ∙ L.invariant.2,
       q.auto.stores ∙ L.invariant.3,
       q.auto.lines ∙ L.invariant.4,
       ap (λ (x : Stage). x.at) w.ensures,
-      ap (λ (x : Stage). x.wrote) w.ensures ∙ ap is_ok c.in_ok-write_out.was,
+      ap (λ (x : Stage). x.wrote) w.ensures ∙ taken,
       λ g l S e.
           let X = L.invariant.7 g l S e in
           fd.leads_then c.args.bytes.now L.from q.result (omega (arith, q.ensures.0)) g l L.stage.at _ q.new.stage w.new.stage _ _ _ (q.ensures.4 _ _ X.shows X.pending) (ap desk_of w.ensures) (ap (λ (x : Stage). x.pending) w.ensures),
