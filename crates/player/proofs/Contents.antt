@@ -1,7 +1,7 @@
 -- The sessions that accepted calls leave, as structs and as contents. Assumes nothing.
 use Rattle.std.specs.Prelude.{None, Option, Some, is_some}
 use Rattle.std.specs.Option.{unwrap_or}
-use Prim.Native.Nat.{ℕ, suc, zero, ◌+◌, ◌-◌, ◌<◌}
+use Prim.Native.Nat.{ℕ, suc, zero, ◌+◌, ◌<◌}
 use mathlib.Core.List.{List, [], ◌++◌, ◌∷◌}
 use mathlib.Core.Path.{◌∙◌, ◌≡◌, ap, refl, sym}
 use native.Mathlib.Omega.{arith}

@@ -1,6 +1,6 @@
 -- From what a reading answers to a line played. Assumes nothing.
 use Rattle.std.proofs.Common.{Err, Ok, Result as Answer}
-use Rattle.std.specs.Prelude.{None, Option, Some, is_some}
+use Rattle.std.specs.Prelude.{Option, is_some}
 use Rattle.std.specs.Option.{unwrap_or}
 use Prim.Native.Nat.{ℕ, suc, ◌*◌, ◌+◌, ◌<◌, ◌≤◌}
 use mathlib.Core.Bool.{Bool, false}

@@ -1,7 +1,6 @@
 -- From what a write answers to a line played. Assumes nothing.
 use Rattle.std.proofs.Common.{Err, Ok, Result as Answer}
-use Prim.Native.Nat.{ℕ, suc, zero, ◌*◌, ◌+◌, ◌<◌, ◌≤◌}
-use mathlib.Core.Bool.{false, true}
+use Prim.Native.Nat.{ℕ, suc, ◌*◌, ◌+◌, ◌<◌, ◌≤◌}
 use mathlib.Core.List.{List}
 use mathlib.Core.Path.{◌∙◌, ◌≡◌, ap, refl, subst, sym}
 use native.Mathlib.Omega.{arith}
@@ -9,7 +8,6 @@ use lib.ListN.{drop, get_or, length, set}
 use lib.Seq.{length-sets, set-get_or, sets}
 use Rattle.causal.specs.Lists.{part}
 use Rattle.causal.proofs.Lists.{part_length}
-use Rattle.causal.proofs.Tests.{false_true}
 use Rattle.frame.specs.Calls.{laid}
 use Rattle.frame.specs.Entries.{blank_entry}
 use Rattle.frame.specs.Refusals.{number_of}

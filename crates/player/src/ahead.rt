@@ -22,6 +22,7 @@ pub enum Stay {
 
 impl From<Refusal> for Stay {
     ghost use Rattle.player.specs.declared.ahead.Stay.TheVariants.{Refused};
+
     ghost from_gives = { λ refusal stay. stay ≡ Refused refusal };
 
     fn from(refusal: Refusal) -> Stay {

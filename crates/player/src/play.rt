@@ -107,7 +107,12 @@ pub fn write_line(
 }
 
 // A reading at an office, on its part of the stores; the other parts stay.
-pub fn read_at(stores: &mut [u32], office: usize, s: &Session, plot: u32) -> Result<PlotSeen, Refusal>
+pub fn read_at(
+    stores: &mut [u32],
+    office: usize,
+    s: &Session,
+    plot: u32,
+) -> Result<PlotSeen, Refusal>
     requires { (office < 3) × (length stores.old ≡ 5241) }
     ensures { ReadPromise (part stores.old (1747 * office) 1747) s.now plot (code_of result) (seen_found result) (seen_entry result) (seen_session s.now result) (part stores.new (1747 * office) 1747) × (stores.new ≡ sets stores.old (1747 * office) (part stores.new (1747 * office) 1747)) }
 {

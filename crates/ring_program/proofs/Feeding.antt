@@ -1,4 +1,5 @@
 -- Bytes fed one after another. Assumes nothing.
+use Rattle.std.specs.Prelude.{None, Option, Some}
 use Prim.Native.Nat.{ℕ, suc, ◌+◌, ◌-◌, ◌<◌, ◌≤◌}
 use mathlib.Core.Bool.{Bool, cond, false, true}
 use mathlib.Core.List.{List, [], ◌++◌, ◌∷◌, append_assoc, append-nil}
@@ -7,12 +8,13 @@ use mathlib.Core.Path.{◌∙◌, ◌≡◌, ap, refl, subst, sym}
 use native.Mathlib.Nat.{add-zero, zero-add}
 use native.Mathlib.Omega.{arith}
 use lib.Dec.{eqb}
-use lib.ListN.{drop, length, length-append, length-drop, take}
-use lib.Seq.{sets}
+use lib.ListN.{drop, get_or, length, length-append, length-drop, set, take}
+use lib.Seq.{set-get_or, sets}
 use borrow.Author.Tests.{eqb-false, eqb-true}
 use Rattle.causal.specs.Lists.{part}
 use Rattle.causal.proofs.Lists.{part_add, sets_append}
 use Rattle.causal.proofs.Tests.{lt_or_le}
+use Rattle.frame.specs.declared.session.Session.{Session}
 use Rattle.script.specs.Lines.{line_of}
 use Rattle.script.specs.Pendings.{Takes, first_line, has_end, is_empty, line_size, parsed, pending_of}
 use Rattle.script.specs.Replies.{reply_bytes}
@@ -22,7 +24,7 @@ use Rattle.script.specs.declared.pending.Pending.{Pending}
 use Rattle.script.specs.declared.pending.Taken.{Taken}
 use Rattle.script.specs.declared.reply.Reply.{Reply}
 use Rattle.script.proofs.Pendings.{empty_is, line_part, parse_whole}
-use Rattle.player.specs.Desks.{Desk}
+use Rattle.player.specs.Desks.{Desk, no_session}
 use Rattle.player.specs.Play.{Scene, play}
 use Rattle.player.specs.Shows.{Shows}
 use Rattle.player.specs.Steps.{Plays, sessionless}
@@ -110,6 +112,17 @@ other_line (Read i plot) h k = absurd (k i plot refl)
 other_line (Move i o) h k = refl
 other_line (Receive o) h k = refl
 other_line Other h k = refl
+
+-- the session that a line names, put back or left as it is
+pub put_back : (P : List Session → Type 0) (ss : List Session) (i : ℕ) (t u : Session) → t ≡ u → P (set ss i t) → P (set ss i u)
+put_back P ss i t u e p = subst (λ (x : Session). P (set ss i x)) e p
+
+pub left : (P : List Session → Type 0) (ss : List Session) (i : ℕ) (t : Session) → t ≡ get_or ss i no_session → P (set ss i t) → P ss
+left P ss i t e p = subst P (ap (set ss i) e ∙ set-get_or ss i no_session) p
+
+pub none_of : {A : Type 0} (o : Option A) → ((x : A) → o ≡ Some x → ⊥) → o ≡ None
+none_of None h = refl
+none_of (Some x) h = absurd (h x refl)
 
 -- ---- the loop over bytes
 

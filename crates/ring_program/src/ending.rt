@@ -8,9 +8,8 @@ ghost use Rattle.ring_program.specs.Promises.{Closes};
 
 use crate::feed::{Stage, finish};
 use crate::output::Untaken;
-use std::fmt;
-use std::io;
 use std::io::{Stderr, Stdout};
+use std::{fmt, io};
 
 // Why the program ends before the input does, or with replies that were not taken.
 #[derive(Clone, Copy, Debug, PartialEq, Eq)]
@@ -32,6 +31,7 @@ impl fmt::Display for Failure {
 
 impl From<Untaken> for Failure {
     ghost use Rattle.ring_program.specs.declared.ending.Failure.TheVariants.{Write};
+
     ghost from_gives = { λ _ failure. failure ≡ Write };
 
     fn from(_untaken: Untaken) -> Failure {

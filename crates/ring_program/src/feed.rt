@@ -11,7 +11,7 @@ ghost use Rattle.ring_program.specs.Fed.{Finishes, Follows, Leads, Staged, desk_
 use crate::output::{Untaken, write_all};
 use frame::session::Session;
 use office::note::set_seen;
-use player::board::{Board, BoardTurn};
+use player::board::Board;
 use player::play::{play_other, read_line, write_line};
 use script::line::Line;
 use script::pending::{Pending, is_empty, nothing, parse, take};
@@ -30,7 +30,8 @@ pub struct Stage {
     pub wrote: bool,
 }
 
-// A line played, by the session that it names, if it names one. The sessions are large: each is changed where it stands.
+// A line played, by the session that it names, if it names one. The sessions are large: a line copies no more than the one that it names, and puts it back
+// where it has changed.
 fn play(
     stage: &mut Stage,
     line: Line,
@@ -39,32 +40,34 @@ fn play(
     out: &mut [u32],
 ) -> Reply
     requires { Named line × (length out.old ≡ 1751) × Shown (desk_of stage.old) stores.old lines.old }
-    ensures { (stage.new.pending ≡ stage.old.pending) × (stage.new.at ≡ stage.old.at) × (stage.new.wrote ≡ stage.old.wrote)
-        × ((g : Scene) → Shows g (desk_of stage.old) stores.old lines.old → Plays out.old g line (record { desk = desk_of stage.new; reply = result }) stores.new lines.new) }
+    ensures { (stage.new.pending ≡ stage.old.pending) × (stage.new.at ≡ stage.old.at) × (stage.new.wrote ≡ stage.old.wrote) × ((g : Scene) → Shows g (desk_of stage.old) stores.old lines.old → Plays out.old g line (record { desk = desk_of stage.new; reply = result }) stores.new lines.new) }
 {
     match line {
         Line::Write(who, plot, value) => {
             let who = who as usize;
-            let s = &stage.sessions[who];
-            let turn = write_line(stage.board, who, s, plot, value, stores, lines, out);
-            if let Some(entry) = turn.entry {
-                extend(&mut stage.sessions[who], &entry);
-            }
+            let mut s = stage.sessions[who];
+            let turn = write_line(stage.board, who, &s, plot, value, stores, lines, out);
             stage.board = turn.board;
+            if let Some(entry) = turn.entry {
+                extend(&mut s, &entry);
+                stage.sessions[who] = s;
+            }
             turn.reply
         }
         Line::Read(who, plot) => {
             let who = who as usize;
-            let turn = read_line(stage.board, who, &stage.sessions[who], plot, stores);
+            let mut s = stage.sessions[who];
+            let turn = read_line(stage.board, who, &s, plot, stores);
             if let Some(seen) = turn.seen {
-                set_seen(&mut stage.sessions[who], seen);
+                set_seen(&mut s, seen);
+                stage.sessions[who] = s;
             }
             turn.reply
         }
         _ => {
-            let BoardTurn { board, reply } = play_other(stage.board, line, stores, lines, out);
-            stage.board = board;
-            reply
+            let turn = play_other(stage.board, line, stores, lines, out);
+            stage.board = turn.board; // whoever moved, and what waits
+            turn.reply
         }
     }
 }

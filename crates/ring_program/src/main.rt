@@ -1,9 +1,11 @@
 // The ring program: a script on standard input, a reply to each line on standard output.
 #![tactic(auto)]
 
-ghost use Rattle.std.specs.Prelude.{◌≡◌, length, true};
+ghost use Rattle.std.specs.Prelude.{◌≡◌, [], length, true};
+ghost use Rattle.script.specs.Pendings.{pending_of};
+ghost use Rattle.player.specs.Shows.{Shown};
 ghost use Rattle.ring_program.specs.Promises.{Reads, RunPromise};
-ghost use Rattle.ring_program.specs.Fed.{Staged};
+ghost use Rattle.ring_program.specs.Fed.{desk_of};
 
 mod ending;
 mod feed;
@@ -22,7 +24,7 @@ use std::io::{Stdin, Stdout};
 #[derive(Clone, Copy)]
 pub struct Progress {
     pub stage: Stage,
-    pub left: u64,               // u64::MAX less the bytes read
+    pub left: u64, // u64::MAX less the bytes read
     pub said: io::Result<usize>, // what the last read said
 }
 
@@ -44,7 +46,7 @@ fn read_on(
     input: &mut [u8],
     text: &mut [u8],
 ) -> Result<(), Failure>
-    requires { (length out.old ≡ 1751) × (length input.old ≡ 4096) × (length text.old ≡ 8192) × (reached.old.stage.at ≡ 0) × Staged reached.old.stage stores.old lines.old × (reached.old.stage.wrote ≡ true) }
+    requires { (length out.old ≡ 1751) × (length input.old ≡ 4096) × (length text.old ≡ 8192) × (reached.old.stage.at ≡ 0) × (reached.old.stage.wrote ≡ true) × (reached.old.stage.pending ≡ pending_of []) × Shown (desk_of reached.old.stage) stores.old lines.old }
     ensures { Reads reached.old stores.old lines.old result reached.new stores.new lines.new text.new }
 {
     while reached.left >= 4096 {

@@ -2,7 +2,6 @@ use Prim.Native.Nat.{◌+◌}
 use mathlib.Core.Path.{◌∙◌, ◌≡◌, ap}
 use lib.ListN.{get_or}
 use Rattle.player.specs.Desks.{desk, pushed, with_frames}
-use Rattle.player.proofs.Delivery as dl
 use Rattle.player.proofs.play.deliver.Goals as goal
 
 pub returns : goal.returns

@@ -1,7 +1,5 @@
-use Prim.Native.Nat.{◌<◌}
 use mathlib.Core.Path.{◌∙◌, ◌≡◌, ap, refl}
 use native.Mathlib.Omega.{arith}
-use lib.ListN.{get_or}
 use Rattle.std.proofs.lemmas.Result.{err_from_is_err_and}
 use Rattle.ring.specs.Run.{next_of}
 use Rattle.player.specs.Desks.{Desk, count_at, desk, first_at, without_oldest}

@@ -74,9 +74,9 @@ returns c = let a = c.args in
     let q = c.write_at in
     let m = c.in_ok-words.field-0 in (
       (λ (_ : true ≡ true).
-      let d = desk c.requires.2.0 a.board in
-      lw.few c.requires.2.2.0 d a.stores.now a.lines.now c.requires.2.2.1 a.i c.requires.0 a.s.now c.requires.2.1 a.plot a.value a.out.now _ c.next_of-next.ensures q.new.stores q.new.out q.ensures.1 m.words m.entry
-      (lw.made_done (lw.Promised c.requires.2.2.0 d a.stores.now a.lines.now c.requires.2.2.1 a.i c.requires.0 a.s.now c.requires.2.1 a.plot a.value a.out.now _ c.next_of-next.ensures q.new.stores q.new.out q.ensures.1) q.result m c.in_ok-words.was q.ensures.0)),
+          let d = desk c.requires.2.0 a.board in
+          lw.few c.requires.2.2.0 d a.stores.now a.lines.now c.requires.2.2.1 a.i c.requires.0 a.s.now c.requires.2.1 a.plot a.value a.out.now _ c.next_of-next.ensures q.new.stores q.new.out q.ensures.1 m.words m.entry
+          (lw.made_done (lw.Promised c.requires.2.2.0 d a.stores.now a.lines.now c.requires.2.2.1 a.i c.requires.0 a.s.now c.requires.2.1 a.plot a.value a.out.now _ c.next_of-next.ensures q.new.stores q.new.out q.ensures.1) q.result m c.in_ok-words.was q.ensures.0)),
       λ ss g own T.
           let d = desk ss a.board in
           let A = lw.made_done (lw.Promised g d a.stores.now a.lines.now T a.i c.requires.0 a.s.now own a.plot a.value a.out.now _ c.next_of-next.ensures q.new.stores q.new.out q.ensures.1) q.result m c.in_ok-words.was q.ensures.0 in

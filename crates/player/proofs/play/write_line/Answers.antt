@@ -1,4 +1,3 @@
-use Rattle.player.specs.Steps.{written}
 use Rattle.player.proofs.play.write_line.Goals as goal
 
 pub returns-in-Err : goal.returns-in-Err
