@@ -15,7 +15,7 @@ sys.dont_write_bytecode = True
 
 import rattle
 from crates import Crates
-from rattle import Applied, Array, Named, Ref, Slice
+from rattle import Applied, Array, Named, Opaque, Ref, Slice, Tuple
 
 LIST = "docs/ARCHITECTURE.md"
 SECTION = "## Public calls"
@@ -110,7 +110,11 @@ class Meanings:
             return Array(self.type_of(kind.of), rattle.written(kind.length))
         if isinstance(kind, Named):
             return Named(kind.path if kind.path[-1] in rattle.WIDTHS else self.crates.resolved(kind.path, self.file))
-        return Applied(self.crates.resolved(kind.path, self.file), rattle.written(kind.arguments)) if kind else None
+        if isinstance(kind, Tuple):
+            return Tuple(tuple(map(self.type_of, kind.parts)))
+        if isinstance(kind, Opaque):
+            return kind
+        return Applied(self.crates.resolved(kind.path, self.file), tuple(map(self.type_of, rattle.arguments_of(kind)))) if kind else None
 
     def takes_and_gives(self, function):
         return [(f.name, self.type_of(f.type)) for f in function.fields], self.type_of(function.result)
