@@ -82,6 +82,13 @@ class Crates:
         declared = self.declared.get(self.resolved(path[:-1], file))
         return declared if declared and path[-1] in declared.variants else None
 
+    def functions_of(self, path, file):
+        """The functions that a path names: that of a module, or those of a type that have the name."""
+        whole = self.functions.get(self.resolved(path, file))
+        if whole and not whole.home:
+            return [whole]
+        return self.members.get((*self.resolved(path[:-1], file), path[-1]), []) if len(path) > 1 else []
+
     def is_std(self, path, file):
         """Is the name before a path's end one of the language's own library, by no name of ours?"""
         return (*file.module[:1], path[0]) not in self.modules and path[0] not in file.imports and self.resolved(path, file) not in self.functions
@@ -280,8 +287,7 @@ class Values:
             return None if of is None else 1 + of
         if follows == "[":
             return 1
-        full = self.crates.resolved(path, self.file)
-        called = self.crates.functions.get(full) or next(iter(self.crates.members.get(full, ())), None)
+        called = next(iter(self.crates.functions_of(path, self.file)), None)
         if called and follows == "(":
             home = self.crates.files[called.file]
             return 0 if called.result is None else self.crates.words(called.result, home)

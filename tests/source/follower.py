@@ -344,8 +344,7 @@ class Follower:
             return []
         if self.walk.narrow and not lent or not lent and self.is_numeric(call.path, file):
             return []
-        found = self.crates.members.get(path) or [f for f in [self.crates.functions.get(path)] if f and not f.home]
-        found = [callee for callee in found if len(callee.fields) == len(call.arguments)]
+        found = [f for f in self.crates.functions_of(call.path, file) if len(f.fields) == len(call.arguments)]
         if not found:
             self.not_found(call, path, function)
         return [c for callee in found for c in self.call_of(call, callee, callee.fields, function, rows, others)]

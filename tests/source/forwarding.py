@@ -96,8 +96,7 @@ class Findings:
         """The functions that a body names, by a path or as a method, each with the line."""
         file = self.crates.files[function.file]
         for path, at, _ in rattle.paths_of(function.body):
-            full = self.crates.resolved(path, file)
-            for callee in self.crates.members.get(full) or [f for f in [self.crates.functions.get(full)] if f]:
+            for callee in self.crates.functions_of(path, file):
                 yield callee, function.body[at].line
         for method in rattle.methods_of(function.body):
             for callee in self.crates.methods.get(method.name, ()):

@@ -4,6 +4,7 @@ A form that is not read is told (Unread), with its line.
 """
 
 import collections
+import functools
 import re
 
 TOKEN = re.compile(
@@ -454,6 +455,21 @@ def path_at(tokens, at):
     return tuple(path), at
 
 
+def once(read):
+    """What is read of a body is read once, however many walks come to it."""
+    found = {}
+
+    @functools.wraps(read)
+    def kept(body):
+        if id(body) not in found or found[id(body)][0] is not body:
+            told = read(body)
+            found[id(body)] = body, told if isinstance(told, set) else list(told)
+        return found[id(body)][1]
+
+    return kept
+
+
+@once
 def paths_of(body):
     """Each path of names in a body, with its place and the place behind it. Fields and methods are none."""
     at = 0
@@ -466,6 +482,7 @@ def paths_of(body):
         at = end
 
 
+@once
 def calls_of(body):
     """The calls by path, each with the tokens of its arguments."""
     for path, at, end in paths_of(body):
@@ -501,6 +518,7 @@ def start_of(body, at):
     return at
 
 
+@once
 def methods_of(body):
     """The calls of methods, each with the tokens of what it is called on and of its arguments."""
     for at, token in enumerate(body):
@@ -513,6 +531,7 @@ def methods_of(body):
 Closure = collections.namedtuple("Closure", "at names end")
 
 
+@once
 def closures_of(body):
     """What begins with `|` where an operand is to stand."""
     at = 0
@@ -595,6 +614,7 @@ def arms_of(inner):
         at = end + (behind(inner, end).text == ",")
 
 
+@once
 def bound_names(body):
     """The names that a body binds: by `let`, by `for`, in the patterns of a `match`, and as parameters of closures."""
     names = set().union(*(closure.names for closure in closures_of(body)))

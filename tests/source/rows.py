@@ -12,8 +12,9 @@ Word = collections.namedtuple("Word", "name line text parts", defaults=[False])
 # Methods that tell how long a row is, and of a single word those of numbers.
 MEASURES = frozenset("is_empty len".split())
 NUMBERS = frozenset("count_ones leading_zeros max min trailing_zeros wrapping_add wrapping_mul wrapping_sub".split())
-# Methods that read words of a row, and those that give parts of it. What they give is used up where it stands: by a `for`, or by one of these.
-READS, PARTS = frozenset("first iter last".split()), frozenset("chunks_exact first_chunk".split())
+# Methods that read a word of a row, all words one by one, and parts of it. What they give, if more than a word, is used up where it stands: by
+# a `for`, or by one of these.
+ONE, READS, PARTS = frozenset("first last".split()), frozenset(["iter"]), frozenset("chunks_exact first_chunk".split())
 BETWEEN = frozenset("copied enumerate filter map rev skip take zip".split())
 USES = frozenset("all any count fold max min position sum unwrap unwrap_or".split())
 # Methods that write to a row: words of another row or of an array, and one number to each place.
@@ -76,7 +77,7 @@ class Rows:
         elif follows == ".":
             if method in MEASURES or method in (COPY, FILL) and start == at:
                 return
-            read = method in READS | PARTS and self.is_used_up(start, end)
+            read = method in ONE or method in READS | PARTS and self.is_used_up(start, end)
         elif self.is_argument(start, end):
             return
         else:
