@@ -130,7 +130,8 @@ class Follower:
     def look_at_values(self, function):
         """What it is given, gives and makes: arrays, declared types, constants, and how many words all its values have together."""
         file = self.crates.files[function.file]
-        self.look_at_declared(file)
+        for declared in file.declared.values():
+            self.look_at_declared(declared)
         for field in function.fields:
             if not takes_any(field.type, function):
                 self.look_at_type(field.type, file, function.path[-1], field.name, field.line)
@@ -197,11 +198,10 @@ class Follower:
         if isinstance(kind, (Named, Applied)):
             self.look_at_fields(self.crates.type_of(kind.path, file))
 
-    def look_at_declared(self, file):
-        """No type of a file with code that is followed holds a row."""
-        for declared in file.declared.values():
-            if any(rattle.has_reference(field.type) for group in declared.groups for field in group):
-                self.fault(FOLLOWED, file.path, declared.line, f"the type {declared.path[-1]} may hold a row, and is not followed")
+    def look_at_declared(self, declared):
+        """No type that is named holds a row, and none in a file with code that is followed."""
+        if any(rattle.has_reference(field.type) for group in declared.groups for field in group):
+            self.fault(FOLLOWED, declared.file, declared.line, f"the type {declared.path[-1]} may hold a row, and is not followed")
 
     def look_at_fields(self, declared):
         if declared is None or declared.path in self.types:
@@ -209,7 +209,7 @@ class Follower:
         self.types.add(declared.path)
         self.named.append(declared.path)
         home = self.crates.files[declared.file]
-        self.look_at_declared(home)
+        self.look_at_declared(declared)
         for field in (field for group in declared.groups for field in group):
             self.look_at_type(field.type, home, declared.path[-1], field.name, field.line)
 

@@ -399,7 +399,9 @@ READING = [
     hidden("by eights", STRAIGHT, taken("    for part in frame.chunks_exact(8) {\n        store[0] = part[0];\n    }\n")),
     hidden("the first eight", STRAIGHT, taken("    let part: [u32; 8] = *frame.first_chunk().unwrap();\n")),
     hidden("asked by an equality", STRAIGHT, taken("    if store[..8] == frame[..8] {\n        store[0] = 1;\n    }\n")),
-    hidden("an iterator that is kept", LENT, put("    let words = frame.iter();\n")),
+    hidden("an iterator that is kept", LENT, put("    let words = frame.iter();\n    let more = (words, 1);\n")),
+    hidden("an iterator that is lent by a name", LENT, put("    let words = frame.iter();\n    keep(words);\n"), declared("fn keep(words: u32) {}\n\n")),
+    hidden("an iterator in a struct", LENT, put("    held.words = frame.iter();\n")),
     hidden("an iterator that is lent", LENT, put("    keep(frame.iter());\n"), declared("fn keep(words: u32) {}\n\n")),
     hidden("a vector of a row", FOLLOWED, put("    let some = frame.to_vec();\n")),
     hidden("a vector of an iterator", FOLLOWED, put("    let some = frame.iter().collect();\n")),
@@ -415,6 +417,7 @@ METHOD = "impl Held {{\n    pub fn {}{{\n{}    }}\n}}\n\n"
 CLOSURES = [
     hidden("a closure that takes a row in", LENT, put("    let some = (0..8).map(|i| frame[i]).sum();\n")),
     hidden("a closure with a row's name", LENT, put("    let some = (0..8).all(|frame| frame == 1);\n")),
+    hidden("a closure that takes a row whole", LENT, put("    let some = (0..8).map(move |i| frame[i]).sum();\n")),
     hidden("a closure that is kept", FOLLOWED, put("    let twice = |i| 2 * i;\n")),
     hidden("a closure for a function of ours", FOLLOWED, put("    keep(|i| 2 * i);\n"), declared("fn keep<F: Fn(u32) -> u32>(f: F) {}\n\n")),
     hidden("a closure for any that is like one", FOLLOWED, put("    keep(|i| 2 * i);\n"), declared("fn keep(f: impl Fn(u32) -> u32) {}\n\n")),
@@ -517,6 +520,7 @@ TODAY = [
         [
             put("    let Some(first) = frame.first() else {\n        return;\n    };\n"),
             put("    let most = frame[1..].iter().map(|w| w.count_ones()).fold(0u32, |a, b| a.max(b));\n"),
+            put("    let pairs = frame.iter().zip(&frame[1..]);\n    let sum = pairs.fold(0u32, |sum, (&a, &b)| sum.max(a | b));\n"),
             put("    for (place, &word) in frame.iter().enumerate() {\n        out[place] = word;\n    }\n"),
         ],
     ),

@@ -16,7 +16,7 @@ TOKEN = re.compile(
       | (?P<sign>::|->|=>|\.\.=|\.\.|&&|\|\||<<|>>|[=!<>]=|.)""",
     re.VERBOSE | re.DOTALL,
 )
-KEYWORDS = frozenset("as break const continue crate else enum extern fn for ghost if impl in let loop match mod mut pub".split())
+KEYWORDS = frozenset("as break const continue crate dyn else enum extern fn for ghost if impl in let loop match mod move mut pub ref".split())
 KEYWORDS |= frozenset("return self static struct super trait type unsafe use where while".split())
 CLOSING = {"(": ")", "[": "]", "{": "}"}
 HANDLES = frozenset("stdin stdout stderr".split())

@@ -101,8 +101,18 @@ class Rows:
             method = self.method_at(at)
         if method is not None:
             return method in USES
-        looped = rattle.before(self.body, start).text == "in" and rattle.behind(self.body, at).text == "{"
-        return looped or self.takes(start, at) == BESIDE or rattle.behind(self.body, at).text in EQUALS
+        ahead, back = rattle.behind(self.body, at).text, rattle.before(self.body, start).text
+        if ahead == ";" and back == "=":
+            return self.is_used_by_name(start - 2)
+        return back == "in" and ahead == "{" or self.takes(start, at) == BESIDE or ahead in EQUALS
+
+    def is_used_by_name(self, at):
+        """Is what a reading gives bound to a name that is new, and used up wherever the name stands?"""
+        name = self.body[at].text
+        if rattle.before(self.body, at).text not in ("let", "mut") or name in self.of:
+            return False
+        places = [place for path, place, _ in rattle.paths_of(self.body) if path == (name,) and place != at]
+        return all(place > at and self.is_used_up(place, place + 1) for place in places)
 
     def takes(self, start, end):
         """The method that takes what stands there as an argument, the whole of it; None for none."""
