@@ -3,10 +3,18 @@
 import functools
 
 import rattle
-from rattle import Array, Named, Ref
+from rattle import Applied, Array, Named, Ref, Tuple
 
 OPERATORS = frozenset("+ - * / % | & ^ << >> == != < > <= >= && || as".split())
 TRUTHS = frozenset(["true", "false"])
+# What is made of one value, in an Option or a Result.
+MADE_OF = frozenset(["Some", "Ok", "Err"])
+# Methods of std that give a single number, and those that give what they are called on or given, or a part of it.
+SINGLE = frozenset("all any cmp count count_ones is_empty is_eq is_err is_ge is_gt is_le is_lt is_none is_ok is_some leading_zeros len".split())
+SINGLE |= frozenset("position sum then trailing_zeros wrapping_add wrapping_mul wrapping_sub".split())
+KEEPING = frozenset("copied max min ok ok_or unwrap unwrap_or".split())
+# Traits whose functions are called by a macro, if not by their names.
+PRINTING = frozenset(["Debug", "Display"])
 
 
 @functools.lru_cache(maxsize=None)
@@ -34,6 +42,22 @@ class Crates:
                 self.twice += [(path, "::".join(name)) for name in theirs if name in ours]
                 ours.update(theirs)
         self.modules = {file.module for file in self.files.values()} | set(self.unread)
+        self.methods, self.members, self.given = {}, {}, {}
+        for function in self.functions.values():
+            if function.home:
+                self.take_in(function, self.files[function.file])
+
+    def take_in(self, function, file):
+        """A function of an `impl`: by its name, by its type with its name, and, of a trait, by the types that it can be called for unnamed."""
+        trait, name = function.home.trait, function.path[-1]
+        own = {declared.path for kind in named_in(function.home.type) if (declared := self.type_of(kind.path, file))}
+        self.methods.setdefault(name, []).append(function)
+        for path in own:
+            self.members.setdefault((*path, name), []).append(function)
+        if trait is not None and getattr(trait, "path", ("",))[-1] not in PRINTING:
+            others = {declared.path for kind in named_in(trait) if (declared := self.type_of(kind.path, file))}
+            for path in own or others:
+                self.given.setdefault(path, []).append(function)
 
     def resolved(self, path, file):
         """The full path of a name in a file."""
@@ -56,7 +80,18 @@ class Crates:
         if whole or len(path) < 2:
             return whole
         declared = self.declared.get(self.resolved(path[:-1], file))
-        return declared if declared and declared.choice else None
+        return declared if declared and path[-1] in declared.variants else None
+
+    def functions_of(self, path, file):
+        """The functions that a path names: that of a module, or those of a type that have the name."""
+        whole = self.functions.get(self.resolved(path, file))
+        if whole and not whole.home:
+            return [whole]
+        return self.members.get((*self.resolved(path[:-1], file), path[-1]), []) if len(path) > 1 else []
+
+    def is_std(self, path, file):
+        """Is the name before a path's end one of the language's own library, by no name of ours?"""
+        return (*file.module[:1], path[0]) not in self.modules and path[0] not in file.imports and self.resolved(path, file) not in self.functions
 
     def length(self, tokens, file):
         """The places of an array, by a numeral or a constant, None for any other length."""
@@ -74,6 +109,10 @@ class Crates:
         if isinstance(kind, Array):
             of, places = self.words(kind.of, file, inside), self.length(kind.length, file)
             return None if of is None or places is None else of * places
+        if isinstance(kind, Tuple):
+            return total(self.words(part, file, inside) for part in kind.parts)
+        if isinstance(kind, Applied):
+            return self.words_of_applied(kind, file, inside)
         if not isinstance(kind, Named):
             return None
         if kind.path[-1] in rattle.WIDTHS:
@@ -87,6 +126,19 @@ class Crates:
             return None
         return declared.choice + max(map(sum, groups), default=0)
 
+    def words_of_applied(self, kind, file, inside):
+        """Those of an Option or a Result, or of a type that has a lifetime alone."""
+        try:
+            arguments = rattle.arguments_of(kind)
+        except rattle.Unread:
+            return None
+        if not arguments:
+            return self.words(Named(kind.path), file, inside)
+        if {"Option": 1, "Result": 2}.get(kind.path[-1]) != len(arguments) or len(kind.path) > 1 or not self.is_std(kind.path, file):
+            return None
+        words = [self.words(argument, file, inside) for argument in arguments]
+        return None if None in words else 1 + max(words)
+
     def field_words(self, name):
         """The most words that a field of this name has, in any type."""
         found = [
@@ -99,6 +151,29 @@ class Crates:
         return None if None in found else max(found, default=None)
 
 
+def total(words):
+    """A sum, None where one of its parts is."""
+    words = list(words)
+    return None if None in words else sum(words)
+
+
+def named_in(kind):
+    """The names of types in a type."""
+    if isinstance(kind, Named):
+        yield kind
+    elif isinstance(kind, Ref):
+        yield from named_in(kind.to)
+    elif isinstance(kind, (Array, rattle.Slice)):
+        yield from named_in(kind.of)
+    elif isinstance(kind, Tuple):
+        for part in kind.parts:
+            yield from named_in(part)
+    elif isinstance(kind, Applied):
+        yield Named(kind.path)
+        for part in rattle.arguments_of(kind):
+            yield from named_in(part)
+
+
 class Values:
     """How many words the values have that a function names: parameters, locals, and any expression."""
 
@@ -106,7 +181,7 @@ class Values:
         self.crates, self.function, self.file = crates, function, crates.files[function.file]
         self.names = {f.name: crates.words(f.type, self.file) for f in function.fields}
         body = function.body
-        self.counters = {body[at + 1].text for at, token in enumerate(body) if token.text == "for"}
+        self.counters = {body[at + 1].text for at, token in enumerate(body) if token.text == "for" and counts(body, at)}
         self.locals = [self.let(at) for at, token in enumerate(function.body) if token.text == "let"]
 
     def let(self, at):
@@ -125,10 +200,12 @@ class Values:
         first = tokens[0]
         if first.text in ("if", "match", "{"):
             return self.of_branches(tokens)
-        if first.text in ("loop", "while", "for", "return", "break"):
+        if first.text in ("loop", "while", "for", "return", "break", "|", "||"):
             return None
         if any(tokens[at].text in OPERATORS for at in rattle.top(tokens) if at):
             return 1
+        if tokens[-1].text == "?":
+            return self.of(tokens[:-1])
         if first.text in ("!", "-", "*"):
             return self.of(tokens[1:])
         if first.text == "&":
@@ -138,10 +215,25 @@ class Values:
         if first.kind == "text":
             return 1 if first.text.startswith("b'") else None
         if first.text == "(" and rattle.end_of(tokens, 0) == len(tokens):
-            return self.of(tokens[1:-1])
+            return total(self.of(part) for part in rattle.split(tokens[1:-1]))
         if first.text == "[" and rattle.end_of(tokens, 0) == len(tokens):
             return self.of_array(tokens)
-        return self.of_name(tokens) if rattle.is_name(first) or first.text in ("crate", "super") else None
+        method = method_at_end(tokens)
+        if method:
+            return self.of_method(method)
+        return self.of_name(tokens) if rattle.is_name(first) or first.text in ("crate", "super", "self") else None
+
+    def of_method(self, method):
+        """What a method gives: a single number, what goes in, or what ours of its name give."""
+        if method.name in self.crates.methods:
+            ours = self.crates.methods[method.name]
+            found = [self.crates.words(f.result, self.crates.files[f.file]) if f.result else 0 for f in ours]
+            return None if None in found else max(found)
+        if method.name in SINGLE:
+            return 2
+        if method.name == "fold":
+            return self.of(method.arguments[0])
+        return total(map(self.of, [method.receiver, *method.arguments])) if method.name in KEEPING else None
 
     def of_branches(self, tokens):
         """The most that a branch of an `if`, an arm of a `match`, or a block ends with."""
@@ -149,9 +241,8 @@ class Values:
         for at in rattle.top(tokens):
             if tokens[at].text == "{":
                 inner = tokens[at + 1 : rattle.end_of(tokens, at) - 1]
-                arms = [at for at in rattle.top(inner) if inner[at].text == "=>"]
                 if tokens[0].text == "match":
-                    found += [self.of(rattle.split(inner[at + 1 :])[0]) for at in arms]
+                    found += [self.of(value) for _, value in rattle.arms_of(inner)]
                 else:
                     found.append(self.of(rattle.split(inner, ";")[-1] if inner and inner[-1].text != ";" else []))
         return None if None in found else max(found, default=None)
@@ -173,12 +264,10 @@ class Values:
         if end == len(tokens):
             return self.of_word(path)
         if follows in rattle.CLOSING and rattle.end_of(tokens, end) == len(tokens):
-            return self.of_group(path, follows)
+            return self.of_group(path, follows, tokens[end + 1 : -1])
         last = tokens[-1]
-        if last.kind == "name" and tokens[-2].text == ".":
+        if last.kind in ("name", "number") and tokens[-2].text == ".":
             return self.crates.field_words(last.text)
-        if rattle.written(tokens[-4:]) == ". len ( )":
-            return 2
         # an element of a field: arrays have numbers
         return 1 if last.text == "]" and tokens[-2].text not in (".", "]") else None
 
@@ -189,13 +278,16 @@ class Values:
             return self.crates.words(constant.type, self.file)
         if self.crates.type_of(path, self.file):
             return self.crates.words(Named(path), self.file)
-        return 1 if path[0] in TRUTHS else self.names.get(path[0], 2 if path[0] in self.counters else None)
+        return 1 if path[0] in TRUTHS or path == ("None",) else self.names.get(path[0], 2 if path[0] in self.counters else None)
 
-    def of_group(self, path, follows):
+    def of_group(self, path, follows, inner):
         """What is called, made, or taken out of an array of numbers."""
+        if path[-1] in MADE_OF and len(path) == 1 and follows == "(":
+            of = self.of(inner)
+            return None if of is None else 1 + of
         if follows == "[":
             return 1
-        called = self.crates.functions.get(self.crates.resolved(path, self.file))
+        called = next(iter(self.crates.functions_of(path, self.file)), None)
         if called and follows == "(":
             home = self.crates.files[called.file]
             return 0 if called.result is None else self.crates.words(called.result, home)
@@ -203,3 +295,19 @@ class Values:
             return 1
         declared = self.crates.type_of(path, self.file)
         return self.crates.words(Named(declared.path), self.file) if declared else None
+
+
+def counts(body, at):
+    """Does a `for` count numbers of a range?"""
+    start = next((i for i in range(at, len(body)) if body[i].text == "in"), len(body))
+    return any(t.text in ("..", "..=") for t in body[start : rattle.argument_end(body, start, ("{",))])
+
+
+def method_at_end(tokens):
+    """The method whose call an expression ends with, where it does."""
+    if tokens[-1].text != ")":
+        return None
+    opening = rattle.opening_of(tokens, len(tokens) - 1)
+    if opening is None or opening < 3 or tokens[opening - 2].text != "." or not rattle.is_name(tokens[opening - 1]):
+        return None
+    return rattle.Method(tokens[opening - 1].text, tokens[: opening - 2], rattle.split(tokens[opening + 1 : -1]), tokens[-1].line)

@@ -24,10 +24,11 @@ HEARING = "hearing::receive::receive"
 # The calls that may tell a function of a frame's words though it has other rows to write to. What each answers is its promise: the fields of
 # a frame, what was said of it, how many frames wait, the entry that was written, the replies.
 TAKEN = {"frame::reader::frame_from", "hearing::receive::taken", HEARING, "host::offices::burial_receive"}
-PLAYED = {HEARING, "player::ahead::receive_ahead", "player::play::deliver", "player::play::receive_at"}
+PLAYED = {HEARING, "player::ahead::receive_ahead", "player::play::deliver", "player::play::receive_at", "player::play::try_receive"}
 PLAYED |= {"player::play::play_other", "player::play::receive_line", "player::play::write_at", "player::play::write_line"}
-FED = {"ring_program::run", "ring_program::ending::close", "ring_program::feed::feed_all", "ring_program::feed::feed_some"}
-FED |= {"ring_program::feed::finish", "writing::write::make"}
+PLAYED |= {"player::play::try_write"}
+FED = {"ring_program::run", "ring_program::read_on", "ring_program::ending::close", "ring_program::feed::feed_all"}
+FED |= {"ring_program::feed::feed_some", "ring_program::feed::finish", "ring_program::feed::play", "writing::write::make"}
 # The length of a waiting frame stands in front of it.
 LENGTHS = {"player::play::receive_at": "lines [ slot ] as usize"}
 HEARD = {"store": "stores", "frame": "lines", "out": "out"}
@@ -83,15 +84,23 @@ class Findings:
 
     def look_for_hearings(self, function, above):
         """A function that no walk reaches does not call, or name, one that has a frame's words and a row to write to."""
-        file = self.crates.files[function.file]
-        for path, at, _ in rattle.paths_of(function.body):
-            callee = self.crates.functions.get(self.crates.resolved(path, file))
-            if callee is None or callee.path[0] not in above or "::".join(callee.path) not in self.reached:
+        for callee, line in self.named_in(function):
+            if callee.path[0] not in above or "::".join(callee.path) not in self.reached:
                 continue
             self.hearings += "::".join(callee.path) == HEARING
             if "::".join(function.path) not in self.reached and any(is_row(f.type) and f.type.mutable for f in callee.fields):
                 what = f"{'::'.join(function.path)} is in no walk and calls {'::'.join(callee.path)}"
-                self.makers.append(f"{function.file}:{function.body[at].line}: {what}")
+                self.makers.append(f"{function.file}:{line}: {what}")
+
+    def named_in(self, function):
+        """The functions that a body names, by a path or as a method, each with the line."""
+        file = self.crates.files[function.file]
+        for path, at, _ in rattle.paths_of(function.body):
+            for callee in self.crates.functions_of(path, file):
+                yield callee, function.body[at].line
+        for method in rattle.methods_of(function.body):
+            for callee in self.crates.methods.get(method.name, ()):
+                yield callee, method.line
 
     def faults_of(self, rule):
         return self.makers if rule == MADE else [fault for walk in self.walks for fault in walk.faults[rule]]

@@ -15,7 +15,7 @@ sys.dont_write_bytecode = True
 
 import rattle
 from crates import Crates
-from rattle import Applied, Array, Named, Ref, Slice
+from rattle import Applied, Array, Named, Opaque, Ref, Slice, Tuple
 
 LIST = "docs/ARCHITECTURE.md"
 SECTION = "## Public calls"
@@ -109,8 +109,17 @@ class Meanings:
         if isinstance(kind, Array):
             return Array(self.type_of(kind.of), rattle.written(kind.length))
         if isinstance(kind, Named):
-            return Named(kind.path if kind.path[-1] in rattle.WIDTHS else self.crates.resolved(kind.path, self.file))
-        return Applied(self.crates.resolved(kind.path, self.file), rattle.written(kind.arguments)) if kind else None
+            return Named(kind.path if kind.path[-1] in rattle.WIDTHS else self.full(kind.path))
+        if isinstance(kind, Tuple):
+            return Tuple(tuple(map(self.type_of, kind.parts)))
+        if isinstance(kind, Opaque):
+            return kind
+        return Applied(self.full(kind.path), tuple(map(self.type_of, rattle.arguments_of(kind)))) if kind else None
+
+    def full(self, path):
+        """The full path of a type; one of std that is no name of ours, as Option, stays as it is."""
+        known = self.crates.resolved(path, self.file)
+        return path if len(path) == 1 and path[0] not in self.file.imports and known not in self.crates.declared else known
 
     def takes_and_gives(self, function):
         return [(f.name, self.type_of(f.type)) for f in function.fields], self.type_of(function.result)
@@ -236,6 +245,33 @@ ROWS = """# A
 
 | `host::x::other` | two |
 """
+OPTION = "-> Result<Option<(u32, [u32; 8])>, ()>"
+TODAY = """#[derive(Clone, Copy)]
+pub enum A {
+    Low = 1,
+    High = 2,
+}
+
+pub struct B<'a>(pub &'a [A]);
+
+impl From<Option<A>> for u32 {
+    ghost from_gives = { λ a n. n ≡ 1 };
+
+    #[tactic(auto)]
+    fn from(a: Option<A>) -> u32 {
+        1
+    }
+}
+
+impl B<'_> {
+    pub fn more(&mut self, n: u32) -> Option<A>
+        requires few { n ≤ 3 }
+    {
+        Some(Self::low()?)
+    }
+}
+
+"""
 SAME = [(FORWARDS, f"{SENT}:2:")]
 
 
@@ -283,6 +319,14 @@ TRIALS = [
     ("a named `requires`", contract(REQUIRES.replace("{", "low {", 1) + ENSURES), [(ASKS, f"{SOURCE}:3:")]),
     ("a call whose clauses are not tied", small(ties=PROOF), [(TIED, f"{SOURCE}:2:")]),
     ("clauses that are tied under another name", small(ties=TIES.replace("AContract", "BContract")), [(TIED, f"{SOURCE}:2:")]),
+    # today's forms
+    ("numbered variants, an `impl` and a method", small(TODAY + GOOD), []),
+    ("a function of any type that is listed", small(GOOD.replace("_a(", "_a<T>(")), []),
+    ("a method of a listed name", small(GOOD.replace("pub fn", "impl A {\n pub fn") + "}\n"), [*UNREAD, *SAME]),
+    ("a `requires` that stands behind a `where`", contract(f"    where u32: Copy\n{REQUIRES}{ENSURES}"), [(ASKS, f"{SOURCE}:4:")]),
+    ("an `impl` that is not read", small("impl<T> A for T where T: Copy {}\n" + GOOD), [*UNREAD, *SAME, (READ, f"{SOURCE}:1:")]),
+    ("an export of an Option", small(GOOD.replace("-> u32", OPTION), sent=EXPORT.replace("-> u32", OPTION)), []),
+    ("an export of another Option", small(GOOD.replace("-> u32", OPTION), sent=EXPORT.replace("-> u32", OPTION.replace("32", "64"))), SAME),
     # exports
     ("a function that is not exported", sent(EXPORT, ""), NO_EXPORT),
     ("an export without its name in C", sent("#[unsafe(no_mangle)]\n", ""), [*NO_EXPORT, (READ, f"{SENT}:1:")]),
