@@ -8,22 +8,7 @@ use Rattle.causal.specs.Codes.{or_else}
 use Rattle.causal.proofs.Codes.{or_stops}
 use Rattle.frame.specs.Refusals.{code_of, number_of}
 use Rattle.frame.specs.declared.refusal.Refusal.{Refusal}
-use Rattle.frame.specs.declared.refusal.Refusal.TheVariants.{Settings, Store, Content, Plot, Value, OfficeFull, SessionFull, Room, Format, Unmade, Different, Missing}
-
-pub number_some : (x : Refusal) → number_of x ≡ 0 → ⊥
-unfolding number_of
-number_some Settings h = omega arith
-number_some Store h = omega arith
-number_some Content h = omega arith
-number_some Plot h = omega arith
-number_some Value h = omega arith
-number_some OfficeFull h = omega arith
-number_some SessionFull h = omega arith
-number_some Room h = omega arith
-number_some Format h = omega arith
-number_some Unmade h = omega arith
-number_some Different h = omega arith
-number_some Missing h = omega arith
+use Rattle.frame.proofs.Refusals.{number_some}
 
 -- the exit of a `?`: x is what the call before it is refused by, A its refusal number
 err_number : {T : Type 0} (r : Result T Refusal) (x : Refusal) → IsErrAnd r (λ y. y ≡ x) → code_of r ≡ number_of x
