@@ -42,7 +42,7 @@ use Rattle.office.specs.Decide.{start_code, noted_seen, seen_of, with_seen}
 use Rattle.office.specs.Promises.{JointPromise}
 use Rattle.office.specs.Steps.{own_at}
 use Rattle.office.specs.declared.note.Seen.{Seen}
-use Rattle.office.proofs.Exits.{number_some}
+use Rattle.frame.proofs.Refusals.{number_some}
 use Rattle.office.proofs.Notes.{current_slots, few_own, noted_with, start_facts, with_own}
 use Rattle.office.proofs.Shape.{own_kept}
 use Rattle.reading.specs.Readings.{joint_refusal, found_among, handed_among, Named, NamedIn, OwnNamed, PlacesTo, words_to, seen_to}

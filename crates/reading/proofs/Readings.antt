@@ -29,7 +29,7 @@ use Rattle.office.specs.Calls.{Result as Outcome, given, worded, handed, read_al
 use Rattle.office.specs.Answers.{any_found, entry_found, session_if, noted_in, read_plot_session}
 use Rattle.office.specs.Decide.{start_code, noted_seen, seen_of, with_seen}
 use Rattle.office.specs.Promises.{ReadPromise}
-use Rattle.office.proofs.Exits.{number_some}
+use Rattle.frame.proofs.Refusals.{number_some}
 use Rattle.office.proofs.Notes.{current_slots, few_own, noted_with, start_facts, with_own}
 use Rattle.reading.specs.Answers.{handed_by, seen_entry, seen_found, seen_session}
 use Rattle.reading.specs.Readings.{read_refusal}

@@ -41,7 +41,7 @@ use Rattle.office.specs.Steps.{own_at, holds_in, Slots}
 use Rattle.writing.specs.declared.write.Made.{Made}
 use Rattle.writing.specs.declared.write.Wrote.{Wrote}
 use Rattle.writing.specs.Answers.{entry_by, session_by, words_by, wrote_by}
-use Rattle.office.proofs.Exits.{number_some}
+use Rattle.frame.proofs.Refusals.{number_some}
 use Rattle.writing.specs.Writes.{first_codes, second_codes, early_code, started, all_frames, Framed}
 use Rattle.office.proofs.KeepCalls.{all_known}
 use Rattle.office.proofs.Along.{Along, hold_end, start_along}

@@ -7,7 +7,7 @@ use Rattle.frame.specs.Sessions.{content_of}
 use Rattle.frame.specs.declared.refusal.Refusal.TheVariants.{Room}
 use Rattle.office.specs.Answers.{extended_by}
 use Rattle.store.proofs.Rules.{laid}
-use Rattle.office.proofs.Exits.{number_some}
+use Rattle.frame.proofs.Refusals.{number_some}
 use Rattle.office.proofs.Slots.{settings}
 use Rattle.writing.specs.Answers.{entry_by, words_by}
 use Rattle.writing.proofs.Writes.{ready, few, few_own, slots, frames, new_slot, new_frame, store_left, row_left, write_early, write_late, write_done, not_made, refused, made_is}

@@ -6,7 +6,8 @@ use Rattle.causal.proofs.Codes.{lt_code_fails, lt_code_passes}
 use Rattle.frame.specs.Refusals.{code_of, number_of}
 use Rattle.frame.specs.Sessions.{content_of}
 use Rattle.store.proofs.Rules.{laid}
-use Rattle.office.proofs.Exits.{number_some, err_code}
+use Rattle.frame.proofs.Refusals.{number_some}
+use Rattle.office.proofs.Exits.{err_code}
 use Rattle.writing.proofs.EarlyCodes.{first_stops, first_goes, start_sound}
 use Rattle.writing.proofs.write.may_start.Goals as goal
 

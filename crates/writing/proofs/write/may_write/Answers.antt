@@ -9,7 +9,8 @@ use Rattle.store.specs.Offices.{office_of, sound_store}
 use Rattle.store.proofs.Rules.{laid}
 use Rattle.office.specs.Calls.{own_code}
 use Rattle.writing.specs.Writes.{second_codes}
-use Rattle.office.proofs.Exits.{number_some, err_code}
+use Rattle.frame.proofs.Refusals.{number_some}
+use Rattle.office.proofs.Exits.{err_code}
 use Rattle.writing.proofs.EarlyCodes.{early_stops, early_second, early_own}
 use Rattle.writing.proofs.Writes.{first_ready, count_le, slots}
 use Rattle.writing.proofs.write.may_write.Goals as goal
