@@ -1,7 +1,9 @@
 -- Words of ids that ascend: the tests of neighbours are the tests of all; and the set of the words, one at a time or eight that stand one next
 -- to the other. Assumes nothing.
-use Rattle.std.proofs.Common.{◌≡◌, ℕ, zero, suc, ◌+◌, ◌-◌, ◌*◌, ◌/◌, ◌%◌, ◌^◌, ◌<◌, ◌≤◌, Bool, true, false, ltb, List, [], ◌∷◌, ◌++◌, length, get_or, take, set, sym, refl, ap, ◌∙◌, subst, le_refl, add-zero, mod-eq_of_lt, add-one, arith, get_or-set_other, take-suc, get_or-set_same, set-set, pow-add, ltb-true, lt-ltb, eq-eqb, eqb-true, le-leb}
+use Rattle.std.proofs.Common.{◌≡◌, ℕ, zero, suc, ◌+◌, ◌-◌, ◌*◌, ◌/◌, ◌%◌, ◌^◌, ◌<◌, ◌≤◌, Bool, true, false, ◌&&◌, eqb, ltb, List, [], ◌∷◌, ◌++◌, drop, length, get_or, take, set, sym, refl, ap, ◌∙◌, subst, le_refl, add-zero, mod-eq_of_lt, add-one, arith, get_or-set_other, take-suc, get_or-set_same, set-set, pow-add, ltb-true, lt-ltb, eq-eqb, eqb-true, le-leb}
 use mathlib.Core.List.{foldl-append}
+use Rattle.std.specs.List.{list_all, zip}
+use Rattle.std.proofs.lemmas.List.Folds.{list_all-append}
 use lib.Bits.{bit_or}
 use lib.Pow.{pow-lt}
 use lib.Seq.{take-length, set-get_or}
@@ -9,6 +11,8 @@ use Rattle.causal.specs.Tests.{both, either}
 use Rattle.causal.specs.Lists.{zeros}
 use Rattle.causal.specs.Sets.{inserted}
 use Rattle.causal.proofs.Tests.{both_true, both_intro, both_assoc, both_one, same_test, not_so, false_true}
+use Rattle.causal.proofs.Bits.{or_is_zero}
+use Rattle.causal.proofs.Equal.{and_both}
 use Rattle.causal.proofs.Sets.{zero_at}
 use Rattle.frame.specs.Entries.{ids_ok}
 use Rattle.frame.specs.Words.{kind_of, payload, is_kind, kind_is, id_in, ids_from}
@@ -85,11 +89,6 @@ from_steps n b (w ∷ ws) kb kl o e =
     let x = from_next n b w (last_of w ws) kb kl o (steps_up w ws a.1) (next_facts b w a.0) in
     both_intro _ _ x.0 (from_steps n w ws x.1 kl o a.1)
 
-steps_snoc : (b : ℕ) (ws : List ℕ) (w : ℕ) → steps b (ws ++ (w ∷ [])) ≡ both (steps b ws) (next_ok (last_of b ws) w)
-unfolding steps both
-steps_snoc b [] w = both_one (next_ok b w)
-steps_snoc b (v ∷ ws) w = ap (both (next_ok b v)) (steps_snoc v ws w) ∙ sym (both_assoc (next_ok b v) (steps v ws) (next_ok (last_of v ws) w))
-
 last_snoc : (b : ℕ) (ws : List ℕ) (w : ℕ) → last_of b (ws ++ (w ∷ [])) ≡ w
 last_snoc b [] w = refl
 last_snoc b (v ∷ ws) w = last_snoc v ws w
@@ -98,17 +97,29 @@ last_take : (b : ℕ) (ws : List ℕ) (i : ℕ) → i < length ws → last_of b 
 last_take b ws i h = rw (add-one, take-suc ws i 0 h) (last_snoc b (take i ws) (get_or ws i 0))
 
 -- the first word, and one more
-pub steps_first : (b : ℕ) (ws : List ℕ) → 0 < length ws → steps b (take 1 ws) ≡ next_ok b (get_or ws 0 0)
-unfolding steps
-steps_first b [] h = absurd (omega arith)
-steps_first b (w ∷ ws) h = both_one (next_ok b w)
+-- all but the first, by pairs of neighbours
+abbrev pub Next : ℕ × ℕ → Bool
+Next p = next_ok p.0 p.1
 
-pub steps_more : (b : ℕ) (ws : List ℕ) (i : ℕ) → i + 1 < length ws
-    → steps b (take (i + 1 + 1) ws) ≡ both (steps b (take (i + 1) ws)) (next_ok (get_or ws i 0) (get_or ws (i + 1) 0))
-steps_more b ws i h =
-    ap (λ (m : ℕ). steps b (take m ws)) (add-one (i + 1)) ∙ ap (steps b) (take-suc ws (i + 1) 0 h)
-    ∙ steps_snoc b (take (i + 1) ws) (get_or ws (i + 1) 0)
-    ∙ ap (λ (l : ℕ). both (steps b (take (i + 1) ws)) (next_ok l (get_or ws (i + 1) 0))) (last_take b ws i (omega arith))
+pairs : (w : ℕ) (ws : List ℕ) → list_all Next (zip (w ∷ ws) ws) ≡ steps w ws
+unfolding steps
+pairs w [] = refl
+pairs w (v ∷ ws) = and_both (next_ok w v) (list_all Next (zip (v ∷ ws) ws)) ∙ ap (both (next_ok w v)) (pairs v ws)
+
+pub steps_pairs : (b : ℕ) (ws : List ℕ) → 0 < length ws → both (next_ok b (get_or ws 0 0)) (list_all Next (zip ws (drop 1 ws))) ≡ steps b ws
+unfolding steps
+steps_pairs b [] h = absurd (omega arith)
+steps_pairs b (w ∷ ws) h = ap (both (next_ok b w)) (pairs w ws)
+
+-- one pair more
+pub wrong_more : (s : Bool) (ps : List (ℕ × ℕ)) (p : ℕ × ℕ) (a r b : ℕ) → eqb a 0 ≡ both s (list_all Next ps) → eqb r 0 ≡ next_ok p.0 p.1 → b ≡ bit_or a r
+    → eqb b 0 ≡ both s (list_all Next (ps ++ (p ∷ [])))
+wrong_more s ps p a r b h e q =
+    ap (λ (x : ℕ). eqb x 0) q ∙ or_is_zero a r ∙ ap (both (eqb a 0)) e ∙ ap (λ (x : Bool). both x (Next p)) h
+    ∙ both_assoc s (list_all Next ps) (Next p) ∙ ap (both s) (sym (and_both (list_all Next ps) (Next p)) ∙ sym (last ps))
+  where
+    last : (ps : List (ℕ × ℕ)) → list_all Next (ps ++ (p ∷ [])) ≡ (list_all Next ps && Next p)
+    last ps = list_all-append Next ps (p ∷ []) ∙ ap (λ (x : Bool). list_all Next ps && x) (and_both (Next p) true ∙ both_one (Next p))
 
 -- what ascends in a ring ascends in a greater one
 pub ascends_wider : (n m last : ℕ) (ws : List ℕ) → n ≤ m → ascends n last ws ≡ true → ascends m last ws ≡ true

@@ -1,6 +1,7 @@
 -- The code of each call meets its contract (`_met`), which is its promise in specs/Promises.antt (`_is`) and asks for nothing (`_asks`): a
 -- changed `ensures` or an added `requires` breaks this file. Assumes nothing.
 use Rattle.std.proofs.Common.{◌≡◌, ℕ, List, refl, Bor, MutBor, Result}
+use Rattle.std.specs.Result.{result_unwrap_or}
 use base.Fml.{Lft}
 use base.Logic.{SProp, emp}
 use contract.Monad.{Fun, fact}
@@ -8,13 +9,13 @@ use types.Logic.{Logic}
 use seplogic.Ra.Ura.{Ura}
 use prog.Memory.{Memory}
 use prog.Routine.{Routine}
-use Rattle.frame.specs.declared.refusal.Refusal.{Refusal}
+use Rattle.frame.specs.Frames.{blank_frame}
 use Rattle.frame.specs.Promises.{ReadFramePromise, ReadTokenPromise, WriteFramePromise, WriteTokenPromise}
 use Rattle.frame.specs.Refusals.{code_of, reply_of}
+use Rattle.frame.specs.Sessions.{fresh_content, session_of}
 use Rattle.frame.specs.declared.entry.Frame.{Frame}
-use Rattle.frame.specs.declared.reader.FrameRead.{FrameRead}
+use Rattle.frame.specs.declared.refusal.Refusal.{Refusal}
 use Rattle.frame.specs.declared.session.Session.{Session}
-use Rattle.frame.specs.declared.token.TokenRead.{TokenRead}
 use Rattle.frame.proofs.reader.read_frame as ReadFrame
 use Rattle.frame.specs.contracts.reader.read_frame as ReadFrameContract
 use Rattle.frame.proofs.token.read_token as ReadToken
@@ -50,9 +51,9 @@ Lent = MutBor Session
 module _ {M : Type 1} {𝓤 : Ura M} (𝓛 : Logic 𝓤) (mem : Memory → SProp 𝓤) (run : Routine → Fun 𝓤) where
   pub record FrameContracts : Type 2 where
     pub read_frame_met : ReadFrame.Statement.statement M
-    pub read_frame_is : (κs : One) (words : Row) (n p : ℕ) (r : FrameRead) (words' : Row)
+    pub read_frame_is : (κs : One) (words : Row) (n p : ℕ) (r : Result Frame Refusal) (words' : Row)
         → (ReadFrameContract.clauses 𝓛 mem run κs (words, (n, (p, tt)))).ensures tt r (words', (n, (p, tt)))
-        ≡ fact 𝓤 (ReadFramePromise words.now n p (code_of r.status) r.frame)
+        ≡ fact 𝓤 (ReadFramePromise words.now n p (code_of r) (result_unwrap_or r blank_frame))
     pub read_frame_asks : (κs : One) (words : Row) (n p : ℕ) → (ReadFrameContract.clauses 𝓛 mem run κs (words, (n, (p, tt)))).requires tt ≡ emp 𝓤
     pub write_frame_met : WriteFrame.Statement.statement M
     pub write_frame_is : (κs : One) (f : Frame) (row : MutRow) (r : Result ℕ Refusal) (row' : MutRow)
@@ -60,9 +61,9 @@ module _ {M : Type 1} {𝓤 : Ura M} (𝓛 : Logic 𝓤) (mem : Memory → SProp
         ≡ fact 𝓤 (WriteFramePromise f row.now (reply_of r) row'.now)
     pub write_frame_asks : (κs : One) (f : Frame) (row : MutRow) → (WriteFrameContract.clauses 𝓛 mem run κs (f, (row, tt))).requires tt ≡ emp 𝓤
     pub read_token_met : ReadToken.Statement.statement M
-    pub read_token_is : (κs : One) (words : Row) (n p : ℕ) (r : TokenRead) (words' : Row)
+    pub read_token_is : (κs : One) (words : Row) (n p : ℕ) (r : Result Session Refusal) (words' : Row)
         → (ReadTokenContract.clauses 𝓛 mem run κs (words, (n, (p, tt)))).ensures tt r (words', (n, (p, tt)))
-        ≡ fact 𝓤 (ReadTokenPromise words.now n p (code_of r.status) r.session)
+        ≡ fact 𝓤 (ReadTokenPromise words.now n p (code_of r) (result_unwrap_or r (session_of (fresh_content 0))))
     pub read_token_asks : (κs : One) (words : Row) (n p : ℕ) → (ReadTokenContract.clauses 𝓛 mem run κs (words, (n, (p, tt)))).requires tt ≡ emp 𝓤
     pub write_token_met : WriteToken.Statement.statement M
     pub write_token_is : (κs : One) (s : Session) (row : MutRow) (r : Result ℕ Refusal) (row' : MutRow)

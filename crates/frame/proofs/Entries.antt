@@ -129,12 +129,6 @@ entry_facts n p e h =
       deps = d.1;
     }
 
--- the rules that are left where the dependencies are in range
-pub rules_left : (n p : ℕ) (e : Entry) → bounds_ok n p e.office e.serial e.plot e.value ≡ true → ids_ok n e.deps ≡ true
-    → both (eqb (get_or e.clock e.office 0) e.serial) (both (not (is_in e.deps (id_of e))) (clock_ok n e.clock)) ≡ entry_ok n p e
-unfolding entry_ok both
-rules_left n p e b i = rw (b, i, both_one (clock_ok n e.clock)) refl
-
 -- no clock of eight has a number for a ninth office, so no entry of such an office keeps the rules
 pub far_entry : (n p : ℕ) (e : Entry) → length e.clock ≡ 8 → 7 < e.office → entry_ok n p e ≡ false
 far_entry n p e l far = go (entry_ok n p e) refl

@@ -2,6 +2,7 @@ pub mod Refusals
 pub mod Cases
 pub mod Entries
 pub mod Words
+pub mod Chains
 pub mod Ascents
 pub mod Frames
 pub mod Turns

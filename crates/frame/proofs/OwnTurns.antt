@@ -1,7 +1,8 @@
 -- What each turn of the loops over own writes does; the session that says a content. Assumes nothing.
-use Rattle.std.proofs.Common.{◌≡◌, ℕ, zero, suc, ◌+◌, ◌-◌, ◌/◌, ◌<◌, ◌≤◌, Bool, true, false, not, eqb, leb, List, [], ◌∷◌, ◌++◌, length, get_or, replicate, sym, refl, ap, ◌∙◌, arith, get_or-set_other, ext_get_or, eq-eqb, eqb-true, leb-true}
+use Rattle.std.proofs.Common.{◌≡◌, ℕ, zero, suc, ◌+◌, ◌-◌, ◌/◌, ◌<◌, ◌≤◌, Bool, true, false, not, eqb, leb, List, [], ◌∷◌, ◌++◌, drop, length, get_or, replicate, take, sym, refl, ap, ◌∙◌, add-one, arith, drop-cons, get_or-set_other, ext_get_or, eq-eqb, eqb-true, leb-true}
 use mathlib.Core.List.{foldl-append}
-use lib.ListN.{get_or-append}
+use lib.ListN.{get_or-append, drop_of_length-le}
+use lib.Seq.{take-suc}
 use lib.Bits.{bit_or}
 use Rattle.causal.proofs.Sets.{empty_unite, subset_left, zero_at}
 use Rattle.causal.proofs.Tests.{both_one, both_assoc, both_false, both_true, all_at}
@@ -14,7 +15,7 @@ use Rattle.frame.specs.declared.entry.Entry.{Entry}
 use Rattle.frame.specs.declared.session.Session.{Session}
 use Rattle.frame.specs.Entries.{id_of, clock_ok, under_ok, ids_ok, bounds_ok, entry_ok, blank_entry}
 use Rattle.frame.specs.Sessions.{Content, nobody, content_of, filled, session_of, ids_of, own_turn, own_ok, head_ok, session_ok}
-use Rattle.frame.proofs.Entries.{EntryFacts, entry_facts, facts_ids, ids_facts}
+use Rattle.frame.proofs.Entries.{EntryFacts, entry_facts, facts_ids, ids_facts, far_entry}
 use Rattle.frame.proofs.Sessions.{ids_with}
 
 -- ---- own writes, one after the other
@@ -38,10 +39,6 @@ pub ids_next : (f : ℕ → Entry) (i : ℕ) → ids_of (tab (i + 1) f) ≡ inse
 unfolding ids_of
 ids_next f i = ap ids_of (tab_more i f) ∙ foldl-append (λ (s : List ℕ) (e : Entry). inserted s (id_of e)) zeros (tab i f) (f i ∷ [])
 
-pub ids_turn : (f : ℕ → Entry) (i k : ℕ) (s r : List ℕ) → s ≡ ids_of (tab i f) → k ≡ id_of (f i) → r ≡ inserted s k → r ≡ ids_of (tab (i + 1) f)
-ids_turn f i k s r p q e =
-    e ∙ ap (λ (l : List ℕ). inserted l k) p ∙ ap (inserted (ids_of (tab i f))) q ∙ sym (ids_next f i)
-
 -- own write i, behind those before it
 abbrev pub OwnAt : ℕ → ℕ → List ℕ → (ℕ → Entry) → ℕ → Bool
 OwnAt n p read f i = own_turn n p read (ids_of (tab i f)) (f i)
@@ -52,8 +49,42 @@ owns_below n p read f zero = refl
 owns_below n p read f (suc m) =
     ap (λ (b : Bool). both b (OwnAt n p read f m)) (owns_below n p read f m) ∙ sym (own_snoc n p read zeros (tab m f) (f m))
 
-pub own_turn_lem : (n p : ℕ) (read seen : List ℕ) (f : ℕ → Entry) (i : ℕ) (r : Bool) → seen ≡ ids_of (tab i f) → r ≡ own_turn n p read seen (f i) → r ≡ OwnAt n p read f i
-own_turn_lem n p read seen f i r q e = e ∙ ap (λ (s : List ℕ). own_turn n p read s (f i)) q
+-- how a loop that asks one own write after the other goes on, and how it ends: i are asked, and seen is the set of their ids
+asked_first : (n p : ℕ) (read seen : List ℕ) (e : Entry) (es : List Entry)
+    → own_ok n p read seen (e ∷ es) ≡ both (own_turn n p read seen e) (own_ok n p read (inserted seen (id_of e)) es)
+unfolding own_ok own_turn
+asked_first n p read seen e es =
+    let B : Bool = not (is_in seen (id_of e)) in
+    let C : Bool = subset_of e.deps (unite read seen) in
+    let R : Bool = own_ok n p read (inserted seen (id_of e)) es in
+    sym (both_assoc (entry_ok n p e) (both B C) R ∙ ap (both (entry_ok n p e)) (both_assoc B C R))
+
+asked_at : (n p : ℕ) (read seen : List ℕ) (own : List Entry) (i : ℕ) → i < length own
+    → own_ok n p read seen (drop i own) ≡ both (own_turn n p read seen (get_or own i nobody)) (own_ok n p read (inserted seen (id_of (get_or own i nobody))) (drop (i + 1) own))
+asked_at n p read seen own i h =
+    ap (own_ok n p read seen) (drop-cons own i nobody h)
+    ∙ asked_first n p read seen (get_or own i nobody) (drop (suc i) own)
+    ∙ ap (λ (k : ℕ). both (own_turn n p read seen (get_or own i nobody)) (own_ok n p read (inserted seen (id_of (get_or own i nobody))) (drop k own))) (sym (add-one i))
+
+pub asked_on : (n p : ℕ) (read seen : List ℕ) (own : List Entry) (i : ℕ) → i < length own → own_turn n p read seen (get_or own i nobody) ≡ true
+    → own_ok n p read seen (drop i own) ≡ own_ok n p read (inserted seen (id_of (get_or own i nobody))) (drop (i + 1) own)
+unfolding both
+asked_on n p read seen own i h t = asked_at n p read seen own i h ∙ rw t refl
+
+pub asked_out : (n p : ℕ) (read seen : List ℕ) (own : List Entry) (i : ℕ) → i < length own → own_turn n p read seen (get_or own i nobody) ≡ false
+    → own_ok n p read seen (drop i own) ≡ false
+unfolding both
+asked_out n p read seen own i h t = asked_at n p read seen own i h ∙ rw t refl
+
+pub asked_all : (n p : ℕ) (read seen : List ℕ) (own : List Entry) (i : ℕ) → length own ≤ i → own_ok n p read seen (drop i own) ≡ true
+unfolding own_ok
+asked_all n p read seen own i h = rw (drop_of_length-le own {i = i} h) refl
+
+-- the first of a row
+pub taken : {A : Type 0} (d : A) (k : ℕ) (xs : List A) → k ≤ length xs → take k xs ≡ tab k (λ i. get_or xs i d)
+unfolding tab
+taken d zero xs h = refl
+taken {A = A} d (suc k) xs h = take-suc xs k d (omega arith) ∙ ap (λ (l : List A). l ++ (get_or xs k d ∷ [])) (taken d k xs (omega arith))
 
 -- ---- a session as its content
 
@@ -84,6 +115,10 @@ session_parts n p s =
     let D : Bool = ids_ok n s.read in
     let R : Bool = own_ok n p s.read zeros (tab s.count (owns_of s.own)) in
     both_assoc A (both B (both C D)) R ∙ ap (both A) (both_assoc B (both C D) R ∙ ap (both B) (both_assoc C D R)) ∙ session_is n p s
+
+pub session_split : (n p : ℕ) (s : Session) → session_ok n p (content_of s) ≡ both (head_ok n s.offices s.count s.clock s.read) (own_ok n p s.read zeros (content_of s).own)
+unfolding content_of
+session_split n p s = sym (session_parts n p s)
 
 pub head_refused : (n p : ℕ) (s : Session) → head_ok n s.offices s.count s.clock s.read ≡ false → session_ok n p (content_of s) ≡ false
 unfolding both
@@ -134,15 +169,15 @@ in_ring n read seen deps x y h = facts_ids n deps none
         eqb-true _ 0 (both_true (eqb (get_or deps j 0) 0) _ (sym (or_is_zero (get_or deps j 0) (get_or (unite read seen) j 0)) ∙ eq-eqb _ 0 v)).0
 
 -- ids in range, and one more of an entry that keeps its bounds
-pub ids_turn_ok : (n p : ℕ) (read seen : List ℕ) (e : Entry) (k : ℕ) (r : List ℕ) → ids_ok n seen ≡ true → own_turn n p read seen e ≡ true → k ≡ id_of e → r ≡ inserted seen k → ids_ok n r ≡ true
+pub ids_kept : (n p : ℕ) (read seen : List ℕ) (e : Entry) → ids_ok n seen ≡ true → own_turn n p read seen e ≡ true → ids_ok n (inserted seen (id_of e)) ≡ true
 unfolding own_turn inserted
-ids_turn_ok n p read seen e k r x h q m = rw m (facts_ids n (inserted seen k) none)
+ids_kept n p read seen e x h = facts_ids n (inserted seen (id_of e)) none
   where
     kept : EntryFacts n p e
     kept = entry_facts n p e (both_true (entry_ok n p e) _ h).0
 
-    none : (j : ℕ) → j < 8 → n ≤ j → get_or (inserted seen k) j 0 ≡ 0
-    none j l g = get_or-set_other seen (k / 32) j _ 0 (λ w. omega (arith, w, q, kept.bounds.office_ok, kept.bounds.to)) ∙ ids_facts n seen x j l g
+    none : (j : ℕ) → j < 8 → n ≤ j → get_or (inserted seen (id_of e)) j 0 ≡ 0
+    none j l g = get_or-set_other seen (id_of e / 32) j _ 0 (λ w. omega (arith, w, kept.bounds.office_ok, kept.bounds.to)) ∙ ids_facts n seen x j l g
 
 pub none_seen : (n : ℕ) → ids_ok n zeros ≡ true
 none_seen n = facts_ids n zeros (λ j l g. zero_at j)
@@ -170,7 +205,6 @@ own_tests n p most read seen e x y u =
     tests_in_row _ _ _ _ _ _ _ (in_ring n read seen e.deps x y)
     ∙ ap (λ (q : Bool). both (bounds_ok n p e.office e.serial e.plot e.value) (both (eqb (get_or e.clock e.office 0) e.serial) (both (not (is_in e.deps (id_of e))) (both (not (is_in seen (id_of e))) (both q (subset_of e.deps (unite read seen))))))) (sym (u e.clock))
 
--- nothing over its bound and nothing unknown, asked at once
-pub at_once : (most clock deps known over unknown bad : List ℕ) (r : Bool) → is_empty over ≡ under_ok most clock → unknown ≡ minus deps known → bad ≡ unite over unknown → r ≡ is_empty bad → r ≡ both (under_ok most clock) (subset_of deps known)
-at_once most clock deps known over unknown bad r o u b e =
-    e ∙ ap is_empty b ∙ empty_unite over unknown ∙ (λ i. both (o i) ((ap is_empty u ∙ subset_left deps known) i))
+pub far_own : (n p : ℕ) (read seen : List ℕ) (e : Entry) → length e.clock ≡ 8 → 7 < e.office → own_turn n p read seen e ≡ false
+unfolding own_turn both
+far_own n p read seen e l far = rw (far_entry n p e l far) refl

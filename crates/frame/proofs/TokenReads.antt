@@ -1,5 +1,7 @@
 -- What the reader of a token answers, by its steps. Assumes nothing.
-use Rattle.std.proofs.Common.{◌≡◌, ℕ, suc, ◌+◌, ◌-◌, Bool, true, false, cond, eqb, List, [], length, take, drop, sym, refl, ap, ◌∙◌, arith}
+use Rattle.std.proofs.Common.{◌≡◌, ℕ, suc, ◌+◌, ◌-◌, Bool, true, false, cond, eqb, List, [], length, take, drop, sym, refl, ap, ◌∙◌, arith, None, ok_or, Option, replicate, Result, Some, take_at}
+use Rattle.std.specs.Result.{result_unwrap_or}
+use Rattle.std.proofs.lemmas.Option.{cond_some}
 use Rattle.causal.specs.Tests.{both}
 use Rattle.causal.specs.Codes.{check}
 use Rattle.causal.specs.Lists.{part, tab, zeros}
@@ -12,44 +14,42 @@ use Rattle.frame.specs.Reading.{clock_kinds, ascends, sum_ok}
 use Rattle.frame.specs.Sessions.{Content, filled, session_of, own_ok, session_ok, fresh_content}
 use Rattle.frame.specs.Tokens.{own_from, token_owns, token_reads, content_from, accepts_token}
 use Rattle.frame.specs.TokenReading.{token_shape, own_frames_ok, token_checked, start_ok, carried_ok, content_at}
-use Rattle.frame.specs.TokenCalls.{read_token_code, content_if, read_token}
-use Rattle.frame.specs.Entries.{clock_ok}
+use Rattle.frame.specs.TokenCalls.{session_in, read_token_code, content_if, read_token}
+use Rattle.frame.specs.Entries.{blank_entry, clock_ok}
+use Rattle.frame.specs.Refusals.{code_of, number_of}
+use Rattle.frame.specs.declared.refusal.Refusal.{Refusal}
+use Rattle.frame.specs.declared.refusal.Refusal.TheVariants.{Format}
+use Rattle.frame.proofs.Reading.{none_is}
 use Rattle.frame.proofs.Ascents.{ids_range}
-use Rattle.frame.proofs.OwnTurns.{owns_of, owns_back}
 use Rattle.frame.proofs.Sessions.{session_facts, facts_session}
-use Rattle.frame.proofs.TokenTurns.{own_count, lent_rest}
+use Rattle.frame.proofs.TokenTurns.{Carried, own_count, lent_rest}
 use Rattle.frame.proofs.TokenChecks.{Shape, shape_facts, facts_shape, Checked, checked_facts, facts_checked, token_checks_accept}
 
 -- ---- the own frames of a row
 
+-- the first of a row of sixteen
+taken_back : (k : ℕ) (es : List Entry) → length es ≡ k → take k (filled es) ≡ es
+unfolding filled
+taken_back k es e = take_at es (replicate (16 - length es) blank_entry) k e
+
 module _ (k n p : ℕ) (clock read ws : List ℕ) where
-  abbrev Laden : Content
-  Laden = record { offices = n; clock = clock; read = read; own = own_from k n ws }
+  abbrev Laden : Option Session
+  Laden = cond (carried_ok k n p read ws) (Some (session_of (record { offices = n; clock = clock; read = read; own = own_from k n ws }))) None
 
-  pub no_frames : own_frames_ok k n p ws ≡ false → carried_ok k n p read ws ≡ false
+  pub laden_none : None ≡ Carried k n p ws → None ≡ Laden
   unfolding carried_ok both
-  no_frames e = rw e refl
+  laden_none e = rw (none_is (own_frames_ok k n p ws) (filled (own_from k n ws)) e) refl
 
-  pub after_frames : (own : List Entry) (r : Bool) → own_frames_ok k n p ws ≡ true → own ≡ filled (own_from k n ws) → r ≡ own_ok n p read zeros (tab k (owns_of own))
-      → r ≡ carried_ok k n p read ws
-  unfolding carried_ok both
-  after_frames own r f e q =
+  pub laden_some : (own : List Entry) → Some own ≡ Carried k n p ws → (b : Bool) → b ≡ own_ok n p read zeros (take k own)
+      → cond b (Some (record { offices = n; clock = clock; read = read; count = k; own = own })) None ≡ Laden
+  unfolding carried_ok session_of both
+  laden_some own e b q =
       let es : List Entry = own_from k n ws in
-      let t : tab k (owns_of own) ≡ es = ap (λ (l : List Entry). tab k (owns_of l)) e ∙ ap (λ (m : ℕ). tab m (owns_of (filled es))) (sym (own_count k n ws)) ∙ owns_back es in
-      rw f (q ∙ ap (own_ok n p read zeros) t)
-
-  pub laden_refused : carried_ok k n p read ws ≡ false → (code : ℕ) (s : Session) → code ≡ 9 → s ≡ session_of (fresh_content 0)
-      → (code ≡ check (carried_ok k n p read ws) 9 0) × (s ≡ session_of (cond {A = Content} (carried_ok k n p read ws) Laden (fresh_content 0)))
-  unfolding check
-  laden_refused e code s a b = (rw e a, rw e b)
-
-  pub laden_taken : carried_ok k n p read ws ≡ true → (own : List Entry) → own ≡ filled (own_from k n ws)
-      → (0 ≡ check (carried_ok k n p read ws) 9 0)
-      × (◌≡◌ {A = Session} (record { offices = n; clock = clock; read = read; count = k; own = own }) (session_of (cond {A = Content} (carried_ok k n p read ws) Laden (fresh_content 0))))
-  unfolding check session_of
-  laden_taken e own q =
-      let m = sym (own_count k n ws) in
-      (rw e refl, rw e (λ i. record { offices = n; clock = clock; read = read; count = m i; own = q i }))
+      let s = cond_some (own_frames_ok k n p ws) (filled es) own (sym e) in
+      let m : length es ≡ k = own_count k n ws in
+      let t : take k own ≡ es = ap (take k) (sym s.1) ∙ taken_back k es m in
+      let c : b ≡ both (own_frames_ok k n p ws) (own_ok n p read zeros es) = rw s.0 (q ∙ ap (own_ok n p read zeros) t) in
+      λ i. cond (c i) (Some (record { offices = n; clock = clock; read = read; count = sym m i; own = sym s.1 i })) None
 
 module _ (n p : ℕ) (ws : List ℕ) where
   -- ---- the fields
@@ -61,15 +61,21 @@ module _ (n p : ℕ) (ws : List ℕ) where
   Rest = drop (1 + n + token_reads ws) ws
 
   -- the read names stand between the clock and the own frames
-  pub reads_between : take (1 + n + token_reads ws - (1 + n)) (drop (1 + n) ws) ≡ Ids
+  abbrev Between : List ℕ
+  Between = take (1 + n + token_reads ws - (1 + n)) (drop (1 + n) ws)
+
+  pub reads_between : Between ≡ Ids
   unfolding part
   reads_between = let e : 1 + n + token_reads ws - (1 + n) ≡ token_reads ws = omega arith in ap (λ (k : ℕ). take k (drop (1 + n) ws)) e
 
   -- the own frames stand behind them
-  pub owns_behind : take (length ws - (1 + n + token_reads ws)) Rest ≡ Rest
+  abbrev Behind : List ℕ
+  Behind = take (length ws - (1 + n + token_reads ws)) Rest
+
+  owns_behind : Behind ≡ Rest
   owns_behind = lent_rest ws n p 0 (1 + n + token_reads ws)
 
-  pub content_at_lem : Shape n ws → content_at n ws ≡ content_from ws
+  content_at_lem : Shape n ws → content_at n ws ≡ content_from ws
   unfolding content_at content_from
   content_at_lem s =
       let o = sym s.ring in
@@ -82,16 +88,10 @@ module _ (n p : ℕ) (ws : List ℕ) where
       }
 
   -- the same by what was read
-  pub content_of : (clock read vs : List ℕ) → clock ≡ clock_from ws 1 n → read ≡ ids_from Ids → vs ≡ Rest
+  content_of : (clock read vs : List ℕ) → clock ≡ clock_from ws 1 n → read ≡ ids_from Ids → vs ≡ Rest
       → ◌≡◌ {A = Content} (record { offices = n; clock = clock; read = read; own = own_from (token_owns ws) n vs }) (content_at n ws)
   unfolding content_at
   content_of clock read vs a b c = λ i. record { offices = n; clock = a i; read = b i; own = own_from (token_owns ws) n (c i) }
-
-  pub content_bare : (clock read : List ℕ) → clock ≡ clock_from ws 1 n → read ≡ ids_from Ids → token_owns ws ≡ 0
-      → ◌≡◌ {A = Content} (record { offices = n; clock = clock; read = read; own = [] }) (content_at n ws)
-  unfolding own_from
-  content_bare clock read a b e =
-      ap (λ (k : ℕ). record { offices = n; clock = clock; read = read; own = own_from k n Rest }) (sym e) ∙ content_of clock read Rest a b refl
 
   -- ---- the checks, in the order in which they are asked
 
@@ -112,8 +112,8 @@ module _ (n p : ℕ) (ws : List ℕ) where
   pub start_shape : start_ok n ws ≡ true → Shape n ws
   start_shape e = (start_facts e).shape
 
-  pub start_reads : start_ok n ws ≡ true → ascends n 0 Ids ≡ true
-  start_reads e = (start_facts e).reads
+  pub start_reads : start_ok n ws ≡ true → ascends n 0 Between ≡ true
+  start_reads e = ap (ascends n 0) reads_between ∙ (start_facts e).reads
 
   to_start : Checked n p ws → start_ok n ws ≡ true
   unfolding start_ok
@@ -144,42 +144,47 @@ module _ (n p : ℕ) (ws : List ℕ) where
           facts_checked n p ws
           (record { shape = S.shape; clock = S.kinds; reads = S.reads; owns = b.0; sound = ap (session_ok n p) (sym (content_at_lem S.shape)) ∙ f; sum = S.sum })
 
-  -- no own frames
-  pub none_carried : (k : ℕ) (read vs : List ℕ) → k ≡ 0 → carried_ok k n p read vs ≡ eqb (length vs) 1
-  unfolding carried_ok own_frames_ok own_from own_ok
-  none_carried k read vs e = rw e (both_one (eqb (length vs) 1))
-
   -- ---- refusals
 
-  pub read_refused : (c code : ℕ) (s : Session) → read_token_code n p ws ≡ suc c → code ≡ suc c → s ≡ session_of (fresh_content 0)
-      → (code ≡ read_token_code n p ws) × (s ≡ session_of (read_token n p ws))
-  unfolding read_token content_if
-  read_refused c code s e q b = (q ∙ sym e, b ∙ ap (λ (k : ℕ). session_of (content_if k ws)) (sym e))
+  abbrev NoToken : Type 0
+  NoToken = ◌≡◌ {A = Option Session} None (session_in n p ws)
 
-  pub settings_refused : ring_ok n p ≡ false → read_token_code n p ws ≡ 1
-  unfolding read_token_code check
-  settings_refused e = rw e refl
+  refused : ring_ok n p ≡ true → token_checked n p ws ≡ false → NoToken
+  unfolding session_in
+  refused r e = rw (← token_checks_accept n p ws r, e) refl
 
-  not_checked : ring_ok n p ≡ true → token_checked n p ws ≡ false → read_token_code n p ws ≡ 9
-  unfolding read_token_code check
-  not_checked r e = rw (r, ← token_checks_accept n p ws r, e) refl
+  pub start_refused : ring_ok n p ≡ true → start_ok n ws ≡ false → NoToken
+  start_refused r e = refused r (not_so (token_checked n p ws) (λ t. false_true (sym e ∙ to_start (checked_facts n p ws t))))
 
-  pub start_refused : ring_ok n p ≡ true → start_ok n ws ≡ false → read_token_code n p ws ≡ 9
-  start_refused r e = not_checked r (not_so (token_checked n p ws) (λ t. false_true (sym e ∙ to_start (checked_facts n p ws t))))
-
-  pub clock_refused : ring_ok n p ≡ true → start_ok n ws ≡ true → clock_ok n (clock_from ws 1 n) ≡ false → read_token_code n p ws ≡ 9
+  pub clock_refused : ring_ok n p ≡ true → start_ok n ws ≡ true → clock_ok n (clock_from ws 1 n) ≡ false → NoToken
   unfolding both
-  clock_refused r s e = not_checked r (checks_left s ∙ rw e refl)
+  clock_refused r s e = refused r (checks_left s ∙ rw e refl)
 
-  -- ---- and otherwise
+  -- ---- and otherwise: what is said of the rest is what is answered
 
-  pub answered : ring_ok n p ≡ true → start_ok n ws ≡ true → clock_ok n (clock_from ws 1 n) ≡ true → (b : Bool) → b ≡ Owns
-      → (code : ℕ) (s : Session) → code ≡ check b 9 0 → s ≡ session_of (cond {A = Content} b (content_at n ws) (fresh_content 0))
-      → (code ≡ read_token_code n p ws) × (s ≡ session_of (read_token n p ws))
-  unfolding read_token_code read_token content_if check both
-  answered r t k false o code s e q = read_refused 8 code s (not_checked r (checks_left t ∙ rw (k, ← o) refl)) e q
-  answered r t k true o code s e q =
-      let c : token_checked n p ws ≡ true = checks_left t ∙ rw (k, ← o) refl in
-      let d : accepts_token n p ws ≡ true = sym (token_checks_accept n p ws r) ∙ c in
-      let f : read_token_code n p ws ≡ 0 = rw (r, d) refl in
-      (e ∙ sym f, q ∙ ap session_of (content_at_lem (start_shape t) ∙ sym (ap (λ (m : ℕ). content_if m ws) f)))
+  pub laden_answer : ring_ok n p ≡ true → start_ok n ws ≡ true → clock_ok n (clock_from ws 1 n) ≡ true → (clock read vs : List ℕ)
+      → clock ≡ clock_from ws 1 n → read ≡ ids_from Between → vs ≡ Behind → Laden (token_owns ws) n p clock read vs ≡ session_in n p ws
+  unfolding session_in both
+  laden_answer r t k clock read vs x y z =
+      let read_is : read ≡ ids_from Ids = y ∙ ap ids_from reads_between in
+      let rest_is : vs ≡ Rest = z ∙ owns_behind in
+      let asked : carried_ok (token_owns ws) n p read vs ≡ accepts_token n p ws =
+      (λ i. carried_ok (token_owns ws) n p (read_is i) (rest_is i)) ∙ sym (checks_left t ∙ rw k refl) ∙ token_checks_accept n p ws r
+      in
+      let said = content_of clock read vs x read_is rest_is ∙ content_at_lem (start_shape t) in
+      λ i. cond (asked i) (Some (session_of (said i))) None
+
+  -- ---- the answer of the call
+
+  pub no_ring : ring_ok n p ≡ false → (1 ≡ read_token_code n p ws) × (session_of (fresh_content 0) ≡ session_of (read_token n p ws))
+  unfolding read_token_code read_token content_if check
+  no_ring e = (rw e refl, rw e refl)
+
+  pub answered : ring_ok n p ≡ true → (r : Result Session Refusal) → r ≡ ok_or (session_in n p ws) Format
+      → (code_of r ≡ read_token_code n p ws) × (result_unwrap_or r (session_of (fresh_content 0)) ≡ session_of (read_token n p ws))
+  unfolding session_in read_token_code read_token content_if check code_of number_of
+  answered e r q = go (accepts_token n p ws) refl
+    where
+      go : (b : Bool) → accepts_token n p ws ≡ b → (code_of r ≡ read_token_code n p ws) × (result_unwrap_or r (session_of (fresh_content 0)) ≡ session_of (read_token n p ws))
+      go true a = (rw (q, e, a) refl, rw (q, e, a) refl)
+      go false a = (rw (q, e, a) refl, rw (q, e, a) refl)

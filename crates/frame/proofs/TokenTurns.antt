@@ -1,87 +1,97 @@
 -- What the writer's steps make of a token, and what each turn of the reader's loop over own frames does. Assumes nothing.
-use Rattle.std.proofs.Common.{◌≡◌, ℕ, zero, suc, ◌+◌, ◌-◌, ◌*◌, ◌<◌, ◌≤◌, Bool, true, false, eqb, leb, List, [], ◌∷◌, ◌++◌, length, get_or, take, drop, set, replicate, sym, refl, ap, ◌∙◌, append_assoc, append-nil, le_refl, zero-add, add-one, arith, length-append, length-drop, take_all, drop-drop, le-leb, leb-true}
+use Rattle.std.proofs.Common.{◌≡◌, ℕ, zero, suc, ◌+◌, ◌-◌, ◌*◌, ◌<◌, ◌≤◌, Bool, true, false, eqb, leb, List, [], ◌∷◌, ◌++◌, length, get_or, take, drop, set, replicate, sym, refl, ap, ◌∙◌, append_assoc, append-nil, le_refl, zero-add, add-one, arith, length-append, length-drop, take_all, drop-drop, le-leb, leb-true, cond, length-set, length-take-le, None, Option, Some, sum_by, take-append-drop}
+use Rattle.std.proofs.lemmas.List.{drop-replicate, take_more, take_more_set}
+use Rattle.std.proofs.lemmas.Option.{cond_some}
+use Rattle.std.proofs.lemmas.List.Sums.{sum_by-cons}
+use mathlib.Core.List.{Memᴰ}
 use native.Mathlib.Nat.{sub-zero}
 use lib.Seq.{sets, set-append_seam}
 use borrow.Author.Tests.{lt-leb}
-use Rattle.causal.specs.Tests.{both, all_below}
+use Rattle.causal.specs.Tests.{both}
 use Rattle.causal.specs.Codes.{check}
 use Rattle.causal.specs.Lists.{tab}
-use Rattle.causal.proofs.Tests.{both_true, all_at}
-use Rattle.causal.proofs.Codes.{check_none}
-use Rattle.causal.proofs.Lists.{tab_length, tab_more, sets_append, sets_front, take_front}
+use Rattle.causal.proofs.Tests.{both_true}
+use Rattle.causal.proofs.Lists.{sets_append, sets_front, take_front}
 use Rattle.causal.proofs.Sets.{size_le}
 use Rattle.frame.specs.declared.entry.Entry.{Entry}
 use Rattle.frame.specs.declared.entry.Frame.{Frame}
 use Rattle.frame.specs.declared.session.Session.{Session}
 use Rattle.frame.specs.Refusals.{replied}
-use Rattle.frame.specs.Entries.{entry_ok, blank_entry}
+use Rattle.frame.specs.Entries.{blank_entry}
 use Rattle.frame.specs.Words.{clock_words, id_words, sum_word, summed}
-use Rattle.frame.specs.Frames.{ring_ok, framed, frame_words, frame_ok, frame_of, accepts}
-use Rattle.frame.specs.Calls.{laid, laid_if, read_frame_code, frame_if, read_frame}
-use Rattle.frame.specs.Sessions.{Content, content_of, filled, own_turn, session_ok}
+use Rattle.frame.specs.Frames.{ring_ok, framed, frame_words, frame_ok, frame_of}
+use Rattle.frame.specs.Calls.{frame_in, laid, laid_if}
+use Rattle.frame.specs.Sessions.{Content, content_of, filled, nobody, session_ok}
 use Rattle.frame.specs.Tokens.{rows_of, own_rows, token_head, token_words, frame_length, own_from}
-use Rattle.frame.specs.TokenReading.{own_frame_ok, own_frames_ok}
+use Rattle.frame.specs.TokenReading.{own_in, own_frame_ok, own_frames_ok}
 use Rattle.frame.specs.TokenCalls.{write_token_code, write_token, write_token_row}
 use Rattle.frame.proofs.Entries.{ring_facts, clock_facts}
-use Rattle.frame.proofs.Sessions.{session_facts}
+use Rattle.frame.proofs.Sessions.{own_ok_lem, session_facts}
 use Rattle.frame.proofs.Tokens.{own_frame}
-use Rattle.frame.proofs.OwnTurns.{owns_of, OwnAt, owns_below}
+use Rattle.frame.proofs.OwnTurns.{count_is}
+use Rattle.frame.proofs.Reading.{frame_none, frame_some, none_is}
 use Rattle.frame.proofs.Words.{ids_size, length_summed, length_clock}
 use Rattle.frame.proofs.Frames.{length_frame}
 
 -- ---- own writes as frames, one behind the other
 
-rows_snoc : (n : ℕ) (es : List Entry) (e : Entry) → own_rows n (es ++ (e ∷ [])) ≡ own_rows n es ++ frame_words (framed n 0 e)
-unfolding rows_of
-rows_snoc n [] e = append-nil (frame_words (framed n 0 e))
-rows_snoc n (x ∷ es) e =
-    ap (λ (l : List ℕ). frame_words (framed n 0 x) ++ l) (rows_snoc n es e)
-    ∙ sym (append_assoc (frame_words (framed n 0 x)) (own_rows n es) (frame_words (framed n 0 e)))
+abbrev pub size_in : ℕ → Entry → ℕ
+size_in n e = length (frame_words (framed n 0 e))
 
-pub rows_none : (n : ℕ) (f : ℕ → Entry) → own_rows n (tab 0 f) ≡ []
-unfolding rows_of tab
-rows_none n f = refl
+frame_few : (n : ℕ) (e : Entry) → n ≤ 8 → size_in n e ≤ 268
+frame_few n e h = omega (arith, length_frame (framed n 0 e), ids_size e.deps, size_le e.deps)
+
+pub rows_size : (n : ℕ) (es : List Entry) → length (own_rows n es) ≡ sum_by (size_in n) es
+unfolding rows_of
+rows_size n [] = refl
+rows_size n (e ∷ es) = length-append (frame_words (framed n 0 e)) (own_rows n es) ∙ ap (λ (k : ℕ). size_in n e + k) (rows_size n es) ∙ sym (sum_by-cons (size_in n) e es)
+
+pub rows_few : (n : ℕ) (es : List Entry) → n ≤ 8 → length (own_rows n es) ≤ 268 * length es
+unfolding rows_of
+rows_few n [] h = omega arith
+rows_few n (e ∷ es) h = omega (arith, length-append (frame_words (framed n 0 e)) (own_rows n es), rows_few n es h, frame_few n e h)
+
+rows_append : (n : ℕ) (es fs : List Entry) → own_rows n (es ++ fs) ≡ own_rows n es ++ own_rows n fs
+unfolding rows_of
+rows_append n [] fs = refl
+rows_append n (e ∷ es) fs =
+    ap (λ (l : List ℕ). frame_words (framed n 0 e) ++ l) (rows_append n es fs) ∙ sym (append_assoc (frame_words (framed n 0 e)) (own_rows n es) (own_rows n fs))
 
 -- a session that carries none
-pub rows_of_none : (n : ℕ) (own : List Entry) (count : ℕ) → count ≡ 0 → own_rows n (tab count (owns_of own)) ≡ []
-rows_of_none n own count e = ap (λ (i : ℕ). own_rows n (tab i (owns_of own))) e ∙ rows_none n (owns_of own)
+pub rows_none : (s : Session) → s.count ≡ 0 → own_rows s.offices (content_of s).own ≡ []
+unfolding content_of tab rows_of
+rows_none s e = rw e refl
 
-module _ (n : ℕ) (f : ℕ → Entry) where
-  pub rows_more : (i : ℕ) → own_rows n (tab (i + 1) f) ≡ own_rows n (tab i f) ++ frame_words (framed n 0 (f i))
-  rows_more i = ap (own_rows n) (tab_more i f) ∙ rows_snoc n (tab i f) (f i)
+-- a loop that writes them, before own write i
+module _ (n : ℕ) (own : List Entry) (i : ℕ) (h : i < length own) where
+  abbrev NextRow : List ℕ
+  NextRow = frame_words (framed n 0 (get_or own i nobody))
 
-  pub rows_length : (i : ℕ) → length (own_rows n (tab (i + 1) f)) ≡ length (own_rows n (tab i f)) + length (frame_words (framed n 0 (f i)))
-  rows_length i = ap length (rows_more i) ∙ length-append (own_rows n (tab i f)) (frame_words (framed n 0 (f i)))
+  rows_more : own_rows n (take (i + 1) own) ≡ own_rows n (take i own) ++ NextRow
+  unfolding rows_of
+  rows_more =
+      ap (own_rows n) (take_more own i nobody h) ∙ rows_append n (take i own) (get_or own i nobody ∷ [])
+      ∙ ap (λ (l : List ℕ). own_rows n (take i own) ++ l) (append-nil NextRow)
 
-  rows_far : (i d : ℕ) → length (own_rows n (tab i f)) ≤ length (own_rows n (tab (d + i) f))
-  rows_far i zero = rw zero-add (le_refl _)
-  rows_far i (suc d) =
-      let e : suc d + i ≡ d + i + 1 = omega arith in
-      rw e (omega (arith, rows_far i d, rows_length (d + i)))
+  pub rows_length : length (own_rows n (take (i + 1) own)) ≡ length (own_rows n (take i own)) + length NextRow
+  rows_length = ap length rows_more ∙ length-append (own_rows n (take i own)) NextRow
 
-  -- there is room for one frame more
-  pub rows_room : (i m : ℕ) → i < m → length (own_rows n (tab i f)) + length (frame_words (framed n 0 (f i))) ≤ length (own_rows n (tab m f))
-  rows_room i m h =
-      let e : m - (i + 1) + (i + 1) ≡ m = omega arith in
-      omega (arith, rows_length i, rw e at (rows_far (i + 1) (m - (i + 1))))
+  -- there is room for its frame
+  pub rows_room : length (own_rows n (take i own)) + length NextRow ≤ length (own_rows n own)
+  rows_room =
+      let e = ap (λ (l : List Entry). length (own_rows n l)) (sym (take-append-drop (i + 1) own))
+      ∙ ap length (rows_append n (take (i + 1) own) (drop (i + 1) own))
+      ∙ length-append (own_rows n (take (i + 1) own)) (own_rows n (drop (i + 1) own))
+      in
+      omega (arith, e, rows_length)
 
-  pub frame_few : (e : Entry) → n ≤ 8 → length (frame_words (framed n 0 e)) ≤ 268
-  frame_few e h = omega (arith, length_frame (framed n 0 e), ids_size e.deps, size_le e.deps)
-
-  pub rows_few : (i : ℕ) → n ≤ 8 → length (own_rows n (tab i f)) ≤ 268 * i
-  rows_few zero h = omega (arith, ap length (rows_none n f))
-  rows_few (suc i) h =
-      let e : i + 1 ≡ suc i = add-one i in
-      omega (arith, rows_few i h, rw e at (rows_length i), frame_few (f i) h)
-
-  -- a turn of the loop that writes them
-  pub rows_turn : (o o' z : List ℕ) (at to i : ℕ) → to ≡ at + length (own_rows n (tab i f)) → o' ≡ sets o at (own_rows n (tab i f))
-      → z ≡ sets o' to (frame_words (framed n 0 (f i))) → z ≡ sets o at (own_rows n (tab (i + 1) f))
-  rows_turn o o' z at to i p q r =
-      r ∙ ap (λ (l : List ℕ). sets l to (frame_words (framed n 0 (f i)))) q
-      ∙ ap (λ (k : ℕ). sets (sets o at (own_rows n (tab i f))) k (frame_words (framed n 0 (f i)))) p
-      ∙ sym (sets_append o at (own_rows n (tab i f)) (frame_words (framed n 0 (f i))))
-      ∙ ap (sets o at) (sym (rows_more i))
+  pub rows_turn : (o o' : List ℕ) (at to : ℕ) → to ≡ at + length (own_rows n (take i own)) → o' ≡ sets o at (own_rows n (take i own))
+      → sets o' to NextRow ≡ sets o at (own_rows n (take (i + 1) own))
+  rows_turn o o' at to p q =
+      ap (λ (l : List ℕ). sets l to NextRow) q
+      ∙ ap (λ (k : ℕ). sets (sets o at (own_rows n (take i own))) k NextRow) p
+      ∙ sym (sets_append o at (own_rows n (take i own)) NextRow)
+      ∙ ap (sets o at) (sym rows_more)
 
 -- ---- the writer's steps make the writing
 
@@ -181,40 +191,37 @@ module _ (s : Content) (out : List ℕ) where
 
 -- ---- what a session that may be written says
 
+at_mem : (es : List Entry) (i : ℕ) → i < length es → Memᴰ (get_or es i nobody) es
+at_mem [] i h = absurd (omega arith)
+at_mem (e ∷ es) zero h = Memᴰ.head refl
+at_mem (e ∷ es) (suc i) h = Memᴰ.tail (at_mem es i (omega arith))
+
 pub record Writable (s : Session) : Type 0 where
-  pub low : 2 ≤ s.offices
   pub high : s.offices ≤ 8
   pub few : s.count ≤ 16
+  pub count : length (content_of s).own ≡ s.count
   pub reads : length (id_words s.read) ≤ 256
   pub clock : (j : ℕ) → j < 8 → get_or s.clock j 0 ≤ 32
-  pub frames : (i : ℕ) → i < s.count → frame_ok s.offices 64 (framed s.offices 0 (owns_of s.own i)) ≡ true
-  pub head : token_head s.offices s.count (length (id_words s.read)) ≡ token_head s.offices (length (content_of s).own) (length (id_words s.read))
-  pub size : length (token_words (content_of s)) ≡ s.offices + length (id_words s.read) + length (own_rows s.offices (tab s.count (owns_of s.own))) + 2
+  pub frames : (i : ℕ) → i < length (content_of s).own → frame_ok s.offices 64 (framed s.offices 0 (get_or (content_of s).own i nobody)) ≡ true
+  pub size : length (token_words (content_of s)) ≡ s.offices + length (id_words s.read) + length (own_rows s.offices (content_of s).own) + 2
 
-pub size_of : (s : Session)
-    → length (token_words (content_of s)) ≡ s.offices + length (id_words s.read) + length (own_rows s.offices (tab s.count (owns_of s.own))) + 2
+pub size_of : (s : Session) → length (token_words (content_of s)) ≡ s.offices + length (id_words s.read) + length (own_rows s.offices (content_of s).own) + 2
 unfolding content_of
 size_of s = length_token (content_of s)
-
-turn_entry : (n p : ℕ) (read : List ℕ) (f : ℕ → Entry) (i : ℕ) → OwnAt n p read f i ≡ true → entry_ok n p (f i) ≡ true
-unfolding own_turn
-turn_entry n p read f i e = (both_true (entry_ok n p (f i)) _ e).0
 
 pub writable : (s : Session) → ring_ok s.offices 64 ≡ true → session_ok s.offices 64 (content_of s) ≡ true → Writable s
 unfolding content_of
 writable s ring ok =
     let G = ring_facts s.offices 64 ring in
-    let F = session_facts s.offices 64 (content_of s) ok in
-    let t = tab_length s.count (owns_of s.own) in
-    let b : all_below s.count (OwnAt s.offices 64 s.read (owns_of s.own)) ≡ true = owns_below s.offices 64 s.read (owns_of s.own) s.count ∙ F.own in
+    let C = content_of s in
+    let F = session_facts s.offices 64 C ok in
     record {
-      low = G.low;
       high = G.high;
-      few = omega (arith, t, F.few);
+      few = omega (arith, count_is s, F.few);
+      count = count_is s;
       reads = omega (arith, ids_size s.read, size_le s.read);
       clock = λ j l. (clock_facts s.offices s.clock F.clock j l).small;
-      frames = λ i l. own_frame s.offices 64 (owns_of s.own i) G.low G.high (turn_entry s.offices 64 s.read (owns_of s.own) i (all_at (OwnAt s.offices 64 s.read (owns_of s.own)) s.count b i l));
-      head = ap (λ (k : ℕ). token_head s.offices k (length (id_words s.read))) (sym t);
+      frames = λ i l. own_frame s.offices 64 (get_or C.own i nobody) G.low G.high (own_ok_lem s.offices 64 C F (get_or C.own i nobody) (at_mem C.own i l));
       size = size_of s;
     }
 
@@ -224,27 +231,22 @@ module _ (n p : ℕ) (ws : List ℕ) where
   abbrev L : ℕ
   L = frame_length n ws
 
-  pub own_short : length ws < L → own_frame_ok n p ws ≡ false
-  unfolding own_frame_ok both
+  abbrev NoOwn : Type 0
+  NoOwn = ◌≡◌ {A = Option (Entry × ℕ)} None (own_in n p ws)
+
+  pub own_short : length ws < L → NoOwn
+  unfolding own_in own_frame_ok both
   own_short h = rw (lt-leb L (length ws) h) refl
 
-  code_nine : ring_ok n p ≡ true → (t : Bool) → accepts n p (take L ws) ≡ t → (read_frame_code n p (take L ws) ≡ 0 → ⊥) → t ≡ false
-  unfolding read_frame_code check
-  code_nine r true e h = absurd (h (rw (r, e) refl))
-  code_nine r false e h = refl
+  pub own_none : L ≤ length ws → None ≡ frame_in n p (take L ws) → NoOwn
+  unfolding own_in own_frame_ok both
+  own_none l e = rw (le-leb L (length ws) l, frame_none n p (take L ws) e) refl
 
-  pub own_bad : ring_ok n p ≡ true → L ≤ length ws → (read_frame_code n p (take L ws) ≡ 0 → ⊥) → own_frame_ok n p ws ≡ false
-  unfolding own_frame_ok both
-  own_bad r l h = rw (le-leb L (length ws) l, code_nine r (accepts n p (take L ws)) refl h) refl
-
-  pub own_good : L ≤ length ws → (f : Frame) → read_frame_code n p (take L ws) ≡ 0 → f ≡ read_frame n p (take L ws)
-      → (eqb f.hops 0 ≡ own_frame_ok n p ws) × (f.entry ≡ (frame_of (take L ws)).entry)
-  unfolding own_frame_ok both read_frame frame_if read_frame_code
-  own_good l f e q =
-      let a = check_none (ring_ok n p) 1 (check (accepts n p (take L ws)) 9 0) (omega arith) e in
-      let b = check_none (accepts n p (take L ws)) 9 0 (omega arith) a.1 in
-      let g : f ≡ frame_of (take L ws) = q ∙ ap (λ (k : ℕ). frame_if k (take L ws)) e in
-      (rw (le-leb L (length ws) l, b.0) (ap (λ (x : Frame). eqb x.hops 0) g), ap (λ (x : Frame). x.entry) g)
+  pub own_some : L ≤ length ws → (f : Frame) → Some f ≡ frame_in n p (take L ws) → (b : Bool) → b ≡ eqb f.hops 0 → cond b (Some (f.entry, L)) None ≡ own_in n p ws
+  unfolding own_in own_frame_ok both
+  own_some l f e b q =
+      let s = frame_some n p (take L ws) f e in
+      rw (le-leb L (length ws) l, s.0, q, s.1) refl
 
 -- ---- own frames, read
 
@@ -280,74 +282,107 @@ next_of (suc i) (y ∷ es) x rest e =
     let r = next_of i es x rest e in
     record { before = ap (λ (l : List Entry). y ∷ l) r.before; behind = r.behind; place = ap suc r.place }
 
+-- what is answered of k own frames, and blanks behind them
+abbrev pub Carried : ℕ → ℕ → ℕ → List ℕ → Option (List Entry)
+Carried k n p ws = cond (own_frames_ok k n p ws) (Some (filled (own_from k n ws))) None
+
 -- what holds of the loop over own frames before turn i, where the next frame stands at `at`
-pub record Turn (ws : List ℕ) (n p count : ℕ) (own : List Entry) (at i : ℕ) : Type 0 where
+pub record Turn (ws : List ℕ) (n p count : ℕ) (items : List Entry) (at i : ℕ) : Type 0 where
   pub few : i ≤ count
   pub within : at ≤ length ws
+  pub size : length items ≡ count
   pub checks : own_frames_ok count n p ws ≡ own_frames_ok (count - i) n p (drop at ws)
   pub left : drop i (own_from count n ws) ≡ own_from (count - i) n (drop at ws)
-  pub done : own ≡ filled (take i (own_from count n ws))
+  pub done : take i items ≡ take i (own_from count n ws)
 
 module _ (ws : List ℕ) (n p count : ℕ) where
-  pub turn_first : (blank : Entry) → blank ≡ blank_entry → Turn ws n p count (replicate 16 blank) 0 0
-  unfolding filled
-  turn_first blank e =
+  pub turn_first : (blank : Entry) → count ≤ 16 → Turn ws n p count (take count (replicate 16 blank)) 0 0
+  turn_first blank few =
       let z = sub-zero count in
       record {
         few = omega arith;
         within = omega arith;
+        size = length-take-le count (replicate 16 blank) few;
         checks = ap (λ (k : ℕ). own_frames_ok k n p ws) (sym z);
         left = ap (λ (k : ℕ). own_from k n ws) (sym z);
-        done = ap (λ (x : Entry). replicate 16 x) e;
+        done = refl;
       }
 
-  pub lent_rest : (at : ℕ) → take (length ws - at) (drop at ws) ≡ drop at ws
+  abbrev pub Lent : ℕ → List ℕ
+  Lent at = take (length ws - at) (drop at ws)
+
+  pub lent_rest : (at : ℕ) → Lent at ≡ drop at ws
   lent_rest at = take_all (length ws - at) (drop at ws) (simp length-drop (le_refl _))
 
-  module _ (own : List Entry) (at i : ℕ) (T : Turn ws n p count own at i) (l : i < count) where
+  module _ (items : List Entry) (at i : ℕ) (T : Turn ws n p count items at i) (l : i < length items) where
+    abbrev Here : List ℕ
+    Here = drop at ws
+
     one : count - i ≡ suc (count - (i + 1))
-    one = omega arith
+    one = omega (arith, T.size)
 
-    pub turn_fails : own_frame_ok n p (drop at ws) ≡ false → own_frames_ok count n p ws ≡ false
-    unfolding own_frames_ok both
-    turn_fails e = T.checks ∙ ap (λ (k : ℕ). own_frames_ok k n p (drop at ws)) one ∙ rw e refl
+    pub turn_fails : None ≡ own_in n p (Lent at) → None ≡ Carried count n p ws
+    unfolding own_in own_frames_ok both
+    turn_fails e =
+        let bad : own_frame_ok n p Here ≡ false = none_is (own_frame_ok n p Here) _ (e ∙ ap (own_in n p) (lent_rest at)) in
+        let out : own_frames_ok count n p ws ≡ false = T.checks ∙ ap (λ (k : ℕ). own_frames_ok k n p Here) one ∙ rw bad refl in
+        rw out refl
 
-    pub own_fits : own_frame_ok n p (drop at ws) ≡ true → at + frame_length n (drop at ws) ≤ length ws
-    unfolding own_frame_ok
-    own_fits e =
-        let a = both_true (leb (frame_length n (drop at ws)) (length (drop at ws))) _ e in
-        omega (arith, leb-true (frame_length n (drop at ws)) (length (drop at ws)) a.0, length-drop at ws, T.within)
+    module _ (x : Entry) (k : ℕ) (q : Some (x, k) ≡ own_in n p (Lent at)) where
+      record Own : Type 0 where
+        pub ok : own_frame_ok n p Here ≡ true
+        pub entry : (frame_of (take (frame_length n Here) Here)).entry ≡ x
+        pub words : frame_length n Here ≡ k
 
-    pub turn_next : own_frame_ok n p (drop at ws) ≡ true → count ≤ 16 → (x : Entry) (k : ℕ) → k ≡ frame_length n (drop at ws)
-        → x ≡ (frame_of (take (frame_length n (drop at ws)) (drop at ws))).entry → Turn ws n p count (set own i x) (at + k) (i + 1)
-    unfolding own_frames_ok own_from both
-    turn_next e c x k q g =
-        let m : ℕ = count - (i + 1) in
-        let d : drop (frame_length n (drop at ws)) (drop at ws) ≡ drop (at + k) ws = drop-drop (frame_length n (drop at ws)) at ws ∙ ap (λ (j : ℕ). drop (at + j) ws) (sym q) in
-        let es : List Entry = own_from count n ws in
-        let here : drop i es ≡ x ∷ own_from m n (drop (at + k) ws) =
-        T.left ∙ ap (λ (j : ℕ). own_from j n (drop at ws)) one ∙ ap (λ (y : Entry). y ∷ own_from m n (drop (frame_length n (drop at ws)) (drop at ws))) (sym g)
-        ∙ ap (λ (r : List ℕ). x ∷ own_from m n r) d
-        in
-        let N = next_of i es x (own_from m n (drop (at + k) ws)) here in
-        record {
-          few = omega arith;
-          within = omega (arith, own_fits e);
-          checks =
-              T.checks ∙ ap (λ (j : ℕ). own_frames_ok j n p (drop at ws)) one ∙ rw e (ap (own_frames_ok m n p) d);
-          left = ap (λ (j : ℕ). drop j es) (add-one i) ∙ N.behind;
-          done =
-              ap (λ (r : List Entry). set r i x) T.done
-              ∙ ap (λ (j : ℕ). set (filled (take i es)) j x) (sym N.place)
-              ∙ fill_next (take i es) x (omega (arith, N.place))
-              ∙ ap filled (sym N.before ∙ ap (λ (j : ℕ). take j es) (sym (add-one i)));
-        }
+      own_is : Own
+      unfolding own_in
+      own_is =
+          let s = cond_some (own_frame_ok n p Here) ((frame_of (take (frame_length n Here) Here)).entry, frame_length n Here) (x, k) (sym (q ∙ ap (own_in n p) (lent_rest at))) in
+          record { ok = s.0; entry = ap (λ (y : Entry × ℕ). y.0) s.1; words = ap (λ (y : Entry × ℕ). y.1) s.1 }
 
-  pub turn_last : (own : List Entry) (at i : ℕ) → Turn ws n p count own at i → count ≤ i
-      → (eqb (length ws - at) 1 ≡ own_frames_ok count n p ws) × (own ≡ filled (own_from count n ws))
-  unfolding own_frames_ok
-  turn_last own at i T l =
-      let z : count - i ≡ 0 = omega arith in (
-        ap (λ (k : ℕ). eqb k 1) (sym (length-drop at ws)) ∙ sym (T.checks ∙ ap (λ (k : ℕ). own_frames_ok k n p (drop at ws)) z),
-        T.done ∙ ap filled (take_all i (own_from count n ws) (omega (arith, own_count count n ws))),
-      )
+      pub turn_fits : at + k ≤ length ws
+      unfolding own_frame_ok
+      turn_fits =
+          let O = own_is in
+          let a = both_true (leb (frame_length n Here) (length Here)) _ O.ok in
+          omega (arith, leb-true (frame_length n Here) (length Here) a.0, length-drop at ws, T.within, O.words)
+
+      pub turn_next : Turn ws n p count (set items i x) (at + k) (i + 1)
+      unfolding own_frames_ok own_from both
+      turn_next =
+          let O = own_is in
+          let m : ℕ = count - (i + 1) in
+          let d : drop (frame_length n Here) Here ≡ drop (at + k) ws = drop-drop (frame_length n Here) at ws ∙ ap (λ (j : ℕ). drop (at + j) ws) O.words in
+          let es : List Entry = own_from count n ws in
+          let here : drop i es ≡ x ∷ own_from m n (drop (at + k) ws) =
+          T.left ∙ ap (λ (j : ℕ). own_from j n Here) one ∙ ap (λ (y : Entry). y ∷ own_from m n (drop (frame_length n Here) Here)) O.entry
+          ∙ ap (λ (r : List ℕ). x ∷ own_from m n r) d
+          in
+          let N = next_of i es x (own_from m n (drop (at + k) ws)) here in
+          record {
+            few = omega (arith, T.size);
+            within = turn_fits;
+            size = length-set items i x ∙ T.size;
+            checks =
+                T.checks ∙ ap (λ (j : ℕ). own_frames_ok j n p Here) one ∙ rw O.ok (ap (own_frames_ok m n p) d);
+            left = ap (λ (j : ℕ). drop j es) (add-one i) ∙ N.behind;
+            done =
+                take_more_set items i x l ∙ ap (λ (r : List Entry). r ++ (x ∷ [])) T.done ∙ sym N.before ∙ ap (λ (j : ℕ). take j es) (sym (add-one i));
+          }
+
+  -- behind the last one stands the check
+  pub turn_last : (items : List Entry) (at i : ℕ) → Turn ws n p count items at i → length items ≤ i → (blank : Entry) → blank ≡ blank_entry
+      → (b : Bool) → b ≡ eqb (length ws - at) 1 → cond b (Some (items ++ drop count (replicate 16 blank))) None ≡ Carried count n p ws
+  unfolding own_frames_ok filled
+  turn_last items at i T l blank e b q =
+      let z : count - i ≡ 0 = omega (arith, T.size) in
+      let es : List Entry = own_from count n ws in
+      let k = own_count count n ws in
+      let a : b ≡ own_frames_ok count n p ws =
+      q ∙ ap (λ (j : ℕ). eqb j 1) (sym (length-drop at ws)) ∙ sym (T.checks ∙ ap (λ (j : ℕ). own_frames_ok j n p (drop at ws)) z)
+      in
+      let own : items ≡ es = sym (take_all i items l) ∙ T.done ∙ take_all i es (omega (arith, k, T.size)) in
+      let blanks : drop count (replicate 16 blank) ≡ replicate (16 - length es) blank_entry =
+      ap (λ (x : Entry). drop count (replicate 16 x)) e ∙ drop-replicate count 16 blank_entry ∙ ap (λ (j : ℕ). replicate (16 - j) blank_entry) (sym k)
+      in
+      λ i. cond (a i) (Some (own i ++ blanks i)) None

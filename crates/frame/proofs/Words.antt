@@ -28,42 +28,6 @@ pub is_kind_lem : (k w : ℕ) → is_kind k ≡ true → kind_of w ≡ k → kin
 unfolding kind_is
 is_kind_lem k w h e = both_intro _ _ h (eq-eqb (kind_of w) k e)
 
--- a word of another kind, of the kind k, of a kind from 3 to 6
-pub other_kind : (want w : ℕ) → (kind_of w ≡ want → ⊥) → false ≡ kind_is want w
-unfolding kind_is
-other_kind want w h = sym (rw (ne_eqb (kind_of w) want h) (both_false (is_kind want)))
-
-pub this_kind : (want w k : ℕ) → is_kind k ≡ true → kind_of w ≡ k → kind_of w ≡ want → true ≡ kind_is want w
-this_kind want w k h e q = sym (is_kind_lem want w (ap is_kind (sym q ∙ e) ∙ h) q)
-
-pub field_kind : (want w : ℕ) → 3 ≤ kind_of w → kind_of w ≤ 6 → kind_of w ≡ want → true ≡ kind_is want w
-unfolding is_kind either both
-field_kind want w a b q =
-    this_kind want w (kind_of w) (rw (ne_eqb (kind_of w) 1 (λ (e : kind_of w ≡ 1). omega arith), le-leb 3 (kind_of w) a, le-leb (kind_of w) 6 b) refl) refl q
-
-not_kind : (k : ℕ) → (k ≡ 1 → ⊥) → (k ≡ 8 → ⊥) → (k ≡ 15 → ⊥) → (3 ≤ k → k ≤ 6 → ⊥) → is_kind k ≡ false
-unfolding is_kind either both
-not_kind k a b c d =
-    rw (ne_eqb k 1 a, ne_eqb k 8 b, ne_eqb k 15 c)
-    (⊎_elim (λ (l : k < 3). rw (lt-leb 3 k l) refl) (λ (l : 3 ≤ k).
-    ⊎_elim (λ (m : 6 < k). rw (le-leb 3 k l, lt-leb k 6 m) refl) (λ (m : k ≤ 6). absurd (d l m)) (lt_or_le 6 k))
-    (lt_or_le k 3))
-
--- a word whose kind no format has is of none
-pub no_kind : (want w : ℕ) → (kind_of w ≡ 1 → ⊥) → (kind_of w ≡ 8 → ⊥) → (kind_of w ≡ 15 → ⊥) → (kind_of w < 3) ⊎ (6 < kind_of w) → false ≡ kind_is want w
-unfolding kind_is
-no_kind want w a b c d =
-    sym
-    (not_so (kind_is want w)
-    (λ q.
-    let z : is_kind (kind_of w) ≡ true = ap is_kind (kind_is_lem want w q) ∙ (both_true (is_kind want) _ q).0 in
-    let y : is_kind (kind_of w) ≡ false = none (kind_of w) a b c d in
-    false_true (sym y ∙ z)))
-  where
-    none : (k : ℕ) → (k ≡ 1 → ⊥) → (k ≡ 8 → ⊥) → (k ≡ 15 → ⊥) → (k < 3) ⊎ (6 < k) → is_kind k ≡ false
-    none k a b c (inl d) = not_kind k a b c (λ f g. omega arith)
-    none k a b c (inr d) = not_kind k a b c (λ f g. omega arith)
-
 -- ---- the sum
 
 pub total_append : (a b : List ℕ) → total (a ++ b) ≡ total a + total b
@@ -72,13 +36,6 @@ total_append [] b = omega arith
 total_append (w ∷ a) b = omega (arith, total_append a b)
 
 -- one more word
-pub total_take : (ws : List ℕ) (i : ℕ) → i < length ws → total (take (i + 1) ws) ≡ total (take i ws) + payload (get_or ws i 0)
-unfolding total
-total_take ws i h = rw (add-one, take-suc ws i 0 h) (total_append (take i ws) (get_or ws i 0 ∷ []) ∙ one)
-  where
-    one : total (take i ws) + (payload (get_or ws i 0) + 0) ≡ total (take i ws) + payload (get_or ws i 0)
-    one = omega arith
-
 pub total_snoc : (ws : List ℕ) (w : ℕ) → total (ws ++ (w ∷ [])) ≡ total ws + payload w
 unfolding total
 total_snoc ws w = total_append ws (w ∷ []) ∙ omega arith
@@ -99,9 +56,6 @@ wrapped s w t h = thin (s + w) ∙ apart s w ∙ ap (λ (x : ℕ). (x + payload 
 pub length_summed : (ws : List ℕ) → length (summed ws) ≡ length ws + 1
 unfolding summed
 length_summed ws = length-append ws (sum_word ws ∷ [])
-
-pub two_wrapped : (x y : ℕ) → (x % 4294967296 + y % 4294967296) % 4294967296 % 268435456 ≡ (x + y) % 268435456
-two_wrapped x y = omega arith
 
 -- a word more, and sums that are added
 pub sum_more : (s w : ℕ) (ws : List ℕ) → s % 268435456 ≡ total ws % 268435456 → (s + w) % 4294967296 % 268435456 ≡ total (ws ++ (w ∷ [])) % 268435456

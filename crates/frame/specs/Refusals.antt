@@ -1,7 +1,8 @@
 -- Refusals and answers: "a definition gives this paper's number and values for each of its cases, and the promises use that definition".
 -- Assumes nothing.
-use Rattle.std.specs.Prelude.{ℕ, zero, suc, Err, Ok, Result}
+use Rattle.std.specs.Prelude.{◌≡◌, ◌≢◌, ℕ, zero, suc, Err, Ok, Result, MatchResult}
 use Rattle.frame.specs.declared.refusal.Refusal.{Refusal}
+use Rattle.frame.specs.declared.refusal.UnknownRefusal.{UnknownRefusal}
 use Rattle.frame.specs.declared.refusal.Refusal.TheVariants.{Settings, Store, Content, Plot, Value, OfficeFull, SessionFull, Room, Format, Unmade, Different, Missing}
 
 -- the paper's number of a refusal
@@ -18,6 +19,10 @@ number_of Format = 9
 number_of Unmade = 10
 number_of Different = 11
 number_of Missing = 12
+
+-- the refusal that has a number, or an error with the number where none has it
+abbrev pub Names : ℕ → Result Refusal UnknownRefusal → Type 0
+Names n r = MatchResult r (λ x. number_of x ≡ n) (λ e. (e.0 ≡ n) × ((x : Refusal) → number_of x ≢ n))
 
 -- the refusal number of an answer, 0 for none
 unfoldable pub code_of : {A : Type 0} → Result A Refusal → ℕ

@@ -25,62 +25,33 @@ pub struct Frame {
 }
 
 // The settings of a ring: 2 to 8 offices, 1 to 64 plots.
+#[tactic(auto, unfolding(crate::specs::Frames::ring_ok, causal::specs::Tests::both))]
 pub fn ring_ok(offices: u32, plots: u32) -> bool
     ensures { result ≡ ring_ok offices plots }
 {
     2 <= offices && offices <= 8 && 1 <= plots && plots <= 64
 }
 
-// The greatest number that place j of a clock may have, in a ring of n offices.
-fn most(n: usize, j: usize) -> u32
-    ensures { result ≡ (if ltb j n then 32 else 0) }
-{
-    if j < n {
-        return 32;
-    }
-    0
-}
-
 // The greatest numbers that a clock may have, place by place.
 pub fn mosts(n: usize) -> [u32; 8]
     ensures { (clock : List ℕ) → under_ok result clock ≡ clock_ok n clock }
 {
-    [
-        most(n, 0),
-        most(n, 1),
-        most(n, 2),
-        most(n, 3),
-        most(n, 4),
-        most(n, 5),
-        most(n, 6),
-        most(n, 7),
-    ]
+    std::array::from_fn(|j| if j < n { 32 } else { 0 })
 }
 
 // 0 where x is not over a bound; else all bits, as a comparison of eight places at once leaves them.
+#[tactic(auto, using(std::proofs::lemmas::Bool::Decides::nat_tests))]
 fn over(x: u32, most: u32) -> u32
     ensures { (result == 0) ≡ nat_le x most }
 {
-    if x > most {
-        return 0xFFFF_FFFF;
-    }
-    0
+    if x > most { 0xFFFF_FFFF } else { 0 }
 }
 
 // What is over its bound, place by place. Bounds in a row of their own, so that all places are compared at once.
 pub fn overs(most: [u32; 8], clock: [u32; 8]) -> [u32; 8]
     ensures { is_empty result ≡ under_ok most clock }
 {
-    [
-        over(clock[0], most[0]),
-        over(clock[1], most[1]),
-        over(clock[2], most[2]),
-        over(clock[3], most[3]),
-        over(clock[4], most[4]),
-        over(clock[5], most[5]),
-        over(clock[6], most[6]),
-        over(clock[7], most[7]),
-    ]
+    std::array::from_fn(|j| over(clock[j], most[j]))
 }
 
 // Numbers of 0 to 32, and zero for offices that the ring has not.
@@ -93,33 +64,23 @@ pub fn clock_ok(n: usize, clock: [u32; 8]) -> bool
 }
 
 // What word j of a set has of an office that the ring has not.
+#[tactic(auto, using(std::proofs::lemmas::Bool::Decides::nat_tests), unfolding(causal::specs::Tests::either))]
 fn beyond(n: usize, w: u32, j: usize) -> u32
     ensures { (result == 0) ≡ either (nat_lt j n) (w == 0) }
 {
-    if j < n {
-        return 0;
-    }
-    w
+    if j < n { 0 } else { w }
 }
 
 // No id of an office that the ring has not. All words at once.
 pub fn ids_ok(n: usize, ids: [u32; 8]) -> bool
     ensures { result ≡ ids_ok n ids }
 {
-    let left = [
-        beyond(n, ids[0], 0),
-        beyond(n, ids[1], 1),
-        beyond(n, ids[2], 2),
-        beyond(n, ids[3], 3),
-        beyond(n, ids[4], 4),
-        beyond(n, ids[5], 5),
-        beyond(n, ids[6], 6),
-        beyond(n, ids[7], 7),
-    ];
+    let left = std::array::from_fn(|j| beyond(n, ids[j], j));
     causal::set::is_empty(left)
 }
 
 // The bounds of the numbers.
+#[tactic(auto, unfolding(crate::specs::Entries::bounds_ok, causal::specs::Tests::both))]
 pub fn bounds_ok(n: u32, p: u32, e: &Entry) -> bool
     ensures { result ≡ bounds_ok n p e.now.office e.now.serial e.now.plot e.now.value }
 {
@@ -135,6 +96,7 @@ pub fn in_word(w: u32, serial: u32) -> bool
 }
 
 // The rules of clock and dependencies.
+#[tactic(auto, using(crate::proofs::Words::in_serial), unfolding(causal::specs::Tests::both))]
 fn past_ok(n: usize, office: usize, serial: u32, clock: [u32; 8], deps: [u32; 8]) -> bool
     requires { (office < 8) × (1 ≤ serial) × (serial ≤ 32) }
     ensures { result ≡ both (slice_index clock office == serial) (both (not (is_in deps (32 * office + (serial - 1)))) (both (clock_ok n clock) (ids_ok n deps))) }
@@ -146,20 +108,18 @@ fn past_ok(n: usize, office: usize, serial: u32, clock: [u32; 8], deps: [u32; 8]
 }
 
 // The entry rules.
+#[tactic(auto, using(crate::proofs::Entries::far_entry, crate::proofs::Entries::bounds_facts), unfolding(crate::specs::Entries::entry_ok, causal::specs::Tests::both))]
 pub fn entry_ok(n: u32, p: u32, e: &Entry) -> bool
     ensures { result ≡ entry_ok n p e.now }
 {
-    if !bounds_ok(n, p, e) {
-        return false;
-    }
     // No clock has a number for a ninth office.
-    if e.office > 7 {
-        return false;
-    }
-    past_ok(n as usize, e.office as usize, e.serial, e.clock, e.deps)
+    bounds_ok(n, p, e)
+        && e.office < 8
+        && past_ok(n as usize, e.office as usize, e.serial, e.clock, e.deps)
 }
 
 // What a frame may say.
+#[tactic(auto, unfolding(crate::specs::Frames::frame_ok, causal::specs::Tests::both))]
 pub fn frame_ok(n: u32, p: u32, f: &Frame) -> bool
     ensures { result ≡ frame_ok n p f.now }
 {
@@ -170,14 +130,11 @@ pub fn frame_ok(n: u32, p: u32, f: &Frame) -> bool
 pub fn id_of(e: &Entry) -> usize
     ensures { result ≡ id_of e.now }
 {
-    let first = 32 * e.office as usize;
-    if e.serial < 1 {
-        return first;
-    }
-    first + (e.serial - 1) as usize
+    32 * e.office as usize + e.serial.saturating_sub(1) as usize
 }
 
 // Have two entries the same content?
+#[tactic(auto, using(causal::proofs::Equal::equal_words), unfolding(crate::specs::Entries::same_content, causal::specs::Tests::both))]
 pub fn same_content(e: &Entry, f: &Entry) -> bool
     ensures { result ≡ same_content e.now f.now }
 {

@@ -41,6 +41,7 @@ pub fn blank_session() -> Session
 
 // The tests of an own write that ask its clock and dependencies: its own number, not on itself, an id that is not among the earlier ones; then at
 // once no number over its bound and no dependency but on what was read or written before.
+#[tactic(auto, using(crate::proofs::Words::in_serial, causal::proofs::Sets::empty_unite, causal::proofs::Sets::subset_left), unfolding(causal::specs::Tests::both))]
 fn own_past_ok(
     most: [u32; 8],
     office: usize,
@@ -53,47 +54,38 @@ fn own_past_ok(
     requires { (office < 8) × (1 ≤ serial) × (serial ≤ 32) }
     ensures { result ≡ both (slice_index clock office == serial) (both (not (is_in deps (32 * office + (serial - 1)))) (both (not (is_in seen (32 * office + (serial - 1)))) (both (under_ok most clock) (subset_of deps (unite read seen))))) }
 {
-    if clock[office] != serial {
-        return false;
-    }
-    if crate::entry::in_word(deps[office], serial) {
-        return false;
-    }
-    if crate::entry::in_word(seen[office], serial) {
-        return false;
-    }
     let over = crate::entry::overs(most, clock);
-    let known = causal::set::union(read, seen);
-    let unknown = causal::set::without(deps, known);
+    let unknown = causal::set::without(deps, causal::set::union(read, seen));
     let bad = causal::set::union(over, unknown);
-    causal::set::is_empty(bad)
+    clock[office] == serial
+        && !crate::entry::in_word(deps[office], serial)
+        && !crate::entry::in_word(seen[office], serial)
+        && causal::set::is_empty(bad)
 }
 
 // One own write: the entry rules, an id that is not among the earlier ones, and no dependency but on what was read or written before. All of
 // that is of offices that the ring has, so its dependencies are, too.
+#[tactic(auto, using(crate::proofs::Entries::bounds_facts))]
 fn own_ok(n: u32, p: u32, most: [u32; 8], read: [u32; 8], seen: [u32; 8], e: &Entry) -> bool
     requires { ((c : List ℕ) → under_ok most c ≡ clock_ok n c) × (ids_ok n read ≡ true) × (ids_ok n seen ≡ true) }
     ensures { result ≡ own_turn n p read seen e.now }
 {
-    if !crate::entry::bounds_ok(n, p, e) {
-        return false;
-    }
     // No clock has a number for a ninth office.
-    if e.office > 7 {
-        return false;
-    }
-    own_past_ok(
-        most,
-        e.office as usize,
-        e.serial,
-        e.clock,
-        e.deps,
-        read,
-        seen,
-    )
+    crate::entry::bounds_ok(n, p, e)
+        && e.office < 8
+        && own_past_ok(
+            most,
+            e.office as usize,
+            e.serial,
+            e.clock,
+            e.deps,
+            read,
+            seen,
+        )
 }
 
 // The own writes, with the set of the ids seen so far.
+#[tactic(auto, using(crate::proofs::OwnTurns::asked_on, crate::proofs::OwnTurns::asked_out, crate::proofs::OwnTurns::asked_all, crate::proofs::OwnTurns::ids_kept, crate::proofs::OwnTurns::none_seen))]
 pub fn owns_ok(n: u32, p: u32, read: [u32; 8], own: &[Entry]) -> bool
     requires { ids_ok n read ≡ true }
     ensures { result ≡ own_ok n p read zeros own.now }
@@ -111,6 +103,7 @@ pub fn owns_ok(n: u32, p: u32, read: [u32; 8], own: &[Entry]) -> bool
 }
 
 // All of a session but its own writes: the ring size, how many it carries, clock and read ids.
+#[tactic(auto, unfolding(crate::specs::Sessions::head_ok, causal::specs::Tests::both))]
 fn head_ok(s: &Session, n: u32) -> bool
     ensures { result ≡ head_ok n s.now.offices s.now.count s.now.clock s.now.read }
 {
@@ -121,20 +114,20 @@ fn head_ok(s: &Session, n: u32) -> bool
 }
 
 // 01: is a session sound for a ring of so many offices, with so many plots?
+#[tactic(auto, using(crate::proofs::OwnTurns::session_split, crate::proofs::OwnTurns::head_few, crate::proofs::OwnTurns::head_ids), unfolding(causal::specs::Tests::both))]
 pub fn session_ok(s: &Session, offices: u32, plots: u32) -> bool
     ensures { result ≡ session_ok offices plots (content_of s.now) }
 {
-    if !head_ok(s, offices) {
-        return false;
-    }
-    owns_ok(offices, plots, s.read, own_writes(s))
+    head_ok(s, offices) && owns_ok(offices, plots, s.read, own_writes(s))
 }
 
 // The ids of entries.
+#[tactic(auto, unfolding(crate::specs::Sessions::ids_of))]
 pub fn ids_of(own: &[Entry]) -> [u32; 8]
     ensures { result ≡ ids_of own.now }
 {
     let mut ids = [0u32; 8];
+    // No `fold`: its proof does not close (tried fold_from_yields_List three ways).
     for e in own {
         let more = causal::set::insert(ids, crate::entry::id_of(e));
         ids = more;

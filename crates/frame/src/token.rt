@@ -1,5 +1,5 @@
 // Tokens (01: slips): a session as a row of words.
-ghost use Rattle.std.specs.Prelude.{◌≡◌, ℕ, ◌+◌, ◌%◌, ◌<◌, ◌≤◌, true, false, [], ◌∷◌, ◌++◌, length, get_or, take, if◌then◌else◌, slice_index, slice_index_or, slice_set};
+ghost use Rattle.std.specs.Prelude.{◌≡◌, ℕ, ◌+◌, ◌%◌, ◌<◌, ◌≤◌, true, false, [], ◌∷◌, ◌++◌, length, get_or, take, cond, None, Some, slice_index, slice_index_or, slice_set};
 ghost use Rattle.std.specs.Result.{result_unwrap_or};
 ghost use Rattle.std.proofs.lemmas.List.Edits.{sets};
 ghost use Rattle.causal.specs.Lists.{tab};
@@ -33,15 +33,14 @@ fn own_frame(n: u32, e: &Entry) -> Frame
 }
 
 // How many words the own writes take.
+#[tactic(auto, using(crate::proofs::TokenTurns::rows_size, crate::proofs::TokenTurns::rows_few))]
 fn own_words(n: u32, own: &[Entry]) -> usize
     requires { (n ≤ 8) × (length own.now ≤ 16) }
     ensures { result ≡ length (own_rows n own.now) }
 {
-    let mut words = 0;
-    for e in own {
-        words += crate::writer::words_of(&own_frame(n, e));
-    }
-    words
+    own.iter()
+        .map(|e| crate::writer::words_of(&own_frame(n, e)))
+        .sum()
 }
 
 // How many words a token takes.
@@ -74,16 +73,17 @@ fn put_owns(n: u32, own: &[Entry], out: &mut [u32], at: usize) -> usize
 }
 
 // The head, the clock and the read ids. The head is put behind what it counts.
-fn put_start(n: u32, count: usize, clock: [u32; 8], read: [u32; 8], out: &mut [u32]) -> Put
-    requires { (n ≤ 8) × (count ≤ 16) × ((j : ℕ) → j < 8 → slice_index clock j ≤ 32) × (1 + n + length (id_words read) ≤ length out.old) }
-    ensures { (result.to ≡ 1 + n + length (id_words read))
-        × (result.sum % 268435456 ≡ total (token_head n count (length (id_words read)) ∷ (clock_words n clock ++ id_words read)) % 268435456)
-        × (out.new ≡ sets (sets (slice_set out.old 0 (token_head n count (length (id_words read)))) 1 (clock_words n clock)) (1 + n) (id_words read)) }
+fn put_start(s: &Session, out: &mut [u32]) -> Put
+    requires { (s.now.offices ≤ 8) × (s.now.count ≤ 16) × ((j : ℕ) → j < 8 → slice_index s.now.clock j ≤ 32) × (1 + s.now.offices + length (id_words s.now.read) ≤ length out.old) }
+    ensures { (result.to ≡ 1 + s.now.offices + length (id_words s.now.read))
+        × (result.sum % 268435456 ≡ total (token_head s.now.offices s.now.count (length (id_words s.now.read)) ∷ (clock_words s.now.offices s.now.clock ++ id_words s.now.read)) % 268435456)
+        × (out.new ≡ sets (sets (slice_set out.old 0 (token_head s.now.offices s.now.count (length (id_words s.now.read)))) 1 (clock_words s.now.offices s.now.clock)) (1 + s.now.offices) (id_words s.now.read)) }
 {
-    let clocks = crate::word::put_clock(clock, n as usize, out, 1);
-    let put = crate::word::put_ids(read, out, 1 + n as usize);
+    let n = s.offices;
+    let clocks = crate::word::put_clock(s.clock, n as usize, out, 1);
+    let put = crate::word::put_ids(s.read, out, 1 + n as usize);
     let reads = put.to - 1 - n as usize;
-    let head = head_word(n, count as u32, reads as u32);
+    let head = head_word(n, s.count as u32, reads as u32);
     out[0] = head;
     Put {
         to: put.to,
@@ -91,18 +91,17 @@ fn put_start(n: u32, count: usize, clock: [u32; 8], read: [u32; 8], out: &mut [u
     }
 }
 
-// The words of a token, where there is room for them.
+// The words of a token, where there is room for them. Where nothing is carried, its check is the sum of what was put.
 fn fill(s: &Session, out: &mut [u32])
     requires { (ring_ok s.now.offices 64 ≡ true) × (session_ok s.now.offices 64 (content_of s.now) ≡ true) × (length (token_words (content_of s.now)) ≤ length out.old) }
     ensures { out.new ≡ laid (token_words (content_of s.now)) out.old }
 {
-    let n = s.offices;
-    let put = put_start(n, s.count, s.clock, s.read, &mut *out);
+    let put = put_start(s, &mut *out);
     if s.count == 0 {
         out[put.to] = 0xF000_0000 + put.sum % crate::word::LOW;
         return;
     }
-    let end = put_owns(n, crate::session::own_writes(s), &mut *out, put.to);
+    let end = put_owns(s.offices, crate::session::own_writes(s), &mut *out, put.to);
     crate::word::put_sum(out, end);
 }
 
@@ -125,6 +124,7 @@ pub fn write_token(s: Session, out: &mut [u32]) -> Result<usize, Refusal>
 // ---- reading
 
 // The head is one, for n offices, and what it counts may stand in the row.
+#[tactic(auto, unfolding(crate::specs::TokenReading::token_shape, causal::specs::Tests::both))]
 fn shape_ok(ws: &[u32], n: u32) -> bool
     requires { n ≤ 8 }
     ensures { result ≡ token_shape n ws.now }
@@ -167,7 +167,7 @@ fn owns_from(ws: &[u32], n: u32, p: u32, count: usize) -> Option<[Entry; 16]>
 {
     let mut own = [crate::entry::blank_entry(); 16];
     let mut at = 0;
-    for place in own.iter_mut().take(count) {
+    for place in &mut own[..count] {
         let (e, words) = own_from(&ws[at..], n, p)?;
         *place = e;
         at += words;
@@ -179,6 +179,7 @@ fn owns_from(ws: &[u32], n: u32, p: u32, count: usize) -> Option<[Entry; 16]>
 }
 
 // All of a row but the numbers of the clock and the own frames: the head, the kinds of the clock words, the read ids, the check.
+#[tactic(auto, using(crate::proofs::TokenReads::reads_between), unfolding(crate::specs::TokenReading::start_ok, causal::specs::Tests::both))]
 fn start_ok(ws: &[u32], n: u32) -> bool
     requires { n ≤ 8 }
     ensures { result ≡ start_ok n ws.now }
@@ -186,15 +187,11 @@ fn start_ok(ws: &[u32], n: u32) -> bool
     if !shape_ok(ws, n) {
         return false;
     }
-    if !crate::word::clock_kinds(ws, 1, n as usize) {
-        return false;
-    }
     let from = 1 + n as usize;
     let to = from + (ws[0] % crate::word::LOW % 512) as usize;
-    if !crate::word::ids_ascend(&ws[from..to], n) {
-        return false;
-    }
-    crate::word::sum_ok(ws)
+    crate::word::clock_kinds(ws, 1, n as usize)
+        && crate::word::ids_ascend(&ws[from..to], n)
+        && crate::word::sum_ok(ws)
 }
 
 // The session whose own frames stand in ws, up to the last word.

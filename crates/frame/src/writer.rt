@@ -27,6 +27,7 @@ fn head_word(office: u32, serial: u32, hops: u32, offices: u32, count: u32) -> u
 }
 
 // The check word of a frame, by the sums of its parts: the kinds of plot and value words fall away.
+#[tactic(auto, using(crate::proofs::Chains::three_wrapped))]
 fn check_word(head: u32, fields: u32, clocks: u32, deps: u32) -> u32
     ensures { result ≡ 4026531840 + (head + fields + clocks + deps) % 268435456 }
 {
@@ -38,6 +39,7 @@ fn check_word(head: u32, fields: u32, clocks: u32, deps: u32) -> u32
 }
 
 // How many words a frame takes.
+#[tactic(auto, using(crate::proofs::Frames::length_frame, crate::proofs::Words::ids_size, causal::proofs::Sets::size_le))]
 pub fn words_of(f: &Frame) -> usize
     requires { f.now.offices ≤ 8 }
     ensures { result ≡ length (frame_words f.now) }
@@ -46,6 +48,7 @@ pub fn words_of(f: &Frame) -> usize
 }
 
 // Has a row of so many words room for a frame? No frame has more than 268: what it depends on is counted only for a shorter row.
+#[tactic(auto, using(crate::proofs::Turns::frame_most))]
 fn has_room(f: &Frame, room: usize) -> bool
     requires { f.now.offices ≤ 8 }
     ensures { result ≡ nat_le (length (frame_words f.now)) room }

@@ -24,19 +24,19 @@ use Rattle.host.specs.declared.answer.SessionAnswer.{SessionAnswer}
 use Rattle.host.specs.declared.answer.SettingsAnswer.{SettingsAnswer}
 use Rattle.host.specs.declared.answer.WordsAnswer.{WordsAnswer}
 use Rattle.host.specs.declared.answer.WroteAnswer.{WroteAnswer}
-use Rattle.host.specs.declared.lent.PlotFound.{PlotFound}
+use Rattle.host.specs.declared.in_place.PlotFound.{PlotFound}
 use Rattle.host.proofs.frames.burial_check_frame as CheckFrame
 use Rattle.host.specs.contracts.frames.burial_check_frame as CheckFrameContract
 use Rattle.host.proofs.frames.burial_read_frame as ReadFrame
 use Rattle.host.specs.contracts.frames.burial_read_frame as ReadFrameContract
 use Rattle.host.proofs.frames.burial_write_frame as WriteFrame
 use Rattle.host.specs.contracts.frames.burial_write_frame as WriteFrameContract
-use Rattle.host.proofs.lent.burial_lent_read_joint as LentJoint
-use Rattle.host.specs.contracts.lent.burial_lent_read_joint as LentJointContract
-use Rattle.host.proofs.lent.burial_lent_read_plot as LentRead
-use Rattle.host.specs.contracts.lent.burial_lent_read_plot as LentReadContract
-use Rattle.host.proofs.lent.burial_lent_write as LentWrite
-use Rattle.host.specs.contracts.lent.burial_lent_write as LentWriteContract
+use Rattle.host.proofs.in_place.burial_lent_read_joint as LentJoint
+use Rattle.host.specs.contracts.in_place.burial_lent_read_joint as LentJointContract
+use Rattle.host.proofs.in_place.burial_lent_read_plot as LentRead
+use Rattle.host.specs.contracts.in_place.burial_lent_read_plot as LentReadContract
+use Rattle.host.proofs.in_place.burial_lent_write as LentWrite
+use Rattle.host.specs.contracts.in_place.burial_lent_write as LentWriteContract
 use Rattle.host.proofs.offices.burial_fresh_session as Fresh
 use Rattle.host.specs.contracts.offices.burial_fresh_session as FreshContract
 use Rattle.host.proofs.offices.burial_open_office as OpenOffice

@@ -70,8 +70,9 @@ impl From<Result<usize, Refusal>> for WordsAnswer {
 pub fn session_answer(answer: Result<Session, Refusal>, left: Session) -> SessionAnswer
     ensures { (result.refusal ≡ code_of answer) × (result.session ≡ result_unwrap_or answer left) }
 {
+    let refusal = code_of(&answer);
     SessionAnswer {
-        refusal: code_of(&answer),
+        refusal,
         session: answer.unwrap_or(left),
     }
 }

@@ -3,7 +3,7 @@
 
 pub mod answer;
 pub mod frames;
-pub mod lent;
+pub mod in_place;
 pub mod offices;
 pub mod sessions;
 pub mod tokens;

@@ -3,7 +3,7 @@
 #![tactic(auto)]
 
 pub mod frames;
-pub mod lent;
+pub mod in_place;
 pub mod offices;
 pub mod sessions;
 pub mod tokens;

@@ -8,19 +8,21 @@ use types.Logic.{Logic}
 use seplogic.Ra.Ura.{Ura}
 use prog.Memory.{Memory}
 use prog.Routine.{Routine}
+use Rattle.std.specs.Result.{Result, result_unwrap_or}
 use Rattle.frame.specs.Refusals.{code_of}
+use Rattle.frame.specs.Sessions.{fresh_content, session_of}
+use Rattle.frame.specs.declared.refusal.Refusal.{Refusal}
 use Rattle.frame.specs.declared.session.Session.{Session}
 use Rattle.joining.specs.Promises.{JoinPromise}
-use Rattle.joining.specs.declared.join.SessionsJoined.{SessionsJoined}
 use Rattle.joining.proofs.join.join_sessions as JoinSessions
 use Rattle.joining.specs.contracts.join.join_sessions as JoinSessionsContract
 
 module _ {M : Type 1} {𝓤 : Ura M} (𝓛 : Logic 𝓤) (mem : Memory → SProp 𝓤) (run : Routine → Fun 𝓤) where
   pub record JoiningContracts : Type 2 where
     pub join_sessions_met : JoinSessions.Statement.statement M
-    pub join_sessions_is : (n p : ℕ) (a b : Session) (r : SessionsJoined)
+    pub join_sessions_is : (n p : ℕ) (a b : Session) (r : Result Session Refusal)
         → (JoinSessionsContract.clauses 𝓛 mem run tt (n, (p, (a, (b, tt))))).ensures tt r (n, (p, (a, (b, tt))))
-        ≡ fact 𝓤 (JoinPromise n p a b (code_of r.status) r.session)
+        ≡ fact 𝓤 (JoinPromise n p a b (code_of r) (result_unwrap_or r (session_of (fresh_content 0))))
     pub join_sessions_asks : (n p : ℕ) (a b : Session) → (JoinSessionsContract.clauses 𝓛 mem run tt (n, (p, (a, (b, tt))))).requires tt ≡ emp 𝓤
 
   pub joining_contracts : JoiningContracts

@@ -1,19 +1,24 @@
--- A test of each entry of a list: by its members, as a loop asks it; entries of one name and one content. Assumes nothing.
-use Prim.Native.Nat.{ℕ, suc, zero, ◌<◌}
+-- A test of each entry of a list: by its members, place by place, as `all` asks it; entries of one name and one content. Assumes nothing.
+use Prim.Native.Nat.{ℕ, suc, zero, ◌<◌, ◌≤◌}
 use mathlib.Core.Bool.{Bool, false, true}
 use mathlib.Core.List.Memᴰ
 use mathlib.Core.List.{List, Memᴰ, [], ◌++◌, ◌∷◌}
 use mathlib.Core.Logic.{⊎_elim}
 use mathlib.Core.Path.{◌∙◌, ◌≡◌, ap, refl, sym}
+use native.Mathlib.Omega.{arith}
 use lib.Dec.{eqb}
+use lib.ListN.{drop, get_or, length, take}
 use borrow.Author.Tests.{eq-eqb, eqb-true}
-use Rattle.causal.specs.Lists.{tab}
+use Rattle.std.proofs.Common.{take_all}
+use Rattle.std.proofs.lemmas.List.{take-append-drop}
+use Rattle.std.specs.Bool.{MatchBool}
+use Rattle.std.specs.List.{AllWithin, HoldsAt}
 use Rattle.causal.specs.Sets.{is_in}
 use Rattle.causal.specs.Tests.{all_below, both}
 use Rattle.causal.proofs.Sets.{is_in_lem}
-use Rattle.causal.proofs.Tests.{both_assoc, both_intro, both_one, both_true, false_true, implies_elim, implies_intro, same_test}
+use Rattle.causal.proofs.Tests.{all_fails, all_front, all_intro, both_assoc, both_intro, both_true, false_true, implies_elim, implies_intro, same_test}
 use Rattle.frame.specs.Entries.{id_of, same_content}
-use Rattle.frame.specs.Sessions.{ids_of}
+use Rattle.frame.specs.Sessions.{ids_of, nobody}
 use Rattle.frame.specs.declared.entry.Entry.{Entry}
 use Rattle.frame.proofs.SameContent.{same_swap}
 use Rattle.frame.proofs.Sessions.{ids_new}
@@ -32,15 +37,37 @@ module _ (t : Entry → Bool) where
   each_by [] h = refl
   each_by (x ∷ es) h = both_intro _ _ (h x (Memᴰ.head refl)) (each_by es (λ e m. h e (Memᴰ.tail m)))
 
-  each_snoc : (es : List Entry) (e : Entry) → each t (es ++ (e ∷ [])) ≡ both (each t es) (t e)
+  each_append : (es fs : List Entry) → each t (es ++ fs) ≡ both (each t es) (each t fs)
   unfolding each both
-  each_snoc [] e = both_one (t e)
-  each_snoc (x ∷ es) e = ap (both (t x)) (each_snoc es e) ∙ sym (both_assoc (t x) (each t es) (t e))
+  each_append [] fs = refl
+  each_append (e ∷ es) fs = ap (both (t e)) (each_append es fs) ∙ sym (both_assoc (t e) (each t es) (each t fs))
 
-  pub each_below : (f : ℕ → Entry) (m : ℕ) → each t (tab m f) ≡ all_below m (λ i. t (f i))
-  unfolding each tab all_below
-  each_below f zero = refl
-  each_below f (suc m) = each_snoc (tab m f) (f m) ∙ ap (λ (b : Bool). both b (t (f m))) (each_below f m)
+  -- of those behind the first k, where those pass
+  pub each_behind : (k : ℕ) (es : List Entry) → each t (take k es) ≡ true → each t (drop k es) ≡ each t es
+  unfolding both
+  each_behind k es h = sym (ap (each t) (sym (take-append-drop k es)) ∙ each_append (take k es) (drop k es) ∙ rw h)
+
+  -- of the first k, place by place
+  pub each_take : (es : List Entry) (k : ℕ) → k ≤ length es → each t (take k es) ≡ all_below k (λ j. t (get_or es j nobody))
+  unfolding each all_below
+  each_take es zero h = refl
+  each_take [] (suc k) h = absurd (omega arith)
+  each_take (e ∷ es) (suc k) h = ap (both (t e)) (each_take es k (omega arith)) ∙ sym (all_front (λ j. t (get_or (e ∷ es) j nobody)) k)
+
+  whole : (es : List Entry) → each t es ≡ all_below (length es) (λ j. t (get_or es j nobody))
+  whole es = ap (each t) (sym (take_all (length es) es (omega arith))) ∙ each_take es (length es) (omega arith)
+
+  -- what `all` answers
+  pub each_all : (es : List Entry) (r : Bool)
+      → MatchBool r (AllWithin (λ e. t e ≡ true) es 0 (length es)) ((k : ℕ) × (k < length es) × HoldsAt (λ e. t e ≡ false) es k) → r ≡ each t es
+  each_all es true h = sym (whole es ∙ all_intro (λ j. t (get_or es j nobody)) (length es) (λ j l. h j nobody (omega arith) l))
+  each_all es false h = sym (whole es ∙ all_fails (λ j. t (get_or es j nobody)) (length es) h.0 h.1 (h.2 nobody))
+
+-- what stands at a place is in the list
+pub at_in : (es : List Entry) (j : ℕ) → j < length es → Memᴰ (get_or es j nobody) es
+at_in [] j h = absurd (omega arith)
+at_in (e ∷ es) zero h = Memᴰ.head refl
+at_in (e ∷ es) (suc j) h = Memᴰ.tail (at_in es j (omega arith))
 
 -- ---- of one name, so of one content
 

@@ -1,9 +1,8 @@
 // Has one name two contents?
-ghost use Rattle.std.specs.Prelude.{true, ◌≡◌, ◌<◌, ◌≤◌, eqb, get_or, length};
+ghost use Rattle.std.specs.Prelude.{true, ◌≡◌, ◌<◌, ◌≤◌, eqb, get_or, length, take};
 ghost use mathlib.Core.List.{Memᴰ};
 ghost use Rattle.causal.specs.Sets.{is_in};
 ghost use Rattle.causal.specs.Tests.{all_below, both};
-ghost use Rattle.causal.specs.Lists.{part};
 ghost use Rattle.frame.specs.Entries.{id_of, same_content};
 ghost use Rattle.frame.specs.Sessions.{ids_of, nobody};
 ghost use Rattle.frame.specs.declared.entry.Entry.{Entry};
@@ -12,6 +11,7 @@ ghost use Rattle.joining.specs.Joins.{alike as alikeOf, all_alike, each};
 use frame::entry::{Entry, id_of, same_content};
 
 // Have two entries of one name one content?
+#[tactic(auto, unfolding(crate::specs::Joins::alike, causal::specs::Tests::implies), using(std::proofs::lemmas::Bool::Decides::nat_tests))]
 fn alike(e: &Entry, f: &Entry) -> bool
     ensures { result ≡ alikeOf e.now f.now }
 {
@@ -19,6 +19,7 @@ fn alike(e: &Entry, f: &Entry) -> bool
 }
 
 // Have two entries one name and one content?
+#[tactic(auto, unfolding(causal::specs::Tests::both), using(std::proofs::lemmas::Bool::Decides::nat_tests))]
 fn same_entry(e: &Entry, f: &Entry) -> bool
     ensures { result ≡ both (eqb (id_of e.now) (id_of f.now)) (same_content e.now f.now) }
 {
@@ -56,7 +57,7 @@ fn alike_each(e: &Entry, ids: [u32; 8], own: &[Entry]) -> bool
 
 // Has each name that both carry one content? `ids` are those of the first; the front of the second is known to be alike.
 pub fn all_alike(second: &[Entry], front: usize, ids: [u32; 8], first: &[Entry]) -> bool
-    requires { (front ≤ length second.now) × ((f : Entry) → Memᴰ f first.now → id_of f < 256) × (ids ≡ ids_of first.now) × (all_alike (part second.now 0 front) first.now ≡ true) }
+    requires { (front ≤ length second.now) × ((f : Entry) → Memᴰ f first.now → id_of f < 256) × (ids ≡ ids_of first.now) × (all_alike (take front second.now) first.now ≡ true) }
     ensures { result ≡ all_alike second.now first.now }
 {
     second[front..].iter().all(|e| alike_each(e, ids, first))

@@ -1,8 +1,7 @@
 // The join of two sessions (02: of two errands).
-ghost use Rattle.std.specs.Prelude.{true, [], ◌++◌, ◌≡◌, ◌+◌, ◌≤◌, length};
+ghost use Rattle.std.specs.Prelude.{true, [], ◌++◌, ◌≡◌, ◌+◌, ◌≤◌, length, take};
 ghost use Rattle.std.specs.Result.{result_unwrap_or};
 ghost use Rattle.causal.specs.Clocks.{join};
-ghost use Rattle.causal.specs.Lists.{part};
 ghost use Rattle.causal.specs.Sets.{is_in, unite};
 ghost use Rattle.frame.specs.Entries.{id_of};
 ghost use Rattle.frame.specs.Frames.{ring_ok};
@@ -34,7 +33,7 @@ fn with_blanks(own: &[Entry]) -> [Entry; 16]
 // The first's own writes, then those of the second whose ids are not in the set, and blanks behind them; and how many they are. Of more than 16 the row
 // says nothing. The ids of the first `front` are all in the set.
 fn both_own(first: &[Entry], ids: [u32; 8], second: &[Entry], front: usize) -> OwnOfBoth
-    requires { (length first.now ≤ 16) × (front ≤ length second.now) × (length second.now ≤ 16) × (leave_out (λ e. is_in ids (id_of e)) (part second.now 0 front) ≡ []) }
+    requires { (length first.now ≤ 16) × (front ≤ length second.now) × (length second.now ≤ 16) × (leave_out (λ e. is_in ids (id_of e)) (take front second.now) ≡ []) }
     ensures { (result.count ≡ length first.now + length (leave_out (λ e. is_in ids (id_of e)) second.now)) × (result.count ≤ 16 → result.own ≡ filled (first.now ++ leave_out (λ e. is_in ids (id_of e)) second.now)) }
 {
     let mut own = with_blanks(first);

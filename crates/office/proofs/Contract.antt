@@ -1,6 +1,7 @@
 -- The code of each call meets its contract (`_met`), which is its promise in specs/Promises.antt (`_is`) and asks for nothing (`_asks`): a
 -- changed `ensures` or an added `requires` breaks this file. Assumes nothing.
 use Rattle.std.proofs.Common.{Result}
+use Rattle.std.specs.Result.{result_unwrap_or}
 use Prim.Native.Nat.{ℕ}
 use mathlib.Core.Path.{◌≡◌, refl}
 use base.Logic.{SProp, emp}
@@ -11,10 +12,11 @@ use prog.Memory.{Memory}
 use prog.Routine.{Routine}
 use Rattle.frame.specs.declared.refusal.Refusal.{Refusal}
 use Rattle.frame.specs.Refusals.{code_of, reply_of}
-use Rattle.frame.specs.declared.refusal.Status.{Status}
+use Rattle.frame.specs.Sessions.{fresh_content, session_of}
+use Rattle.frame.specs.declared.session.Session.{Session}
 use Rattle.frame.proofs.Contract.{MutRow, One, Row}
 use Rattle.office.specs.Promises.{FreshPromise, NeedPromise, OpenPromise, SettingsPromise}
-use Rattle.office.specs.declared.open.Fresh.{Fresh}
+use Rattle.office.specs.Answers.{no_settings}
 use Rattle.office.specs.declared.settings.Settings.{Settings}
 use Rattle.office.proofs.need.store_need as StoreNeed
 use Rattle.office.specs.contracts.need.store_need as StoreNeedContract
@@ -33,19 +35,19 @@ module _ {M : Type 1} {𝓤 : Ura M} (𝓛 : Logic 𝓤) (mem : Memory → SProp
         ≡ fact 𝓤 (NeedPromise n o p (reply_of r))
     pub need_asks : (n o p : ℕ) → (StoreNeedContract.clauses 𝓛 mem run tt (n, (o, (p, tt)))).requires tt ≡ emp 𝓤
     pub open_met : OpenOffice.Statement.statement M
-    pub open_is : (κs : One) (n o p : ℕ) (ws : MutRow) (r : Status) (ws' : MutRow)
+    pub open_is : (κs : One) (n o p : ℕ) (ws : MutRow) (r : Result (Unit {0}) Refusal) (ws' : MutRow)
         → (OpenOfficeContract.clauses 𝓛 mem run κs (n, (o, (p, (ws, tt))))).ensures tt r (n, (o, (p, (ws', tt))))
         ≡ fact 𝓤 (OpenPromise n o p ws.now (code_of r) ws'.now)
     pub open_asks : (κs : One) (n o p : ℕ) (ws : MutRow) → (OpenOfficeContract.clauses 𝓛 mem run κs (n, (o, (p, (ws, tt))))).requires tt ≡ emp 𝓤
     pub fresh_met : FreshSession.Statement.statement M
-    pub fresh_is : (n : ℕ) (r : Fresh)
+    pub fresh_is : (n : ℕ) (r : Result Session Refusal)
         → (FreshSessionContract.clauses 𝓛 mem run tt (n, tt)).ensures tt r (n, tt)
-        ≡ fact 𝓤 (FreshPromise n (code_of r.status) r.session)
+        ≡ fact 𝓤 (FreshPromise n (code_of r) (result_unwrap_or r (session_of (fresh_content 0))))
     pub fresh_asks : (n : ℕ) → (FreshSessionContract.clauses 𝓛 mem run tt (n, tt)).requires tt ≡ emp 𝓤
     pub settings_met : StoreSettings.Statement.statement M
-    pub settings_is : (κs : One) (ws : Row) (r : Settings) (ws' : Row)
+    pub settings_is : (κs : One) (ws : Row) (r : Result Settings Refusal) (ws' : Row)
         → (StoreSettingsContract.clauses 𝓛 mem run κs (ws, tt)).ensures tt r (ws', tt)
-        ≡ fact 𝓤 (SettingsPromise ws.now (code_of r.status) r.offices r.own r.plots)
+        ≡ fact 𝓤 (SettingsPromise ws.now (code_of r) (result_unwrap_or r no_settings).offices (result_unwrap_or r no_settings).own (result_unwrap_or r no_settings).plots)
     pub settings_asks : (κs : One) (ws : Row) → (StoreSettingsContract.clauses 𝓛 mem run κs (ws, tt)).requires tt ≡ emp 𝓤
 
   pub office_contracts : OfficeContracts

@@ -18,43 +18,9 @@ use Rattle.store.specs.Slots.{hold_words}
 use Rattle.store.proofs.Keep.{Sound}
 use Rattle.store.proofs.Changes.{hold_words_lem}
 use Rattle.office.specs.Calls.{missing, hold_all}
-use Rattle.office.specs.Steps.{own_at, own_to, hold_if, holds_in}
+use Rattle.office.specs.Steps.{hold_if, holds_in}
 use Rattle.office.proofs.KeepCalls.{Known}
 use Rattle.office.proofs.Along.{Along, along_held, along_takes, along_new}
-
--- ---- the turns of the loop
-
-pub hold_yes : (held ws : List ℕ) (e : Entry) (r : Bool) (k : ℕ) → k ≡ id_of e → r ≡ is_in held k → r ≡ true → ws ≡ hold_if (is_in held (id_of e)) ws e
-hold_yes held ws e r k p q t = ap (λ (b : Bool). hold_if b ws e) (sym t ∙ q ∙ ap (is_in held) p)
-
-pub hold_no : (held ws z : List ℕ) (e : Entry) (r : Bool) (k : ℕ) → k ≡ id_of e → r ≡ is_in held k → r ≡ false → z ≡ hold_words ws e
-    → z ≡ hold_if (is_in held (id_of e)) ws e
-hold_no held ws z e r k p q t h = h ∙ ap (λ (b : Bool). hold_if b ws e) (sym t ∙ q ∙ ap (is_in held) p)
-
-holds_snoc : (held : List ℕ) (es : List Entry) (e : Entry) (ws : List ℕ)
-    → holds_in held ws (es ++ (e ∷ [])) ≡ hold_if (is_in held (id_of e)) (holds_in held ws es) e
-unfolding holds_in
-holds_snoc held [] e ws = refl
-holds_snoc held (x ∷ es) e ws = holds_snoc held es e (hold_if (is_in held (id_of x)) ws x)
-
-pub holds_start : (held : List ℕ) (own : List Entry) (ws : List ℕ) → ws ≡ holds_in held ws (own_to own 0)
-unfolding holds_in tab
-holds_start held own ws = refl
-
-pub holds_more : (held : List ℕ) (own : List Entry) (ws o z : List ℕ) (i : ℕ) → o ≡ holds_in held ws (own_to own i)
-    → z ≡ hold_if (is_in held (id_of (own_at own i))) o (own_at own i) → z ≡ holds_in held ws (own_to own (i + 1))
-holds_more held own ws o z i h e =
-    e ∙ ap (λ (l : List ℕ). hold_if (is_in held (id_of (own_at own i))) l (own_at own i)) h
-    ∙ sym (ap (holds_in held ws) (tab_more i (own_at own)) ∙ holds_snoc held (own_to own i) (own_at own i) ws)
-
--- none of them is new
-pub holds_none : (held ws : List ℕ) (own : List Entry) (k : ℕ) → ((i : ℕ) → i < k → is_in held (id_of (own_at own i)) ≡ true) → ws ≡ holds_in held ws (own_to own k)
-holds_none held ws own zero h = holds_start held own ws
-holds_none held ws own (suc k) h =
-    let e : suc k ≡ k + 1 = omega arith in
-    rw e
-    (holds_more held own ws ws ws k (holds_none held ws own k (λ i l. h i (omega arith)))
-    (ap (λ (b : Bool). hold_if b ws (own_at own k)) (sym (h k (omega arith)))))
 
 -- ---- own writes, on words and on contents
 

@@ -9,10 +9,9 @@ pub mod KeepWrite
 pub mod KeepSession
 pub mod KeptSession
 pub mod Kept
-pub mod Numbers
+pub mod Exits
+pub mod Notes
 pub mod OwnCodes
-pub mod Alone
-pub mod Starts
 pub mod Shape
 pub mod Slots
 pub mod Holds

@@ -5,6 +5,7 @@ use Rattle.causal.specs.Sets.{inserted}
 use Rattle.causal.specs.Clocks.{join}
 use Rattle.frame.specs.declared.refusal.Refusal.{Refusal}
 use Rattle.frame.specs.declared.entry.Entry.{Entry}
+use Rattle.frame.specs.declared.refusal.Refusal.{Refusal}
 use Rattle.frame.specs.declared.session.Session.{Session}
 use Rattle.frame.specs.Entries.{id_of, blank_entry}
 use Rattle.frame.specs.Sessions.{Content, content_of, fresh_content}

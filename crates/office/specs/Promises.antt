@@ -7,6 +7,7 @@ use Rattle.frame.specs.declared.refusal.Refusal.{Refusal}
 use Rattle.frame.specs.Refusals.{Reply, reply_of}
 use Rattle.frame.specs.Sessions.{content_of, session_of}
 use Rattle.frame.specs.declared.entry.Entry.{Entry}
+use Rattle.frame.specs.declared.refusal.Refusal.{Refusal}
 use Rattle.frame.specs.declared.session.Session.{Session}
 use Rattle.store.specs.Offices.{office_of}
 use Rattle.office.specs.Answers.{any_found, entry_found, fresh_by, made_by, read_joint_session, read_plot_session, with_made, write_session}

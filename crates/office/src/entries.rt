@@ -12,6 +12,7 @@ use frame::entry::{Entry, id_of};
 use frame::refusal::Refusal;
 
 // 10: it names this office and was not made here; 11: it is held with other content.
+#[tactic(auto, unfolding(crate::specs::Calls::entry_code, store::specs::Offices::office_of, causal::specs::Codes::check, causal::specs::Tests::implies, frame::specs::Refusals::code_of, frame::specs::Refusals::number_of))]
 pub fn comes_in(store: &[u32], held: [u32; 8], e: &Entry) -> Result<(), Refusal>
     requires { (held ≡ part store.now 3 8) × (slot_at (id_of e.now) + 18 ≤ length store.now) }
     ensures { code_of result ≡ entry_code (office_of store.now) e.now }

@@ -13,6 +13,7 @@ pub struct Seen {
 }
 
 // The clock joins that of the entry, which is read.
+#[tactic(auto, unfolding(store::specs::Current::found_at, crate::specs::Decide::noted_seen), using(crate::proofs::Notes::slot_id))]
 pub fn note(store: &[u32], place: Option<usize>, seen: Seen) -> Seen
     requires { InSlots (length store.now) place }
     ensures { result ≡ noted_seen (found_at store.now place) seen }
@@ -27,6 +28,7 @@ pub fn note(store: &[u32], place: Option<usize>, seen: Seen) -> Seen
 }
 
 // The session has seen this.
+#[tactic(auto, unfolding(crate::specs::Decide::with_seen))]
 pub fn set_seen(s: &mut Session, seen: Seen)
     ensures { s.new ≡ with_seen s.old seen }
 {

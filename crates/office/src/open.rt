@@ -23,6 +23,7 @@ pub fn open_office(offices: u32, own: u32, plots: u32, store: &mut [u32]) -> Res
 }
 
 // 01: a fresh errand.
+#[tactic(auto, unfolding(crate::specs::Calls::fresh_code, crate::specs::Answers::fresh_by, causal::specs::Codes::check, causal::specs::Tests::both, frame::specs::Refusals::code_of, frame::specs::Refusals::number_of, frame::specs::Sessions::session_of))]
 pub fn fresh_session(offices: u32) -> Result<Session, Refusal>
     ensures { FreshPromise offices (code_of result) (result_unwrap_or result (session_of (fresh_content 0))) }
 {

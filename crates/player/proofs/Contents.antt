@@ -1,6 +1,7 @@
 -- The sessions that accepted calls leave, as structs and as contents. Assumes nothing.
-use Rattle.std.proofs.Common.{None, Some}
-use Prim.Native.Nat.{ℕ, suc, zero, ◌+◌, ◌-◌, ◌<◌}
+use Rattle.std.specs.Prelude.{None, Option, Some, is_some}
+use Rattle.std.specs.Option.{unwrap_or}
+use Prim.Native.Nat.{ℕ, suc, zero, ◌+◌, ◌<◌}
 use mathlib.Core.List.{List, [], ◌++◌, ◌∷◌}
 use mathlib.Core.Path.{◌∙◌, ◌≡◌, ap, refl, sym}
 use native.Mathlib.Omega.{arith}
@@ -9,6 +10,7 @@ use lib.Seq.{get_or-set_other, get_or-set_same}
 use Rattle.causal.specs.Clocks.{join}
 use Rattle.causal.specs.Lists.{tab}
 use Rattle.causal.proofs.Lists.{tab_more}
+use Rattle.frame.specs.Entries.{blank_entry}
 use Rattle.frame.specs.Sessions.{Content, content_of, nobody}
 use Rattle.frame.specs.declared.entry.Entry.{Entry}
 use Rattle.frame.specs.declared.session.Session.{Session}
@@ -18,7 +20,7 @@ use Rattle.office.specs.Answers.{any_found, entry_found, extended_by, noted_in, 
 use Rattle.office.specs.Calls.{new_entry, read_plot, write, write_code, write_on, wrote_session}
 use Rattle.ring.proofs.WriteKeeps.{last_snoc}
 use Rattle.script.specs.declared.reply.Reply.{Reply}
-use Rattle.script.specs.declared.reply.Reply.TheVariants.{Wrote}
+use Rattle.script.specs.declared.reply.Reply.TheVariants.{Found as FoundEntry, Wrote}
 use Rattle.player.specs.Play.{read_reply, wrote_reply}
 use Rattle.player.specs.Steps.{entry_reply}
 use Rattle.player.proofs.Accepted.{no_refusal}
@@ -82,8 +84,11 @@ module _ (ws : List ℕ) (s : Session) (size : length s.own ≡ 16) where
   unfolding read_plot_session session_if
   read_size plot z = rw z (noted_size s (current (reveal (office_of ws) s.read) plot) ∙ size)
 
-pub found_is : (fs : List Found) → entry_reply (any_found fs) (entry_found fs) ≡ read_reply fs
+pub found_is : (o : Option Entry) (fs : List Found) → is_some o ≡ any_found fs → unwrap_or o blank_entry ≡ entry_found fs → entry_reply o ≡ read_reply fs
 unfolding any_found entry_found read_reply
-found_is [] = refl
-found_is (None ∷ fs) = refl
-found_is (Some e ∷ fs) = refl
+found_is None [] p q = refl
+found_is None (None ∷ fs) p q = refl
+found_is None (Some e ∷ fs) p q = cc
+found_is (Some x) [] p q = cc
+found_is (Some x) (None ∷ fs) p q = cc
+found_is (Some x) (Some e ∷ fs) p q = ap (λ (y : Entry). FoundEntry y.value y.office y.serial) q

@@ -1,6 +1,6 @@
 -- From what a receiving answers to a line played. Assumes nothing.
-use Rattle.std.proofs.Common.{Err, Ok, Result}
-use Prim.Native.Nat.{ℕ, suc, zero, ◌*◌, ◌+◌, ◌-◌, ◌<◌, ◌≤◌}
+use Rattle.std.proofs.Common.{Err, Ok, Result as Answer}
+use Prim.Native.Nat.{ℕ, suc, ◌*◌, ◌+◌, ◌-◌, ◌<◌, ◌≤◌}
 use mathlib.Core.List.{List, ◌∷◌}
 use mathlib.Core.Path.{◌∙◌, ◌≡◌, ap, refl, subst, sym}
 use native.Mathlib.Omega.{arith}
@@ -19,13 +19,13 @@ use Rattle.office.specs.Promises.{ReceivePromise}
 use Rattle.office.proofs.Refused.{receive_words_refused}
 use Rattle.ring.specs.Run.{next_of}
 use Rattle.script.specs.declared.line.Line.TheVariants.{Receive}
-use Rattle.script.specs.declared.reply.Reply.TheVariants.{Full, Received, Refused}
-use Rattle.player.specs.declared.ahead.Ahead.{Ahead}
-use Rattle.player.specs.declared.ahead.Ahead.TheVariants.{Full as AheadFull, Goes, Refused as AheadRefused}
+use Rattle.script.specs.declared.reply.Reply.TheVariants.{Received, Refused}
+use Rattle.player.specs.declared.ahead.Stay.{Stay}
+use Rattle.player.specs.declared.ahead.Stay.TheVariants.{Full as StayFull, Refused as StayRefused}
 use Rattle.player.specs.Desks.{Cut, Desk, count_at, first_at, pushed, with_frames, without_oldest}
 use Rattle.player.specs.Play.{Scene}
 use Rattle.player.specs.Shows.{Shows}
-use Rattle.player.specs.Steps.{Foretells, Plays}
+use Rattle.player.specs.Steps.{Foretells, Plays, stay_reply}
 use Rattle.player.proofs.Accepted.{Receives, receives}
 use Rattle.player.proofs.PlayReceive.{receive_done, receive_full, receive_refused}
 use Rattle.player.proofs.PlayWrite.{Sends}
@@ -58,33 +58,31 @@ module _ (g : Scene) (d : Desk) (stores lines : List ℕ) (S : Shows g d stores 
   sends z = let F = facts z in record { sent = F.sent; left = F.left; fit = F.fit; offices = F.offices; plots = F.plots }
 
   -- what was said ahead of the call
-  module _ (r : Ahead) (A : Foretells R.code (length fs) (get_or d.count next 0) r) where
-    told : (q : Ahead) → r ≡ q → Foretells R.code (length fs) (count_at d (next_of 3 o)) q
-    told q h = subst (λ (x : ℕ × Ahead). Foretells R.code (length fs) (get_or d.count x.0 0) x.1) (λ i. (e i, h i)) A
+  module _ (r : Answer Unit Stay) (A : Foretells R.code (length fs) (get_or d.count next 0) r) where
+    told : (q : Answer Unit Stay) → r ≡ q → Foretells R.code (length fs) (count_at d (next_of 3 o)) q
+    told q h = subst (λ (x : ℕ × Answer Unit Stay). Foretells R.code (length fs) (get_or d.count x.0 0) x.1) (λ i. (e i, h i)) A
 
-    pub ahead_full : r ≡ AheadFull → Plays row g (Receive o) (record { desk = d; reply = Full }) stores lines
-    ahead_full h = let t = told AheadFull h in receive_full g d stores lines S o ol row f rest are t.0 fs (sends t.0) t.1
+    pub ahead_stays : (x : Stay) → r ≡ Err x → Plays row g (Receive o) (record { desk = d; reply = stay_reply x }) stores lines
+    ahead_stays StayFull h = let t = told (Err StayFull) h in receive_full g d stores lines S o ol row f rest are t.0 fs (sends t.0) t.1
+    ahead_stays (StayRefused x) h =
+        refused_as (λ n. Plays row g (Receive o) (record { desk = d; reply = Refused n }) stores lines) R.code (receive_refused g d stores lines S o ol row f rest are) (number_of x) x refl (told (Err (StayRefused x)) h)
 
-    pub ahead_refused : (k : ℕ) → r ≡ AheadRefused k → Plays row g (Receive o) (record { desk = d; reply = Refused k }) stores lines
-    ahead_refused zero h = absurd ((told (AheadRefused 0) h).1 refl)
-    ahead_refused (suc c) h = receive_refused g d stores lines S o ol row f rest are c (told (AheadRefused (suc c)) h).0
+    pub ahead_goes : (x : Unit) → r ≡ Ok x → R.code ≡ 0 → get_or d.count next 0 + length fs ≤ 32
+    ahead_goes x h z = rw e (told (Ok x) h z)
 
-    pub ahead_goes : r ≡ Goes → R.code ≡ 0 → get_or d.count next 0 + length fs ≤ 32
-    ahead_goes h z = rw e (told Goes h z)
-
-  module _ (r : Result ℕ Refusal) (stores' row' : List ℕ) (A : ReceivePromise ws f row (reply_of r) (part stores' (1747 * o) 1747) row')
+  module _ (r : Answer ℕ Refusal) (stores' row' : List ℕ) (A : ReceivePromise ws f row (reply_of r) (part stores' (1747 * o) 1747) row')
       (left : stores' ≡ sets stores (1747 * o) (part stores' (1747 * o) 1747)) where
     left_is : stores' ≡ sets stores (1747 * o) R.store
     left_is = left ∙ ap (sets stores (1747 * o)) A.1
 
-    pub line_refused : (x : Refusal) (k : ℕ) → r ≡ Err x → k ≡ number_of x → Plays row g (Receive o) (record { desk = d; reply = Refused k }) stores' lines
-    line_refused x k w h =
+    pub line_refused : (x : Refusal) → r ≡ Err x → Plays row g (Receive o) (record { desk = d; reply = Refused (number_of x) }) stores' lines
+    line_refused x w =
         refused_as (λ n. Plays row g (Receive o) (record { desk = d; reply = Refused n }) stores' lines) R.code
         (λ c q.
         subst (λ (l : List ℕ). Plays row g (Receive o) (record { desk = d; reply = Refused (suc c) }) l lines)
         (sym (left_is ∙ ap (sets stores (1747 * o)) (receive_words_refused ws f row (λ (z : R.code ≡ 0). omega arith)).store ∙ store_same stores (1747 * o) 1747 (omega (arith, S.long_stores))))
         (receive_refused g d stores lines S o ol row f rest are c q))
-        k x h (not_written r x _ A.0 w)
+        (number_of x) x refl (not_written r x _ A.0 w)
 
     module _ (words : ℕ) (w : r ≡ Ok words) where
       pub code : R.code ≡ 0

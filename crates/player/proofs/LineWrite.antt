@@ -1,7 +1,6 @@
 -- From what a write answers to a line played. Assumes nothing.
-use Rattle.std.proofs.Common.{Err, Ok, Result}
-use Prim.Native.Nat.{ℕ, suc, zero, ◌*◌, ◌+◌, ◌<◌, ◌≤◌}
-use mathlib.Core.Bool.{cond, false, true}
+use Rattle.std.proofs.Common.{Err, Ok, Result as Answer}
+use Prim.Native.Nat.{ℕ, suc, ◌*◌, ◌+◌, ◌<◌, ◌≤◌}
 use mathlib.Core.List.{List}
 use mathlib.Core.Path.{◌∙◌, ◌≡◌, ap, refl, subst, sym}
 use native.Mathlib.Omega.{arith}
@@ -9,8 +8,8 @@ use lib.ListN.{drop, get_or, length, set}
 use lib.Seq.{length-sets, set-get_or, sets}
 use Rattle.causal.specs.Lists.{part}
 use Rattle.causal.proofs.Lists.{part_length}
-use Rattle.causal.proofs.Tests.{false_true}
 use Rattle.frame.specs.Calls.{laid}
+use Rattle.frame.specs.Entries.{blank_entry}
 use Rattle.frame.specs.Refusals.{number_of}
 use Rattle.frame.specs.Sessions.{content_of}
 use Rattle.frame.specs.Tokens.{rows_of}
@@ -28,15 +27,16 @@ use Rattle.ring.specs.Run.{next_of}
 use Rattle.script.specs.declared.line.Line.{Line}
 use Rattle.script.specs.declared.line.Line.TheVariants.{Write}
 use Rattle.script.specs.declared.reply.Reply.{Reply}
-use Rattle.script.specs.declared.reply.Reply.TheVariants.{Full, Refused}
-use Rattle.player.specs.declared.ahead.Ahead.{Ahead}
-use Rattle.player.specs.declared.ahead.Ahead.TheVariants.{Full as AheadFull, Goes, Refused as AheadRefused}
+use Rattle.script.specs.declared.reply.Reply.TheVariants.{Refused}
+use Rattle.writing.specs.declared.write.Made.{Made}
+use Rattle.writing.specs.Answers.{entry_by, words_by}
+use Rattle.player.specs.declared.ahead.Stay.{Stay}
+use Rattle.player.specs.declared.ahead.Stay.TheVariants.{Full as StayFull, Refused as StayRefused}
 use Rattle.player.specs.declared.board.Board.{Board}
-use Rattle.player.specs.declared.board.WriteTurn.{WriteTurn}
 use Rattle.player.specs.Desks.{Cut, Desk, count_at, desk, first_at, no_session, place_at, pushed, session_at, with_frames, with_session}
 use Rattle.player.specs.Play.{Scene, wrote_reply}
 use Rattle.player.specs.Shows.{Shows}
-use Rattle.player.specs.Steps.{Foretells, Plays}
+use Rattle.player.specs.Steps.{Foretells, Plays, stay_reply}
 use Rattle.player.proofs.Accepted.{Writes, writes}
 use Rattle.player.proofs.Contents.{wrote_name, write_reply, write_session, write_size}
 use Rattle.player.proofs.PlayWrite.{Sends, write_done, write_full, write_refused}
@@ -48,16 +48,20 @@ use Rattle.player.proofs.Scenes.{store_same}
 pub same_desk : (ss : List Session) (i : ℕ) (s : Session) (b : Board) → get_or ss i no_session ≡ s → desk ss b ≡ desk (set ss i s) b
 same_desk ss i s b e = ap (λ (l : List Session). desk l b) (sym (set-get_or ss i no_session)) ∙ ap (λ (x : Session). desk (set ss i x) b) e
 
--- a turn that was not done
-pub undone : (row : List ℕ) (g : Scene) (line : Line) (ss : List Session) (i : ℕ) (s : Session) (b : Board) (r : WriteTurn) (reply : Reply) (stores lines : List ℕ)
-    → get_or ss i no_session ≡ s → (r.board ≡ b) × (r.done ≡ false) × (r.reply ≡ reply) → Plays row g line (record { desk = desk ss b; reply = reply }) stores lines
-    → Plays row g line (record { desk = desk (set ss i (cond r.done (extended_by s r.entry) s)) r.board; reply = r.reply }) stores lines
-undone row g line ss i s b r reply stores lines q e P =
-    subst (λ (x : Desk × Reply). Plays row g line (record { desk = x.0; reply = x.1 }) stores lines)
-    (λ j. ((same_desk ss i s b q ∙ (λ j. desk (set ss i (cond (sym e.1 j) (extended_by s r.entry) s)) (sym e.0 j))) j, sym e.2 j)) P
+-- where all stays
+pub stays : (row : List ℕ) (g : Scene) (line : Line) (ss : List Session) (i : ℕ) (s : Session) (b : Board) (reply : Reply) (stores lines : List ℕ)
+    → get_or ss i no_session ≡ s → Plays row g line (record { desk = desk ss b; reply = reply }) stores lines
+    → Plays row g line (record { desk = desk (set ss i s) b; reply = reply }) stores lines
+stays row g line ss i s b reply stores lines q P = subst (λ (x : Desk). Plays row g line (record { desk = x; reply = reply }) stores lines) (same_desk ss i s b q) P
 
-pub not_more : (r : WriteTurn) (s : Session) → r.done ≡ false → r.done ≡ true → s.count < 16
-not_more r s e h = absurd (false_true {A = ⊥} (sym e ∙ h))
+-- what a promise says of each answer of a write
+pub made_done : (P : Answer ℕ Refusal → Entry → Type 0) (r : Answer Made Refusal) (m : Made) → r ≡ Ok m → P (words_by r) (entry_by r) → P (Ok m.words) m.entry
+unfolding words_by entry_by
+made_done P r m e p = subst (λ (x : Answer Made Refusal). P (words_by x) (entry_by x)) e p
+
+pub made_refused : (P : Answer ℕ Refusal → Entry → Type 0) (r : Answer Made Refusal) (x : Refusal) → r ≡ Err x → P (words_by r) (entry_by r) → P (Err x) blank_entry
+unfolding words_by entry_by
+made_refused P r x e p = subst (λ (y : Answer Made Refusal). P (words_by y) (entry_by y)) e p
 
 module _ (g : Scene) (d : Desk) (stores lines : List ℕ) (S : Shows g d stores lines) (i : ℕ) (il : i < 4) (s : Session) (own : session_at d i ≡ s) (plot value : ℕ) (row : List ℕ) (next : ℕ) (e : next ≡ next_of 3 (place_at d i)) where
   abbrev ws : List ℕ
@@ -94,42 +98,43 @@ module _ (g : Scene) (d : Desk) (stores lines : List ℕ) (S : Shows g d stores 
   refused c h = write_refused g d stores lines S i il plot value row c (ap (λ (Q : Result (List ℕ) (List ℕ)). Q.code) same ∙ h)
 
   -- what was said ahead of the call
-  module _ (r : Ahead) (A : Foretells R.code (length fs) (get_or d.count next 0) r) where
-    told : (q : Ahead) → r ≡ q → Foretells R.code (length fs) (count_at d (next_of 3 (place_at d i))) q
-    told q h = subst (λ (x : ℕ × Ahead). Foretells R.code (length fs) (get_or d.count x.0 0) x.1) (λ i. (e i, h i)) A
+  module _ (r : Answer Unit Stay) (A : Foretells R.code (length fs) (get_or d.count next 0) r) where
+    told : (q : Answer Unit Stay) → r ≡ q → Foretells R.code (length fs) (count_at d (next_of 3 (place_at d i))) q
+    told q h = subst (λ (x : ℕ × Answer Unit Stay). Foretells R.code (length fs) (get_or d.count x.0 0) x.1) (λ i. (e i, h i)) A
 
-    pub ahead_full : r ≡ AheadFull → Plays row g (Write i plot value) (record { desk = d; reply = Full }) stores lines
-    ahead_full h =
-        let t = told AheadFull h in
+    pub ahead_stays : (x : Stay) → r ≡ Err x → Plays row g (Write i plot value) (record { desk = d; reply = stay_reply x }) stores lines
+    ahead_stays StayFull h =
+        let t = told (Err StayFull) h in
         write_full g d stores lines S i il plot value row (ap (λ (Q : Result (List ℕ) (List ℕ)). Q.code) same ∙ t.0) fs (sends t.0) t.1
+    ahead_stays (StayRefused x) h =
+        refused_as (λ n. Plays row g (Write i plot value) (record { desk = d; reply = Refused n }) stores lines) R.code refused (number_of x) x refl (told (Err (StayRefused x)) h)
 
-    pub ahead_refused : (k : ℕ) → r ≡ AheadRefused k → Plays row g (Write i plot value) (record { desk = d; reply = Refused k }) stores lines
-    ahead_refused zero h = absurd ((told (AheadRefused 0) h).1 refl)
-    ahead_refused (suc c) h = refused c (told (AheadRefused (suc c)) h).0
+    pub ahead_goes : (x : Unit) → r ≡ Ok x → R.code ≡ 0 → get_or d.count next 0 + length fs ≤ 32
+    ahead_goes x h z = rw e (told (Ok x) h z)
 
-    pub ahead_goes : r ≡ Goes → R.code ≡ 0 → get_or d.count next 0 + length fs ≤ 32
-    ahead_goes h z = rw e (told Goes h z)
+  module _ (stores' row' : List ℕ) (left : stores' ≡ sets stores (1747 * place_at d i) (part stores' (1747 * place_at d i) 1747)) where
+    abbrev pub Promised : Answer ℕ Refusal → Entry → Type 0
+    Promised written entry = MakePromise ws s plot value row written entry (part stores' (1747 * place_at d i) 1747) row'
 
-  module _ (written : Result ℕ Refusal) (entry : Entry) (stores' row' : List ℕ) (A : MakePromise ws s plot value row written entry (part stores' (1747 * place_at d i) 1747) row')
-      (left : stores' ≡ sets stores (1747 * place_at d i) (part stores' (1747 * place_at d i) 1747)) where
-    left_is : stores' ≡ sets stores (1747 * place_at d i) R.store
-    left_is = left ∙ ap (sets stores (1747 * place_at d i)) A.0.2
+    module _ (written : Answer ℕ Refusal) (entry : Entry) (A : Promised written entry) where
+      left_is : stores' ≡ sets stores (1747 * place_at d i) R.store
+      left_is = left ∙ ap (sets stores (1747 * place_at d i)) A.0.2
 
-    pub line_refused : (x : Refusal) (k : ℕ) → written ≡ Err x → k ≡ number_of x → Plays row g (Write i plot value) (record { desk = d; reply = Refused k }) stores' lines
-    line_refused x k w h =
+    pub line_refused : (x : Refusal) (entry : Entry) → Promised (Err x) entry → Plays row g (Write i plot value) (record { desk = d; reply = Refused (number_of x) }) stores' lines
+    line_refused x entry A =
         refused_as (λ n. Plays row g (Write i plot value) (record { desk = d; reply = Refused n }) stores' lines) R.code
         (λ c q.
         subst (λ (l : List ℕ). Plays row g (Write i plot value) (record { desk = d; reply = Refused (suc c) }) l lines)
-        (sym (left_is ∙ ap (sets stores (1747 * place_at d i)) (write_words_refused ws (content_of s) plot value row (λ (z : R.code ≡ 0). omega arith)).store ∙ store_same stores (1747 * place_at d i) 1747 (omega (arith, ol, S.long_stores))))
+        (sym (left_is (Err x) entry A ∙ ap (sets stores (1747 * place_at d i)) (write_words_refused ws (content_of s) plot value row (λ (z : R.code ≡ 0). omega arith)).store ∙ store_same stores (1747 * place_at d i) 1747 (omega (arith, ol, S.long_stores))))
         (refused c q))
-        k x h (not_written written x _ A.0.0 w)
+        (number_of x) x refl (not_written (Err x) x _ A.0.0 refl)
 
-    module _ (words : ℕ) (w : written ≡ Ok words) where
+    module _ (words : ℕ) (entry : Entry) (A : Promised (Ok words) entry) where
       pub code : R.code ≡ 0
-      code = (words_code written words _ A.0.0 w).0
+      code = (words_code (Ok words) words _ A.0.0 refl).0
 
       words_are : words ≡ length (rows_of fs)
-      words_are = (words_code written words _ A.0.0 w).1 ∙ (facts code).count
+      words_are = (words_code (Ok words) words _ A.0.0 refl).1 ∙ (facts code).count
 
       pub cut : Cut row' words (length fs)
       unfolding laid
@@ -158,7 +163,7 @@ module _ (g : Scene) (d : Desk) (stores lines : List ℕ) (S : Shows g d stores 
           (λ j. (
             (with_session (sym (a ∙ ap (λ (x : ℕ). with_frames d x (length fs)) e) j) i (extended_by s (sym made j)), (ap (λ (Q : Result (List ℕ) (List ℕ)). wrote_reply Q.session.own) same ∙ write_reply ws s size plot value row code ∙ ap wrote_name (sym made)) j),
             (
-              (ap (λ (Q : Result (List ℕ) (List ℕ)). sets stores (1747 * place_at d i) Q.store) same ∙ sym left_is) j,
+              (ap (λ (Q : Result (List ℕ) (List ℕ)). sets stores (1747 * place_at d i) Q.store) same ∙ sym (left_is (Ok words) entry A)) j,
               (ap (λ (Q : Result (List ℕ) (List ℕ)). onto (next_of 3 (place_at d i)) Q.row) same ∙ (λ k. onto (sym e k) (sym A.0.3 k)) ∙ sym b) j,
             ),
           ))

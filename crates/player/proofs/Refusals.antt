@@ -2,11 +2,10 @@
 use Rattle.std.proofs.Common.{Err, Ok, Result}
 use Prim.Native.Nat.{ℕ, suc}
 use mathlib.Core.Path.{◌∙◌, ◌≡◌, ap, refl, subst, sym}
+use native.Mathlib.Omega.{arith}
 use Rattle.frame.specs.Refusals.{Reply, code_of, number_of, reply_of}
 use Rattle.frame.specs.declared.refusal.Refusal.{Refusal}
 use Rattle.frame.specs.declared.refusal.Refusal.TheVariants.{Content, Different, Format, Missing, OfficeFull, Plot, Room, SessionFull, Settings, Store, Unmade, Value}
-use Rattle.frame.specs.declared.refusal.Status.{Status}
-use Rattle.frame.specs.declared.refusal.Status.TheVariants.{Accepted, Refused}
 
 -- a refusal's number is not 0
 number_some : (x : Refusal) → (c : ℕ) × (number_of x ≡ suc c)
@@ -27,13 +26,16 @@ number_some Missing = (11, refl)
 pub refused_as : (P : ℕ → Type 0) (code : ℕ) → ((c : ℕ) → code ≡ suc c → P (suc c)) → (k : ℕ) (x : Refusal) → k ≡ number_of x → code ≡ number_of x → P k
 refused_as P code f k x e h = let t = number_some x in subst P (sym (e ∙ t.1)) (f t.0 (h ∙ t.1))
 
-pub status_refused : (r : Status) (x : Refusal) (code : ℕ) → code_of r ≡ code → r ≡ Refused x → code ≡ number_of x
-unfolding code_of
-status_refused r x code h e = sym h ∙ ap code_of e
+pub number_not_0 : (x : Refusal) → number_of x ≡ 0 → ⊥
+number_not_0 x e = omega (arith, e, (number_some x).1)
 
-pub status_accepted : (r : Status) (code : ℕ) → code_of r ≡ code → r ≡ Accepted → code ≡ 0
+pub refused_code : {A : Type 0} (r : Result A Refusal) (x : Refusal) (code : ℕ) → code_of r ≡ code → r ≡ Err x → code ≡ number_of x
 unfolding code_of
-status_accepted r code h e = sym h ∙ ap code_of e
+refused_code r x code h e = sym h ∙ ap code_of e
+
+pub accepted_code : {A : Type 0} (r : Result A Refusal) (v : A) (code : ℕ) → code_of r ≡ code → r ≡ Ok v → code ≡ 0
+unfolding code_of
+accepted_code r v code h e = sym h ∙ ap code_of e
 
 pub not_written : (r : Result ℕ Refusal) (x : Refusal) (R : Reply) → reply_of r ≡ R → r ≡ Err x → R.code ≡ number_of x
 unfolding reply_of

@@ -22,10 +22,10 @@ pub struct BoardTurn {
     pub reply: Reply,
 }
 
-// What a reading did: what its session has seen then.
+// What a reading did: what its session has seen then, if it was not refused.
 #[derive(Clone, Copy)]
 pub struct ReadTurn {
-    pub seen: Seen,
+    pub seen: Option<Seen>,
     pub reply: Reply,
 }
 
@@ -33,8 +33,7 @@ pub struct ReadTurn {
 #[derive(Clone, Copy)]
 pub struct WriteTurn {
     pub board: Board,
-    pub entry: Entry,
-    pub done: bool,
+    pub entry: Option<Entry>,
     pub reply: Reply,
 }
 
@@ -53,7 +52,7 @@ pub fn with_frames(board: Board, office: usize, frames: usize) -> Board
     ensures { (ss : List Session) → desk ss result ≡ with_frames (desk ss board) office frames }
 {
     let mut b = board;
-    b.count[office] = b.count[office] + frames;
+    b.count[office] += frames;
     b
 }
 
@@ -64,6 +63,6 @@ pub fn without_oldest(board: Board, office: usize) -> Board
 {
     let mut b = board;
     b.first[office] = (b.first[office] + 1) % 32;
-    b.count[office] = b.count[office] - 1;
+    b.count[office] -= 1;
     b
 }

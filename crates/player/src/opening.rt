@@ -8,7 +8,7 @@ ghost use Rattle.player.specs.Play.{opening};
 ghost use Rattle.player.specs.Shows.{Shows, stores_in};
 
 use crate::board::Board;
-use frame::session::Session;
+use frame::session::{Session, blank_session};
 
 // An office opened on its part of the stores.
 fn open_at(stores: &mut [u32], office: u32)
@@ -17,7 +17,8 @@ fn open_at(stores: &mut [u32], office: u32)
 {
     let from = 1747 * (office as usize);
     let end = from + 1747;
-    office::open::open_office(3, office, 64, &mut stores[from..end]);
+    // Three offices, this one among them, 64 plots and 1,747 words: it is not refused.
+    let _ = office::open::open_office(3, office, 64, &mut stores[from..end]);
 }
 
 #[derive(Clone, Copy)]
@@ -34,18 +35,13 @@ pub fn open_ring(stores: &mut [u32]) -> Opened
     open_at(&mut *stores, 0);
     open_at(&mut *stores, 1);
     open_at(&mut *stores, 2);
-    let fresh = office::open::fresh_session(3);
-    let session = fresh.session;
-    let sessions = [session; 4];
-    let place = [0u32; 4];
-    let first = [0usize; 3];
-    let count = [0usize; 3];
+    let session = office::open::fresh_session(3).unwrap_or(blank_session());
     Opened {
-        sessions,
+        sessions: [session; 4],
         board: Board {
-            place,
-            first,
-            count,
+            place: [0; 4],
+            first: [0; 3],
+            count: [0; 3],
         },
     }
 }

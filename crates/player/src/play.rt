@@ -1,23 +1,23 @@
 // A line of a script, played. Whoever plays has the four sessions, in a row ss: `desk ss board` is they and the board.
-ghost use Rattle.std.specs.Prelude.{◌≡◌, cond, false, true, List, ℕ, ◌+◌, ◌*◌, ◌<◌, ◌≤◌, get_or, length, set};
+ghost use Rattle.std.specs.Prelude.{◌≡◌, IsSome, List, ℕ, ◌+◌, ◌*◌, ◌<◌, ◌≤◌, get_or, length, set};
 ghost use Rattle.std.proofs.lemmas.List.Edits.{sets};
 ghost use Rattle.causal.specs.Lists.{part};
-ghost use Rattle.office.specs.Answers.{extended_by};
-ghost use Rattle.office.specs.Decide.{with_seen};
+ghost use Rattle.frame.specs.Refusals.{code_of, reply_of};
 ghost use Rattle.office.specs.Promises.{MakePromise, ReadPromise, ReceivePromise};
+ghost use Rattle.reading.specs.Answers.{seen_entry, seen_found, seen_session};
+ghost use Rattle.writing.specs.Answers.{entry_by, words_by};
 ghost use Rattle.player.specs.Desks.{Cut, desk, no_session, pushed, with_frames};
 ghost use Rattle.player.specs.Play.{Scene};
 ghost use Rattle.player.specs.Shows.{Shown, Shows};
-ghost use Rattle.player.specs.Steps.{Plays, entry_reply, sessionless};
-ghost use Rattle.frame.specs.Refusals.{code_of, reply_of};
+ghost use Rattle.player.specs.Steps.{Few, Plays, after_read, after_write, entry_reply, received, sessionless, written};
 
-use crate::ahead::{Ahead, receive_ahead, write_ahead};
+use crate::ahead::{Stay, receive_ahead, write_ahead};
 use crate::board::{
     Board, BoardTurn, ReadTurn, WriteTurn, with_frames, with_place, without_oldest,
 };
 use crate::queue::{count_frames, next_of, push_frames};
 use frame::entry::Entry;
-use frame::refusal::{Status, Written, number_of};
+use frame::refusal::Refusal;
 use frame::session::Session;
 use reading::read::PlotSeen;
 use script::line::Line;
@@ -30,11 +30,9 @@ pub fn deliver(board: Board, next: usize, words: usize, lines: &mut [u32], out: 
     ensures { (n : ℕ) → Cut out.now words n → ((ss : List Session) → desk ss result ≡ with_frames (desk ss board) next n)
         × (lines.new ≡ pushed lines.old next (get_or board.first next 0 + get_or board.count next 0) out.now n) }
 {
-    let firsts = board.first;
-    let counts = board.count;
-    let from = firsts[next] + counts[next];
+    let from = board.first[next] + board.count[next];
     let frames = count_frames(out, words);
-    push_frames(&mut *lines, next, from, out, frames);
+    push_frames(lines, next, from, out, frames);
     with_frames(board, next, frames)
 }
 
@@ -42,122 +40,112 @@ pub fn deliver(board: Board, next: usize, words: usize, lines: &mut [u32], out: 
 pub fn write_at(
     stores: &mut [u32],
     office: usize,
-    s: Session,
+    s: &Session,
     plot: u32,
     value: u32,
     out: &mut [u32],
-) -> Made
+) -> Result<Made, Refusal>
     requires { (office < 3) × (length stores.old ≡ 5241) }
-    ensures { MakePromise (part stores.old (1747 * office) 1747) s plot value out.old result.written result.entry (part stores.new (1747 * office) 1747) out.new × (stores.new ≡ sets stores.old (1747 * office) (part stores.new (1747 * office) 1747)) }
+    ensures { MakePromise (part stores.old (1747 * office) 1747) s.now plot value out.old (words_by result) (entry_by result) (part stores.new (1747 * office) 1747) out.new × (stores.new ≡ sets stores.old (1747 * office) (part stores.new (1747 * office) 1747)) }
 {
     let from = 1747 * office;
     let end = from + 1747;
     writing::write::make(&mut stores[from..end], s, plot, value, out)
 }
 
-// A write that was not done: the board and the session stay.
-fn not_done(board: Board, reply: Reply) -> WriteTurn
-    ensures { (result.board ≡ board) × (result.done ≡ false) × (result.reply ≡ reply) }
+// A write that goes, with its frames delivered: the board then, and the entry; or why all stays.
+fn try_write(
+    board: Board,
+    i: usize,
+    s: &Session,
+    plot: u32,
+    value: u32,
+    stores: &mut [u32],
+    lines: &mut [u32],
+    out: &mut [u32],
+) -> Result<(Board, Entry), Stay>
+    requires { (i < 4) × (length out.old ≡ 1751) × ((ss : List Session) × (get_or ss i no_session ≡ s.now) × Shown (desk ss board) stores.old lines.old) }
+    ensures { Few s.now result
+        × ((ss : List Session) (g : Scene) → get_or ss i no_session ≡ s.now → Shows g (desk ss board) stores.old lines.old
+        → Plays out.old g (Line.Write i plot value) (written ss i s.now board result) stores.new lines.new) }
 {
-    let entry = frame::entry::blank_entry();
-    WriteTurn {
-        board,
-        entry,
-        done: false,
-        reply,
-    }
+    let office = board.place[i] as usize;
+    let next = next_of(office);
+    write_ahead(stores, office, s, plot, value, board.count[next])?;
+    let Made { words, entry } = write_at(&mut *stores, office, s, plot, value, &mut *out)?;
+    Ok((deliver(board, next, words, lines, out), entry))
 }
 
 // `W`: session i, below 4, which is s, writes at the office where it is. `out` is left with any words.
 pub fn write_line(
     board: Board,
     i: usize,
-    s: Session,
+    s: &Session,
     plot: u32,
     value: u32,
     stores: &mut [u32],
     lines: &mut [u32],
     out: &mut [u32],
 ) -> WriteTurn
-    requires { (i < 4) × (length out.old ≡ 1751) × ((ss : List Session) × (get_or ss i no_session ≡ s) × Shown (desk ss board) stores.old lines.old) }
-    ensures { (result.done ≡ true → s.count < 16)
-        × ((ss : List Session) (g : Scene) → get_or ss i no_session ≡ s → Shows g (desk ss board) stores.old lines.old
-        → Plays out.old g (Line.Write i plot value) (record { desk = desk (set ss i (cond result.done (extended_by s result.entry) s)) result.board; reply = result.reply }) stores.new lines.new) }
+    requires { (i < 4) × (length out.old ≡ 1751) × ((ss : List Session) × (get_or ss i no_session ≡ s.now) × Shown (desk ss board) stores.old lines.old) }
+    ensures { (IsSome result.entry → s.now.count < 16)
+        × ((ss : List Session) (g : Scene) → get_or ss i no_session ≡ s.now → Shows g (desk ss board) stores.old lines.old
+        → Plays out.old g (Line.Write i plot value) (record { desk = desk (set ss i (after_write s.now result.entry)) result.board; reply = result.reply }) stores.new lines.new) }
 {
-    let places = board.place;
-    let office = places[i] as usize;
-    let next = next_of(office);
-    let counts = board.count;
-    let ahead = write_ahead(stores, office, s, plot, value, counts[next]);
-    match ahead {
-        Ahead::Full => not_done(board, Reply::Full),
-        Ahead::Refused(code) => not_done(board, Reply::Refused(code)),
-        Ahead::Goes => {
-            let made = write_at(&mut *stores, office, s, plot, value, &mut *out);
-            let written = made.written;
-            match written {
-                Written::NotWritten(refusal) => {
-                    let code = number_of(refusal);
-                    not_done(board, Reply::Refused(code))
-                }
-                Written::Words(words) => {
-                    let after = deliver(board, next, words, &mut *lines, out);
-                    let entry = made.entry;
-                    WriteTurn {
-                        board: after,
-                        entry,
-                        done: true,
-                        reply: Reply::Wrote(entry.office, entry.serial),
-                    }
-                }
-            }
-        }
+    match try_write(board, i, s, plot, value, stores, lines, out) {
+        Ok((board, entry)) => WriteTurn {
+            board,
+            entry: Some(entry),
+            reply: Reply::Wrote(entry.office, entry.serial),
+        },
+        Err(stay) => WriteTurn {
+            board,
+            entry: None,
+            reply: Reply::from(stay),
+        },
     }
 }
 
 // A reading at an office, on its part of the stores; the other parts stay.
-pub fn read_at(stores: &mut [u32], office: usize, s: Session, plot: u32) -> PlotSeen
+pub fn read_at(
+    stores: &mut [u32],
+    office: usize,
+    s: &Session,
+    plot: u32,
+) -> Result<PlotSeen, Refusal>
     requires { (office < 3) × (length stores.old ≡ 5241) }
-    ensures { ReadPromise (part stores.old (1747 * office) 1747) s plot (code_of result.status) result.found result.entry (with_seen s result.seen) (part stores.new (1747 * office) 1747) × (stores.new ≡ sets stores.old (1747 * office) (part stores.new (1747 * office) 1747)) }
+    ensures { ReadPromise (part stores.old (1747 * office) 1747) s.now plot (code_of result) (seen_found result) (seen_entry result) (seen_session s.now result) (part stores.new (1747 * office) 1747) × (stores.new ≡ sets stores.old (1747 * office) (part stores.new (1747 * office) 1747)) }
 {
     let from = 1747 * office;
     let end = from + 1747;
     reading::read::see_plot(&mut stores[from..end], s, plot)
 }
 
-pub fn reply_of(found: bool, e: Entry) -> Reply
-    ensures { result ≡ entry_reply found e }
+pub fn reply_of(found: Option<Entry>) -> Reply
+    ensures { result ≡ entry_reply found }
 {
-    if found {
-        return Reply::Found(e.value, e.office, e.serial);
+    match found {
+        Some(e) => Reply::Found(e.value, e.office, e.serial),
+        None => Reply::NoEntry,
     }
-    Reply::NoEntry
 }
 
 // `R`: session i, below 4, which is s, reads a plot at the office where it is. No line of frames is touched.
-pub fn read_line(board: Board, i: usize, s: Session, plot: u32, stores: &mut [u32]) -> ReadTurn
-    requires { (i < 4) × ((ss : List Session) × (lines : List ℕ) × (get_or ss i no_session ≡ s) × Shown (desk ss board) stores.old lines) }
-    ensures { (ss : List Session) (row lines : List ℕ) (g : Scene) → get_or ss i no_session ≡ s → Shows g (desk ss board) stores.old lines
-        → Plays row g (Line.Read i plot) (record { desk = desk (set ss i (with_seen s result.seen)) board; reply = result.reply }) stores.new lines }
+pub fn read_line(board: Board, i: usize, s: &Session, plot: u32, stores: &mut [u32]) -> ReadTurn
+    requires { (i < 4) × ((ss : List Session) × (lines : List ℕ) × (get_or ss i no_session ≡ s.now) × Shown (desk ss board) stores.old lines) }
+    ensures { (ss : List Session) (row lines : List ℕ) (g : Scene) → get_or ss i no_session ≡ s.now → Shows g (desk ss board) stores.old lines
+        → Plays row g (Line.Read i plot) (record { desk = desk (set ss i (after_read s.now result.seen)) board; reply = result.reply }) stores.new lines }
 {
-    let places = board.place;
-    let office = places[i] as usize;
-    let read = read_at(&mut *stores, office, s, plot);
-    let seen = read.seen;
-    let status = read.status;
-    match status {
-        Status::Refused(refusal) => {
-            let code = number_of(refusal);
-            ReadTurn {
-                seen,
-                reply: Reply::Refused(code),
-            }
-        }
-        Status::Accepted => {
-            let entry = read.entry;
-            let reply = reply_of(read.found, entry);
-            ReadTurn { seen, reply }
-        }
+    let office = board.place[i] as usize;
+    match read_at(stores, office, s, plot) {
+        Ok(PlotSeen { entry, seen }) => ReadTurn {
+            seen: Some(seen),
+            reply: reply_of(entry),
+        },
+        Err(refusal) => ReadTurn {
+            seen: None,
+            reply: Reply::Refused(u32::from(refusal)),
+        },
     }
 }
 
@@ -165,21 +153,14 @@ pub fn read_line(board: Board, i: usize, s: Session, plot: u32, stores: &mut [u3
 pub fn move_line(board: Board, i: u32, office: u32) -> BoardTurn
     ensures { (ss : List Session) (row stores lines : List ℕ) (g : Scene) → Shows g (desk ss board) stores lines → Plays row g (Line.Move i office) (record { desk = desk ss result.board; reply = result.reply }) stores lines }
 {
-    if i > 3 {
+    if i > 3 || office > 2 {
         return BoardTurn {
             board,
             reply: Reply::Odd,
         };
     }
-    if office > 2 {
-        return BoardTurn {
-            board,
-            reply: Reply::Odd,
-        };
-    }
-    let after = with_place(board, i as usize, office);
     BoardTurn {
-        board: after,
+        board: with_place(board, i as usize, office),
         reply: Reply::Moved,
     }
 }
@@ -191,7 +172,7 @@ pub fn receive_at(
     lines: &[u32],
     slot: usize,
     out: &mut [u32],
-) -> Written
+) -> Result<usize, Refusal>
     requires { (office < 3) × (length stores.old ≡ 5241) × (slot + 104 ≤ length lines.now) × (get_or lines.now slot 0 ≤ 103) }
     ensures { ReceivePromise (part stores.old (1747 * office) 1747) (part lines.now (slot + 1) (get_or lines.now slot 0)) out.old (reply_of result) (part stores.new (1747 * office) 1747) out.new × (stores.new ≡ sets stores.old (1747 * office) (part stores.new (1747 * office) 1747)) }
 {
@@ -200,6 +181,25 @@ pub fn receive_at(
     let a = 1747 * office;
     let b = a + 1747;
     hearing::receive::receive(&mut stores[a..b], &lines[from..end], out)
+}
+
+// A hearing that goes, of an office with a frame waiting, and with what it sends delivered: the board then; or why all stays.
+fn try_receive(
+    board: Board,
+    office: usize,
+    stores: &mut [u32],
+    lines: &mut [u32],
+    out: &mut [u32],
+) -> Result<Board, Stay>
+    requires { (office < 3) × (length out.old ≡ 1751) × (1 ≤ get_or board.count office 0) × ((ss : List Session) × Shown (desk ss board) stores.old lines.old) }
+    ensures { (ss : List Session) (g : Scene) → Shows g (desk ss board) stores.old lines.old → Plays out.old g (Line.Receive office) (received ss office board result) stores.new lines.new }
+{
+    let slot = 104 * (32 * office + board.first[office]);
+    let next = next_of(office);
+    receive_ahead(stores, office, lines, slot, board.count[next])?;
+    let words = receive_at(&mut *stores, office, lines, slot, &mut *out)?;
+    let after = deliver(board, next, words, lines, out);
+    Ok(without_oldest(after, office))
 }
 
 // `H`: an office, below 3, receives its oldest waiting frame. `out` is left with any words, as by `write_line`.
@@ -213,47 +213,22 @@ pub fn receive_line(
     requires { (office < 3) × (length out.old ≡ 1751) × ((ss : List Session) × Shown (desk ss board) stores.old lines.old) }
     ensures { (ss : List Session) (g : Scene) → Shows g (desk ss board) stores.old lines.old → Plays out.old g (Line.Receive office) (record { desk = desk ss result.board; reply = result.reply }) stores.new lines.new }
 {
-    let counts = board.count;
-    let count = counts[office];
+    let count = board.count[office];
     if count == 0 {
         return BoardTurn {
             board,
             reply: Reply::NoFrame,
         };
     }
-    let firsts = board.first;
-    let slot = 104 * (32 * office + firsts[office]);
-    let next = next_of(office);
-    let ahead = receive_ahead(stores, office, lines, slot, counts[next]);
-    match ahead {
-        Ahead::Full => BoardTurn {
+    match try_receive(board, office, stores, lines, out) {
+        Ok(board) => BoardTurn {
             board,
-            reply: Reply::Full,
+            reply: Reply::Received(count as u32 - 1),
         },
-        Ahead::Refused(code) => BoardTurn {
+        Err(stay) => BoardTurn {
             board,
-            reply: Reply::Refused(code),
+            reply: Reply::from(stay),
         },
-        Ahead::Goes => {
-            let written = receive_at(&mut *stores, office, lines, slot, &mut *out);
-            match written {
-                Written::NotWritten(refusal) => {
-                    let code = number_of(refusal);
-                    BoardTurn {
-                        board,
-                        reply: Reply::Refused(code),
-                    }
-                }
-                Written::Words(words) => {
-                    let mid = deliver(board, next, words, &mut *lines, out);
-                    let after = without_oldest(mid, office);
-                    BoardTurn {
-                        board: after,
-                        reply: Reply::Received(count as u32 - 1),
-                    }
-                }
-            }
-        }
     }
 }
 

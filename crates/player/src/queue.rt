@@ -32,7 +32,7 @@ pub fn hops_at(row: &[u32], at: usize) -> u32
     row[at] / 0x1000 % 16
 }
 
-// How many frames begin in the first words of a row.
+// How many frames begin in the first words of a row. An index loop: each step is as long as the frame that it is at.
 pub fn count_frames(row: &[u32], words: usize) -> usize
     requires { (words ≤ length row.now) × (words ≤ 4096) }
     ensures { (n : ℕ) → Cut row.now words n → result ≡ n }
@@ -40,8 +40,8 @@ pub fn count_frames(row: &[u32], words: usize) -> usize
     let mut at = 0;
     let mut n = 0;
     while at < words {
-        at = at + length_at(row, at);
-        n = n + 1;
+        at += length_at(row, at);
+        n += 1;
     }
     n
 }
@@ -51,11 +51,12 @@ pub fn push_frame(lines: &mut [u32], slot: usize, row: &[u32], at: usize, len: u
     requires { (len ≤ 103) × (slot + 104 ≤ length lines.old) × (at + len ≤ length row.now) }
     ensures { lines.new ≡ sets lines.old slot (len ∷ part row.now at len) }
 {
+    let from = slot + 1;
     lines[slot] = len as u32;
-    causal::row::copy_words(row, at, &mut *lines, slot + 1, len);
+    lines[from..from + len].copy_from_slice(&row[at..at + len]);
 }
 
-// The first n frames of a row, into the slots of an office from slot q on.
+// The first n frames of a row, into the slots of an office from slot q on. Each begins where the one before it ends.
 pub fn push_frames(lines: &mut [u32], office: usize, q: usize, row: &[u32], n: usize)
     requires { (office < 3) × (q ≤ 64) × (n ≤ 32) × (length lines.old ≡ 9984) × (start_of row.now n ≤ length row.now) × ((k : ℕ) → k < n → length_at row.now (start_of row.now k) ≤ 103) }
     ensures { lines.new ≡ pushed lines.old office q row.now n }
@@ -65,6 +66,6 @@ pub fn push_frames(lines: &mut [u32], office: usize, q: usize, row: &[u32], n: u
         let len = length_at(row, at);
         let slot = 104 * (32 * office + (q + k) % 32);
         push_frame(&mut *lines, slot, row, at, len);
-        at = at + len;
+        at += len;
     }
 }

@@ -8,6 +8,7 @@ use crate::best::{best_own, entry_in};
 use frame::entry::Entry;
 
 // 1, value and name payload of what was found, or zeros.
+#[tactic(auto, unfolding(office::specs::Calls::three_words, frame::specs::Entries::name_of))]
 fn three_words(found: Option<Entry>) -> [u32; 3]
     requires { NamedIn found }
     ensures { result ≡ three_words found }

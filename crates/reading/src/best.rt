@@ -6,6 +6,7 @@ ghost use Rattle.store.specs.Offices.{best_own, better};
 use frame::entry::{Entry, outranks};
 
 // The entry at a place of the store.
+#[tactic(auto, unfolding(store::specs::Current::found_at))]
 pub fn entry_in(store: &[u32], place: Option<usize>) -> Option<Entry>
     requires { InSlots (length store.now) place }
     ensures { result ≡ found_at store.now place }
@@ -17,6 +18,7 @@ pub fn entry_in(store: &[u32], place: Option<usize>) -> Option<Entry>
 }
 
 // The better of an own write on the plot and the best so far, which stays where they tie.
+#[tactic(auto, unfolding(store::specs::Offices::better))]
 fn better(e: &Entry, best: Option<Entry>) -> Option<Entry>
     ensures { result ≡ better e.now best }
 {

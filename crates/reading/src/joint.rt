@@ -46,8 +46,8 @@ fn places_of(store: &[u32], visible: [u32; 8], plots: &[u32]) -> [Option<usize>;
     ensures { PlacesTo store.now visible plots.now (length plots.now) result }
 {
     let mut places = [None; 16];
-    for (place, plot) in places.iter_mut().zip(plots) {
-        *place = store::current::current(store, visible, *plot);
+    for (i, plot) in plots.iter().enumerate() {
+        places[i] = store::current::current(store, visible, *plot);
     }
     places
 }

@@ -1,4 +1,5 @@
 -- Bytes fed one after another. Assumes nothing.
+use Rattle.std.specs.Prelude.{None, Option, Some}
 use Prim.Native.Nat.{ℕ, suc, ◌+◌, ◌-◌, ◌<◌, ◌≤◌}
 use mathlib.Core.Bool.{Bool, cond, false, true}
 use mathlib.Core.List.{List, [], ◌++◌, ◌∷◌, append_assoc, append-nil}
@@ -13,9 +14,7 @@ use borrow.Author.Tests.{eqb-false, eqb-true}
 use Rattle.causal.specs.Lists.{part}
 use Rattle.causal.proofs.Lists.{part_add, sets_append}
 use Rattle.causal.proofs.Tests.{lt_or_le}
-use Rattle.frame.specs.declared.entry.Entry.{Entry}
 use Rattle.frame.specs.declared.session.Session.{Session}
-use Rattle.office.specs.Answers.{extended_by}
 use Rattle.script.specs.Lines.{line_of}
 use Rattle.script.specs.Pendings.{Takes, first_line, has_end, is_empty, line_size, parsed, pending_of}
 use Rattle.script.specs.Replies.{reply_bytes}
@@ -25,8 +24,7 @@ use Rattle.script.specs.declared.pending.Pending.{Pending}
 use Rattle.script.specs.declared.pending.Taken.{Taken}
 use Rattle.script.specs.declared.reply.Reply.{Reply}
 use Rattle.script.proofs.Pendings.{empty_is, line_part, parse_whole}
-use Rattle.player.specs.declared.board.Board.{Board}
-use Rattle.player.specs.Desks.{Desk, desk, no_session}
+use Rattle.player.specs.Desks.{Desk, no_session}
 use Rattle.player.specs.Play.{Scene, play}
 use Rattle.player.specs.Shows.{Shows}
 use Rattle.player.specs.Steps.{Plays, sessionless}
@@ -107,39 +105,6 @@ some_size (b ∷ bs) h = go (eqb b 10)
 pub taken_some : (p : Pending) (bytes : List ℕ) (from : ℕ) (r : Taken) → Takes p bytes from r → from < length bytes → from < r.next
 taken_some p bytes from r T h = omega (arith, T.next, some_size (drop from bytes) (omega (arith, length-drop from bytes)))
 
--- what the rows and the board are after a line, and the text behind which its reply stands; which words the out row had makes no difference
-pub record Turn (line : Line) (ss : List Session) (b : Board) (at : ℕ) (stores lines out text : List ℕ) (ss' : List Session) (b' : Board) (at' : ℕ) (stores' lines' out' text' : List ℕ) : Type 0 where
-  pub stores_same : length stores' ≡ length stores
-  pub lines_same : length lines' ≡ length lines
-  pub out_same : length out' ≡ length out
-  pub text_same : length text' ≡ length text
-  pub reply : Reply
-  pub plays : (g : Scene) → Shows g (desk ss b) stores lines → Plays out g line (record { desk = desk ss' b'; reply = reply }) stores' lines'
-  pub near : at' ≤ at + 40
-  pub at_is : at' ≡ at + length (reply_bytes reply)
-  pub text_is : text' ≡ sets text at (reply_bytes reply)
-
-pub turn_of : (line : Line) (ss : List Session) (b : Board) (at : ℕ) (stores lines out text : List ℕ) (reply : Reply) (ss₁ : List Session) (b₁ : Board) (n : ℕ) (s₁ l₁ o₁ t₁ : List ℕ)
-    → length s₁ ≡ length stores → length l₁ ≡ length lines → length o₁ ≡ length out → length t₁ ≡ length text
-    → ((g : Scene) → Shows g (desk ss b) stores lines → Plays out g line (record { desk = desk ss₁ b₁; reply = reply }) s₁ l₁)
-    → (n ≡ at + length (reply_bytes reply)) × (t₁ ≡ sets text at (reply_bytes reply)) × (n ≤ at + 40)
-    → (ss' : List Session) (b' : Board) (at' : ℕ) (stores' lines' out' text' : List ℕ) → ss' ≡ ss₁ → b' ≡ b₁ → at' ≡ n → stores' ≡ s₁ → lines' ≡ l₁ → out' ≡ o₁ → text' ≡ t₁
-    → Turn line ss b at stores lines out text ss' b' at' stores' lines' out' text'
-turn_of line ss b at stores lines out text reply ss₁ b₁ n s₁ l₁ o₁ t₁ hs hl ho ht P R ss' b' at' stores' lines' out' text' ess eb en es el eo et =
-    record {
-      stores_same = ap length es ∙ hs;
-      lines_same = ap length el ∙ hl;
-      out_same = ap length eo ∙ ho;
-      text_same = ap length et ∙ ht;
-      reply = reply;
-      plays =
-          λ g S.
-          subst (λ (x : Desk × (List ℕ × List ℕ)). Plays out g line (record { desk = x.0; reply = reply }) x.1.0 x.1.1) (λ i. (desk (sym ess i) (sym eb i), (sym es i, sym el i))) (P g S);
-      near = omega (arith, en, R.2);
-      at_is = en ∙ R.0;
-      text_is = et ∙ R.1;
-    }
-
 -- a line that is neither a write nor a reading names no session
 pub other_line : (line : Line) → ((i plot value : ℕ) → line ≡ Write i plot value → ⊥) → ((i plot : ℕ) → line ≡ Read i plot → ⊥) → sessionless line ≡ line
 other_line (Write i plot value) h k = absurd (h i plot value refl)
@@ -148,13 +113,16 @@ other_line (Move i o) h k = refl
 other_line (Receive o) h k = refl
 other_line Other h k = refl
 
--- the sessions after a write: the one that wrote is put in its place only if the write was done
-module _ (ss ss' : List Session) (i : ℕ) (e : Entry) (done : Bool) where
-  pub put_done : (t : Session) → done ≡ true → t ≡ extended_by (get_or ss i no_session) e → ss' ≡ set ss i t → ss' ≡ set ss i (cond done (extended_by (get_or ss i no_session) e) (get_or ss i no_session))
-  put_done t d h q = q ∙ ap (set ss i) h ∙ (λ j. set ss i (cond (sym d j) (extended_by (get_or ss i no_session) e) (get_or ss i no_session)))
+-- the session that a line names, put back or left as it is
+pub put_back : (P : List Session → Type 0) (ss : List Session) (i : ℕ) (t u : Session) → t ≡ u → P (set ss i t) → P (set ss i u)
+put_back P ss i t u e p = subst (λ (x : Session). P (set ss i x)) e p
 
-  pub not_put : done ≡ false → ss' ≡ ss → ss' ≡ set ss i (cond done (extended_by (get_or ss i no_session) e) (get_or ss i no_session))
-  not_put d q = q ∙ sym (set-get_or ss i no_session) ∙ (λ j. set ss i (cond (sym d j) (extended_by (get_or ss i no_session) e) (get_or ss i no_session)))
+pub left : (P : List Session → Type 0) (ss : List Session) (i : ℕ) (t : Session) → t ≡ get_or ss i no_session → P (set ss i t) → P ss
+left P ss i t e p = subst P (ap (set ss i) e ∙ set-get_or ss i no_session) p
+
+pub none_of : {A : Type 0} (o : Option A) → ((x : A) → o ≡ Some x → ⊥) → o ≡ None
+none_of None h = refl
+none_of (Some x) h = absurd (h x refl)
 
 -- ---- the loop over bytes
 
@@ -204,31 +172,31 @@ module _ (bytes : List ℕ) (from i : ℕ) (h : from ≤ i) (g : Scene) (l : Lis
       (record { shows = X.shows; pending = T.pending f.rest X.pending; at_is = sym (add-zero cur.at); text_is = refl }))
 
   -- it was played
-  module _ (e : r.ended ≡ true) (line : Line) (is : line ≡ parsed r.pending) (out : List ℕ) (long : length out ≡ 1751)
-      (ss' : List Session) (b' : Board) (blank : Pending) (at' : ℕ) (stores' lines' out' text'' : List ℕ) (none : blank ≡ pending_of [])
-      (P : Turn line cur.sessions cur.board cur.at stores lines out text' ss' b' at' stores' lines' out' text'') where
+  module _ (e : r.ended ≡ true) (line : Line) (is : line ≡ parsed r.pending) (out : List ℕ) (long : length out ≡ 1751) (q : Stage) (stores' lines' text'' : List ℕ) (none : q.pending ≡ pending_of []) (reply : Reply)
+      (plays : (h : Scene) → Shows h (desk_of cur) stores lines → Plays out h line (record { desk = desk_of q; reply = reply }) stores' lines')
+      (at_is : q.at ≡ cur.at + length (reply_bytes reply)) (text_is : text'' ≡ sets text' cur.at (reply_bytes reply)) where
     asked : line ≡ line_of rest
     asked = is ∙ ap parsed (T.pending f.rest X.pending) ∙ parse_whole rest
 
     A : Plays-alike (play out f.scene (line_of rest)) (play out_row f.scene (line_of rest))
     A = play_alike out out_row long f.scene (line_of rest)
 
-    said : P.reply ≡ (play out_row f.scene (line_of rest)).1
-    said = (P.plays f.scene X.shows).reply ∙ ap (λ (x : Line). (play out f.scene x).1) asked ∙ A.reply
+    said : reply ≡ (play out_row f.scene (line_of rest)).1
+    said = (plays f.scene X.shows).reply ∙ ap (λ (x : Line). (play out f.scene x).1) asked ∙ A.reply
 
     text_of : List ℕ
     text_of = reply_bytes (play out_row f.scene (line_of rest)).1
 
-    pub line_played : Follows (fed g l (part bytes from (r.next - from))) at text (record { sessions = ss'; board = b'; pending = blank; at = at'; wrote = true }) stores' lines' text''
+    pub line_played : Follows (fed g l (part bytes from (r.next - from))) at text q stores' lines' text''
     unfolding fed text_of
     line_played =
-        on _ stores' lines' text''
-        (subst (λ (t : Bool). Follows (fed f.scene rest (cond t (10 ∷ []) [])) cur.at text' (record { sessions = ss'; board = b'; pending = blank; at = at'; wrote = true }) stores' lines' text'') (sym e)
+        on q stores' lines' text''
+        (subst (λ (t : Bool). Follows (fed f.scene rest (cond t (10 ∷ []) [])) cur.at text' q stores' lines' text'') (sym e)
         (record {
-          shows = shows_alike _ _ (desk ss' b') stores' lines' A.ring A.place (subst (λ (x : Line). Shows (play out f.scene x).0 (desk ss' b') stores' lines') asked (P.plays f.scene X.shows).shows);
+          shows = shows_alike _ _ (desk_of q) stores' lines' A.ring A.place (subst (λ (x : Line). Shows (play out f.scene x).0 (desk_of q) stores' lines') asked (plays f.scene X.shows).shows);
           pending = none;
-          at_is = P.at_is ∙ ap (λ (x : Reply). cur.at + length (reply_bytes x)) said ∙ ap (λ (x : List ℕ). cur.at + length x) (sym (append-nil text_of));
-          text_is = P.text_is ∙ ap (λ (x : Reply). sets text' cur.at (reply_bytes x)) said ∙ ap (sets text' cur.at) (sym (append-nil text_of));
+          at_is = at_is ∙ ap (λ (x : Reply). cur.at + length (reply_bytes x)) said ∙ ap (λ (x : List ℕ). cur.at + length x) (sym (append-nil text_of));
+          text_is = text_is ∙ ap (λ (x : Reply). sets text' cur.at (reply_bytes x)) said ∙ ap (sets text' cur.at) (sym (append-nil text_of));
         }))
 
 -- ---- the loop over a chunk

@@ -1,6 +1,9 @@
 -- The loop over chunks, up to each way to end. Assumes nothing.
+use Rattle.std.proofs.Common.{Err, Ok, Result}
+use Rattle.std.specs.Prelude.{IsOk}
+use Rattle.std.specs.Result.{result_unwrap_or}
 use Prim.Native.Nat.{ℕ, ◌+◌, ◌<◌}
-use mathlib.Core.Bool.{Bool, false, true}
+use mathlib.Core.Bool.{false, true}
 use mathlib.Core.List.{List, [], ◌++◌}
 use mathlib.Core.Logic.{inl, inr}
 use mathlib.Core.Path.{◌∙◌, ◌≡◌, ap, subst, sym}
@@ -10,94 +13,89 @@ use lib.ListN.{length, length-append, take}
 use lib.Seq.{take-append-add, take-length}
 use Rattle.causal.specs.Lists.{part}
 use Rattle.script.specs.Pendings.{pending_of}
-use Rattle.player.specs.Play.{Scene, opening}
-use Rattle.player.specs.Shows.{Shows, stores_in}
-use Rattle.ring_program.specs.declared.ending.Closed.{Closed}
-use Rattle.ring_program.specs.declared.ending.Ending.{Ending}
-use Rattle.ring_program.specs.declared.ending.Ending.TheVariants.{Done, ReadFailed, TooLong, WriteFailed}
-use Rattle.ring_program.specs.declared.feed.Stage.{Stage}
+use Rattle.player.specs.Play.{Scene}
+use Rattle.player.specs.Shows.{Shows}
+use Rattle.ring_program.specs.declared.Progress.{Progress}
+use Rattle.ring_program.specs.declared.ending.Failure.{Failure}
+use Rattle.ring_program.specs.declared.ending.Failure.TheVariants.{Read, TooLong, Write}
 use Rattle.ring_program.specs.Fed.{Fed, Leads, Staged, desk_of, fed}
-use Rattle.ring_program.specs.Promises.{Closes, Ends, RunPromise}
+use Rattle.ring_program.specs.Promises.{Closes, Ends, Reads}
 use Rattle.ring_program.proofs.Feeding.{fed_append}
 
--- since the stage s₀ bytes were read, as many as left₀ fell, and the stage is what they lead to
-pub record Running (s₀ : Stage) (stores₀ lines₀ : List ℕ) (left₀ : ℕ) (s : Stage) (stores lines : List ℕ) (left : ℕ) : Type 0 where
+-- since r₀ bytes were read, as many as are counted down, and the stage is what they lead to
+pub record Running (r₀ : Progress) (stores₀ lines₀ : List ℕ) (r : Progress) (stores lines : List ℕ) : Type 0 where
   pub bytes : List ℕ
-  pub counted : length bytes + left ≡ left₀
-  pub wrote : s.wrote ≡ true
-  pub leads : (g : Scene) → Shows g (desk_of s₀) stores₀ lines₀ → s₀.pending ≡ pending_of [] → Leads (fed g [] bytes) s stores lines
+  pub counted : length bytes + r.left ≡ r₀.left
+  pub wrote : r.stage.wrote ≡ true
+  pub leads : (g : Scene) → Shows g (desk_of r₀.stage) stores₀ lines₀ → r₀.stage.pending ≡ pending_of [] → Leads (fed g [] bytes) r.stage stores lines
 
-pub starts : (s : Stage) (stores lines : List ℕ) (left : ℕ) → s.wrote ≡ true → Running s stores lines left s stores lines left
+pub starts : (r : Progress) (stores lines : List ℕ) → r.stage.wrote ≡ true → Running r stores lines r stores lines
 unfolding fed
-starts s stores lines left w = record { bytes = []; counted = zero-add left; wrote = w; leads = λ g S e. record { shows = S; pending = e } }
+starts r stores lines w = record { bytes = []; counted = zero-add r.left; wrote = w; leads = λ g S e. record { shows = S; pending = e } }
 
-module _ (s₀ : Stage) (stores₀ lines₀ : List ℕ) (left₀ : ℕ) (s : Stage) (stores lines : List ℕ) (left : ℕ) (R : Running s₀ stores₀ lines₀ left₀ s stores lines left) where
+-- a read that brought none, and did not fail
+none_came : {E : Type 0} (r : Result ℕ E) → IsOk r → result_unwrap_or r 0 ≡ 0 → r ≡ Ok 0
+none_came (Ok n) k z = ap Ok z
+none_came (Err x) k z = cc
+
+module _ (r₀ : Progress) (stores₀ lines₀ : List ℕ) (r : Progress) (stores lines : List ℕ) (R : Running r₀ stores₀ lines₀ r stores lines) where
   abbrev bs : List ℕ
   bs = R.bytes
 
   -- some scene is shown, and some bytes are pending
-  pub stands : (g : Scene) → Shows g (desk_of s₀) stores₀ lines₀ → s₀.pending ≡ pending_of [] → Staged s stores lines
+  pub stands : (g : Scene) → Shows g (desk_of r₀.stage) stores₀ lines₀ → r₀.stage.pending ≡ pending_of [] → Staged r.stage stores lines
   stands g S e = let X = R.leads g S e in (_, _, X.shows, X.pending)
 
   -- a chunk was read, and its first bytes were fed
-  module _ (cs : List ℕ) (left' : ℕ) (came : length cs + left' ≡ left) (next : ℕ) (q : Stage) (stores' lines' : List ℕ)
-      (Q : (g : Scene) (l : List ℕ) → Shows g (desk_of s) stores lines → s.pending ≡ pending_of l → Leads (fed g l (part cs 0 next)) q stores' lines') where
-    then : (g : Scene) → Shows g (desk_of s₀) stores₀ lines₀ → s₀.pending ≡ pending_of [] → Leads (fed g [] (bs ++ part cs 0 next)) q stores' lines'
+  module _ (cs : List ℕ) (q : Progress) (came : length cs + q.left ≡ r.left) (next : ℕ) (stores' lines' : List ℕ)
+      (Q : (g : Scene) (l : List ℕ) → Shows g (desk_of r.stage) stores lines → r.stage.pending ≡ pending_of l → Leads (fed g l (part cs 0 next)) q.stage stores' lines') where
+    then : (g : Scene) → Shows g (desk_of r₀.stage) stores₀ lines₀ → r₀.stage.pending ≡ pending_of [] → Leads (fed g [] (bs ++ part cs 0 next)) q.stage stores' lines'
     then g S e =
         let X = R.leads g S e in
         let Y = Q (fed g [] bs).scene (fed g [] bs).rest X.shows X.pending in
-        subst (λ (f : Fed). Leads f q stores' lines') (sym (fed_append g [] bs (part cs 0 next))) (record { shows = Y.shows; pending = Y.pending })
+        subst (λ (f : Fed). Leads f q.stage stores' lines') (sym (fed_append g [] bs (part cs 0 next))) (record { shows = Y.shows; pending = Y.pending })
 
-    counts : length (bs ++ cs) + left' ≡ left₀
+    counts : length (bs ++ cs) + q.left ≡ r₀.left
     counts = omega (arith, length-append bs cs, came, R.counted)
 
-    pub goes_on : next ≡ length cs → q.wrote ≡ true → Running s₀ stores₀ lines₀ left₀ q stores' lines' left'
+    pub goes_on : next ≡ length cs → q.stage.wrote ≡ true → Running r₀ stores₀ lines₀ q stores' lines'
     unfolding part
     goes_on all w =
         record {
           bytes = bs ++ cs;
           counted = counts;
           wrote = w;
-          leads = λ g S e. subst (λ (x : List ℕ). Leads (fed g [] (bs ++ x)) q stores' lines') (ap (λ (x : ℕ). take x cs) all ∙ take-length cs) (then g S e);
+          leads = λ g S e. subst (λ (x : List ℕ). Leads (fed g [] (bs ++ x)) q.stage stores' lines') (ap (λ (x : ℕ). take x cs) all ∙ take-length cs) (then g S e);
         }
 
     -- a write failed
-    pub breaks : (entry : List ℕ) → Shows (opening (stores_in entry)) (desk_of s₀) stores₀ lines₀ → s₀.pending ≡ pending_of [] → left₀ ≡ 18446744073709551615 → q.wrote ≡ false
-        → (brought : ℕ) (failed : Bool) (text' : List ℕ)
-        → RunPromise entry (record { ending = WriteFailed; left = left'; brought = brought; failed = failed; stage = q }) stores' lines' text'
+    pub breaks : q.stage.wrote ≡ false → (text' : List ℕ) → Reads r₀ stores₀ lines₀ (Err Write) q stores' lines' text'
     unfolding part
-    breaks entry S e full w brought failed text' =
+    breaks w text' =
         record {
           bytes = bs ++ cs;
-          counted = counts ∙ full;
-          ends = (w, inl (length bs + next, subst (λ (x : List ℕ). Leads (fed (opening (stores_in entry)) [] x) q stores' lines') (sym (take-append-add bs cs next)) (then (opening (stores_in entry)) S e)));
+          counted = counts;
+          ends = λ g S e. (w, inl (length bs + next, subst (λ (x : List ℕ). Leads (fed g [] x) q.stage stores' lines') (sym (take-append-add bs cs next)) (then g S e)));
         }
 
-  module _ (entry : List ℕ) (S : Shows (opening (stores_in entry)) (desk_of s₀) stores₀ lines₀) (e : s₀.pending ≡ pending_of []) (full : left₀ ≡ 18446744073709551615) where
-    abbrev g : Scene
-    g = opening (stores_in entry)
+  -- no more bytes come
+  closes : (ending : Result Unit Failure) (g : Scene) (q : Progress) (text stores' lines' text' : List ℕ) → result_unwrap_or q.said 0 ≡ 0
+      → Closes ending q.said (fed g [] bs).scene (fed g [] bs).rest text q.stage stores' lines' text' → Ends ending g bs q stores' lines' text'
+  closes (Ok x) g q text stores' lines' text' z C = (none_came q.said C.0 z, C.1, (text, C.2))
+  closes (Err Write) g q text stores' lines' text' z C = (C.1, inr (text, C.2))
+  closes (Err Read) g q text stores' lines' text' z C = (C.0, C.1, record { shows = C.2.shows; pending = C.2.pending })
+  closes (Err TooLong) g q text stores' lines' text' z C = absurd C
 
-    -- no more bytes come
-    closes : (ending : Ending) (brought : ℕ) (failed : Bool) (text : List ℕ) (r : Stage) (stores' lines' text' : List ℕ) → brought ≡ 0
-        → Closes ending failed (fed g [] bs).scene (fed g [] bs).rest text r stores' lines' text' → Ends ending g bs left brought failed r stores' lines' text'
-    closes Done brought failed text r stores' lines' text' b C = (b, C.0, C.1, (text, C.2))
-    closes WriteFailed brought failed text r stores' lines' text' b C = (C.1, inr (text, C.2))
-    closes ReadFailed brought failed text r stores' lines' text' b C = (b, C.0, C.1, record { shows = C.2.shows; pending = C.2.pending })
-    closes TooLong brought failed text r stores' lines' text' b C = absurd C
+  pub ends : (ending : Result Unit Failure) (q : Progress) → q.left ≡ r.left → result_unwrap_or q.said 0 ≡ 0 → (text stores' lines' text' : List ℕ)
+      → ((h : Scene) (l : List ℕ) → Shows h (desk_of r.stage) stores lines → r.stage.pending ≡ pending_of l → Closes ending q.said h l text q.stage stores' lines' text')
+      → Reads r₀ stores₀ lines₀ ending q stores' lines' text'
+  ends ending q same z text stores' lines' text' C =
+      record {
+        bytes = bs;
+        counted = omega (arith, R.counted, same);
+        ends = λ g S e. let X = R.leads g S e in closes ending g q text stores' lines' text' z (C _ _ X.shows X.pending);
+      }
 
-    pub ends : (r : Closed) (brought : ℕ) (failed : Bool) (left' : ℕ) → brought ≡ 0 → left' ≡ left → (text stores' lines' text' : List ℕ)
-        → ((h : Scene) (l : List ℕ) → Shows h (desk_of s) stores lines → s.pending ≡ pending_of l → Closes r.ending failed h l text r.stage stores' lines' text')
-        → RunPromise entry (record { ending = r.ending; left = left'; brought = brought; failed = failed; stage = r.stage }) stores' lines' text'
-    ends r brought failed left' b same text stores' lines' text' C =
-        let X = R.leads g S e in
-        subst (λ (x : ℕ). RunPromise entry (record { ending = r.ending; left = x; brought = brought; failed = failed; stage = r.stage }) stores' lines' text') (sym same)
-        (record {
-          bytes = bs;
-          counted = R.counted ∙ full;
-          ends = closes r.ending brought failed text r.stage stores' lines' text' b (C _ _ X.shows X.pending);
-        })
-
-    -- more bytes came than are counted
-    pub too_long : left < 4096 → (text' : List ℕ)
-        → RunPromise entry (record { ending = TooLong; left = left; brought = 0; failed = false; stage = s }) stores lines text'
-    too_long few text' = record { bytes = bs; counted = R.counted ∙ full; ends = (R.wrote, R.leads g S e, few) }
+  -- more bytes came than are counted
+  pub too_long : r.left < 4096 → (text' : List ℕ) → Reads r₀ stores₀ lines₀ (Err TooLong) r stores lines text'
+  too_long few text' = record { bytes = bs; counted = R.counted; ends = λ g S e. (R.wrote, R.leads g S e, few) }

@@ -1,5 +1,6 @@
 -- The program as a whole, from what `run` promises. However it ends, what is shown is the scene of some lines, its ring is a run and keeps the third
 -- demand, and no reply to them is `refused 8`. Where it ends at the input's end, these are all lines of the input, in order. Assumes nothing.
+use Rattle.std.proofs.Common.{Err, Ok, Result}
 use Prim.Native.Nat.{ℕ, ◌*◌, ◌<◌, ◌≤◌}
 use mathlib.Core.List.Memᴰ
 use mathlib.Core.List.{List, Memᴰ, []}
@@ -16,8 +17,9 @@ use Rattle.player.specs.Shows.{Shows, stores_in}
 use Rattle.player.proofs.Never.{script_never_8}
 use Rattle.player.proofs.Runs.{Ran, script_holds}
 use Rattle.ring_program.specs.declared.Outcome.{Outcome}
-use Rattle.ring_program.specs.declared.ending.Ending.{Ending}
-use Rattle.ring_program.specs.declared.ending.Ending.TheVariants.{Done, ReadFailed, TooLong, WriteFailed}
+use Rattle.ring_program.specs.declared.Progress.{Progress}
+use Rattle.ring_program.specs.declared.ending.Failure.{Failure}
+use Rattle.ring_program.specs.declared.ending.Failure.TheVariants.{Read, TooLong, Write}
 use Rattle.ring_program.specs.Fed.{desk_of, fed, lines_in, lines_of, out_row, rowed, text_of, whole_fed}
 use Rattle.ring_program.specs.Promises.{Ends, Finished, RunPromise}
 use Rattle.ring_program.proofs.Whole.{fed_plays, whole_plays}
@@ -31,15 +33,18 @@ pub record Answered (rows : ℕ → List ℕ) (bs : List ℕ) (d : Desk) (stores
   -- "it never prints refusal 8"
   pub never_8 : Memᴰ (Refused 8) (play_all (opening rows) (rowed (lines_of [] bs))).1 → ⊥
 
-module _ (stores : List ℕ) (long : length stores ≡ 5241) (r : Outcome) (stores' lines' text' : List ℕ) where
+module _ (stores : List ℕ) (long : length stores ≡ 5241) (o : Outcome) (stores' lines' text' : List ℕ) where
+  abbrev r : Progress
+  r = o.reached
+
   abbrev rows : ℕ → List ℕ
   rows = stores_in stores
 
   abbrev g : Scene
   g = opening rows
 
-  enough : (o : ℕ) → o < 3 → 1747 ≤ length (rows o)
-  enough o h = let e = part_length stores (1747 * o) 1747 (omega arith) in omega (arith, e)
+  enough : (k : ℕ) → k < 3 → 1747 ≤ length (rows k)
+  enough k h = let e = part_length stores (1747 * k) 1747 (omega arith) in omega (arith, e)
 
   whole_shows : (bs : List ℕ) → Finished g bs r.stage stores' lines' text' → Shows (play_all g (rowed (lines_of [] bs))).0 (desk_of r.stage) stores' lines'
   whole_shows bs F = subst (λ (x : Scene). Shows x (desk_of r.stage) stores' lines') (whole_plays g [] bs).scene F.1.leads.shows
@@ -51,10 +56,10 @@ module _ (stores : List ℕ) (long : length stores ≡ 5241) (r : Outcome) (stor
       let t = Memᴰ.of_map (λ (y : Line). (out_row, y)) ls m in
       ap (λ (z : List ℕ × Line). length z.0) (sym t.2))
 
-  pub ran_answers : (P : RunPromise stores r stores' lines' text') → r.ending ≡ Done → Answered rows P.bytes (desk_of r.stage) stores' lines'
+  pub ran_answers : (P : RunPromise stores o stores' lines' text') → o.ending ≡ Ok tt → Answered rows P.bytes (desk_of r.stage) stores' lines'
   ran_answers P e =
       record {
-        shows = whole_shows bs (subst (λ (x : Ending). Ends x g bs r.left r.brought r.failed r.stage stores' lines' text') e P.ends).3;
+        shows = whole_shows bs (subst (λ (x : Result Unit Failure). Ends x g bs r stores' lines' text') e P.ends).2;
         text = (whole_plays g [] bs).text;
         ring = script_holds rows enough (rowed (lines_of [] bs));
         never_8 = never_8 (lines_of [] bs);
@@ -79,11 +84,11 @@ module _ (stores : List ℕ) (long : length stores ≡ 5241) (r : Outcome) (stor
   whole_kept : (bs : List ℕ) → Finished g bs r.stage stores' lines' text' → Kept
   whole_kept bs F = played (lines_of [] bs) (whole_shows bs F)
 
-  kept_by : (e : Ending) (bs : List ℕ) → Ends e g bs r.left r.brought r.failed r.stage stores' lines' text' → Kept
-  kept_by Done bs E = whole_kept bs E.3
-  kept_by ReadFailed bs E = fed_kept bs E.3.shows
-  kept_by TooLong bs E = fed_kept bs E.1.shows
-  kept_by WriteFailed bs E = ⊎_elim (λ x. fed_kept (take x.0 bs) x.1.shows) (whole_kept bs) E.1
+  kept_by : (e : Result Unit Failure) (bs : List ℕ) → Ends e g bs r stores' lines' text' → Kept
+  kept_by (Ok x) bs E = whole_kept bs E.2
+  kept_by (Err Read) bs E = fed_kept bs E.2.shows
+  kept_by (Err TooLong) bs E = fed_kept bs E.1.shows
+  kept_by (Err Write) bs E = ⊎_elim (λ x. fed_kept (take x.0 bs) x.1.shows) (whole_kept bs) E.1
 
-  pub ran_holds : RunPromise stores r stores' lines' text' → Kept
-  ran_holds P = kept_by r.ending P.bytes P.ends
+  pub ran_holds : RunPromise stores o stores' lines' text' → Kept
+  ran_holds P = kept_by o.ending P.bytes P.ends

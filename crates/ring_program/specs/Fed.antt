@@ -1,5 +1,5 @@
 -- The ring program on bytes: what the bytes of a script lead to, and the text of the replies. Paper 01, "The ring program". Assumes nothing.
-use Rattle.std.specs.Prelude.{ℕ, ◌+◌, cond, List, [], ◌++◌, ◌∷◌, map, ◌≡◌, eqb, length, replicate}
+use Rattle.std.specs.Prelude.{ℕ, ◌+◌, Bool, cond, List, [], ◌++◌, ◌∷◌, map, ◌≡◌, eqb, length, replicate}
 use Rattle.std.proofs.lemmas.List.Edits.{sets}
 use Rattle.script.specs.Lines.{line_of}
 use Rattle.script.specs.Pendings.{pending_of}
@@ -64,6 +64,10 @@ text_of (r ∷ rs) = reply_bytes r ++ text_of rs
 -- the sessions and the board
 abbrev pub desk_of : Stage → Desk
 desk_of r = desk r.sessions r.board
+
+-- its text was written out, and taken or not
+abbrev pub emptied : Stage → Bool → Stage
+emptied r wrote = record { sessions = r.sessions; board = r.board; pending = r.pending; at = 0; wrote = wrote }
 
 -- bytes fed: what they lead to is shown and pending, and the replies stand behind the text
 pub record Follows (f : Fed) (at : ℕ) (text : List ℕ) (r : Stage) (stores lines text' : List ℕ) : Type 0 where

@@ -7,75 +7,60 @@ ghost use Rattle.ring_program.specs.Fed.{Staged, desk_of};
 ghost use Rattle.ring_program.specs.Promises.{Closes};
 
 use crate::feed::{Stage, finish};
-use crate::input::Chunk;
-use crate::output::write_all;
+use crate::output::Untaken;
 use std::io::{Stderr, Stdout};
+use std::{fmt, io};
 
-#[derive(Clone, Copy)]
-pub enum Ending {
-    Done, // at the input's end
-    ReadFailed,
-    WriteFailed,
-    TooLong, // after more bytes than a number of 64 bits counts
+// Why the program ends before the input does, or with replies that were not taken.
+#[derive(Clone, Copy, Debug, PartialEq, Eq)]
+pub enum Failure {
+    Read,
+    Write,
+    TooLong, // more bytes than a number of 64 bits counts
 }
 
-#[derive(Clone, Copy)]
-pub struct Closed {
-    pub ending: Ending,
-    pub stage: Stage,
+impl fmt::Display for Failure {
+    fn fmt<W: fmt::Write>(&self, f: &mut fmt::Formatter<W>) -> fmt::Result {
+        f.write_str(match self {
+            Failure::Read => "ring_program: standard input cannot be read",
+            Failure::Write => "ring_program: standard output cannot be written",
+            Failure::TooLong => "ring_program: standard input is too long",
+        })
+    }
 }
 
-// The last chunk, which has no bytes. At the input's end what is pending is the last line; before a failed read it may be half a line, and is
-// not played.
+impl From<Untaken> for Failure {
+    ghost use Rattle.ring_program.specs.declared.ending.Failure.TheVariants.{Write};
+
+    ghost from_gives = { λ _ failure. failure ≡ Write };
+
+    fn from(_untaken: Untaken) -> Failure {
+        Failure::Write
+    }
+}
+
+// No more bytes come, by what the last read said. At the input's end what is pending is the last line; before a failed read it may be half a line,
+// and is not played.
 pub fn close(
+    said: io::Result<usize>,
     stdout: Stdout,
-    stage: Stage,
-    chunk: Chunk,
+    stage: &mut Stage,
     stores: &mut [u32],
     lines: &mut [u32],
     out: &mut [u32],
     text: &mut [u8],
-) -> Closed
-    requires { (length out.old ≡ 1751) × (length text.old ≡ 8192) × (stage.at ≡ 0) × Staged stage stores.old lines.old × (stage.wrote ≡ true) }
-    ensures { (g : Scene) (l : List ℕ) → Shows g (desk_of stage) stores.old lines.old → stage.pending ≡ pending_of l → Closes result.ending chunk.failed g l text.old result.stage stores.new lines.new text.new }
+) -> Result<(), Failure>
+    requires { (length out.old ≡ 1751) × (length text.old ≡ 8192) × (stage.old.at ≡ 0) × Staged stage.old stores.old lines.old × (stage.old.wrote ≡ true) }
+    ensures { (g : Scene) (l : List ℕ) → Shows g (desk_of stage.old) stores.old lines.old → stage.old.pending ≡ pending_of l → Closes result said g l text.old stage.new stores.new lines.new text.new }
 {
-    if chunk.failed {
-        return Closed {
-            ending: Ending::ReadFailed,
-            stage,
-        };
+    if said.is_err() {
+        return Err(Failure::Read);
     }
-    let last = finish(stdout, stage, stores, lines, out, text);
-    if last.wrote {
-        return Closed {
-            ending: Ending::Done,
-            stage: last,
-        };
-    }
-    Closed {
-        ending: Ending::WriteFailed,
-        stage: last,
-    }
+    finish(stdout, stage, stores, lines, out, text)?;
+    Ok(())
 }
 
 // A failure is said on standard error, and the exit status is 0 however the program ends.
-pub fn say(mut stderr: Stderr, ending: Ending) {
-    match ending {
-        Ending::Done => {}
-        Ending::ReadFailed => {
-            write_all(
-                &mut stderr,
-                b"ring_program: standard input cannot be read\n",
-            );
-        }
-        Ending::WriteFailed => {
-            write_all(
-                &mut stderr,
-                b"ring_program: standard output cannot be written\n",
-            );
-        }
-        Ending::TooLong => {
-            write_all(&mut stderr, b"ring_program: standard input is too long\n");
-        }
-    }
+pub fn say(stderr: Stderr, failure: Failure) {
+    let _ = stderr.eprintln(failure);
 }

@@ -1,32 +1,75 @@
 // The ring program: a script on standard input, a reply to each line on standard output.
 #![tactic(auto)]
 
-ghost use Rattle.std.specs.Prelude.{◌≡◌, length};
-ghost use Rattle.ring_program.specs.Promises.{RunPromise};
+ghost use Rattle.std.specs.Prelude.{◌≡◌, [], length, true};
+ghost use Rattle.script.specs.Pendings.{pending_of};
+ghost use Rattle.player.specs.Shows.{Shown};
+ghost use Rattle.ring_program.specs.Promises.{Reads, RunPromise};
+ghost use Rattle.ring_program.specs.Fed.{desk_of};
 
 mod ending;
 mod feed;
 mod input;
 mod output;
 
-use ending::{Ending, close, say};
+use ending::{Failure, close, say};
 use feed::{Stage, feed_all};
 use input::read_chunk;
-use player::opening::open_ring;
+use player::opening::{Opened, open_ring};
 use script::pending::nothing;
+use std::io;
 use std::io::{Stdin, Stdout};
 
-// `brought` and `failed` are what the last read said.
+// What the bytes read so far have led to.
+#[derive(Clone, Copy)]
+pub struct Progress {
+    pub stage: Stage,
+    pub left: u64, // u64::MAX less the bytes read
+    pub said: io::Result<usize>, // what the last read said
+}
+
+// How the program ends, and with what.
 #[derive(Clone, Copy)]
 pub struct Outcome {
-    pub ending: Ending,
-    pub left: u64, // u64::MAX less the bytes read
-    pub brought: usize,
-    pub failed: bool,
-    pub stage: Stage,
+    pub ending: Result<(), Failure>,
+    pub reached: Progress,
 }
 
 // A proved loop has to end, and nothing says that the input does: bytes are counted down from a number that no input has.
+fn read_on(
+    stdin: Stdin,
+    stdout: Stdout,
+    reached: &mut Progress,
+    stores: &mut [u32],
+    lines: &mut [u32],
+    out: &mut [u32],
+    input: &mut [u8],
+    text: &mut [u8],
+) -> Result<(), Failure>
+    requires { (length out.old ≡ 1751) × (length input.old ≡ 4096) × (length text.old ≡ 8192) × (reached.old.stage.at ≡ 0) × (reached.old.stage.wrote ≡ true) × (reached.old.stage.pending ≡ pending_of []) × Shown (desk_of reached.old.stage) stores.old lines.old }
+    ensures { Reads reached.old stores.old lines.old result reached.new stores.new lines.new text.new }
+{
+    while reached.left >= 4096 {
+        reached.said = read_chunk(stdin, &mut *input, &mut reached.left);
+        let n = reached.said.unwrap_or(0);
+        if n == 0 {
+            let said = reached.said;
+            return close(said, stdout, &mut reached.stage, stores, lines, out, text);
+        }
+        feed_all(
+            stdout,
+            &mut reached.stage,
+            &input[..n],
+            &mut *stores,
+            &mut *lines,
+            &mut *out,
+            &mut *text,
+        )?;
+    }
+    Err(Failure::TooLong)
+}
+
+// From the start to the end.
 fn run(
     stdin: Stdin,
     stdout: Stdout,
@@ -39,63 +82,20 @@ fn run(
     requires { (length stores.old ≡ 5241) × (length lines.old ≡ 9984) × (length out.old ≡ 1751) × (length input.old ≡ 4096) × (length text.old ≡ 8192) }
     ensures { RunPromise stores.old result stores.new lines.new text.new }
 {
-    let opened = open_ring(&mut *stores);
-    let sessions = opened.sessions;
-    let board = opened.board;
-    let none = nothing();
-    let mut stage = Stage {
-        sessions,
-        board,
-        pending: none,
-        at: 0,
-        wrote: true,
+    let Opened { sessions, board } = open_ring(&mut *stores);
+    let mut reached = Progress {
+        stage: Stage {
+            sessions,
+            board,
+            pending: nothing(),
+            at: 0,
+            wrote: true,
+        },
+        left: u64::MAX,
+        said: Ok(0),
     };
-    let mut left = u64::MAX;
-    while left >= 4096 {
-        let chunk = read_chunk(stdin, &mut *input, left);
-        left = chunk.left;
-        let n = chunk.n;
-        if n == 0 {
-            let closed = close(stdout, stage, chunk, stores, lines, out, text);
-            let ending = closed.ending;
-            let last = closed.stage;
-            return Outcome {
-                ending,
-                left,
-                brought: n,
-                failed: chunk.failed,
-                stage: last,
-            };
-        }
-        let fed = feed_all(
-            stdout,
-            stage,
-            &input[..n],
-            &mut *stores,
-            &mut *lines,
-            &mut *out,
-            &mut *text,
-        );
-        let next = fed.stage;
-        stage = next;
-        let broken = !stage.wrote;
-        if broken {
-            return Outcome {
-                ending: Ending::WriteFailed,
-                left,
-                brought: n,
-                failed: chunk.failed,
-                stage,
-            };
-        }
-    }
-    Outcome {
-        ending: Ending::TooLong,
-        left,
-        brought: 0,
-        failed: false,
-        stage,
-    }
+    let ending = read_on(stdin, stdout, &mut reached, stores, lines, out, input, text);
+    Outcome { ending, reached }
 }
 
 fn main(rt: HostRuntime) {
@@ -113,6 +113,7 @@ fn main(rt: HostRuntime) {
         &mut input,
         &mut text,
     );
-    let ending = outcome.ending;
-    say(rt.stderr(), ending);
+    if let Err(failure) = outcome.ending {
+        say(rt.stderr(), failure);
+    }
 }

@@ -13,7 +13,7 @@ use Rattle.causal.proofs.Lists.{eq_words_eq}
 use Rattle.script.specs.Fields.{fields, in_front, is_digit, all_digits, proper, value_of, with_digit, is_below}
 use Rattle.script.specs.Lines.{is, line_in, line_of}
 use Rattle.script.specs.declared.line.Line.TheVariants.{Receive, Other}
-use Rattle.script.proofs.Numbers.{cond_false}
+use Rattle.std.proofs.lemmas.Bool.{cond-false}
 
 -- 1, 10, 100, ..
 unfoldable pub tens : ℕ → ℕ
@@ -111,7 +111,7 @@ unfolding line_in size
 long_in [] h = refl
 long_in (k ∷ []) h = refl
 long_in (k ∷ o ∷ []) h =
-    cond_false (both (is 72 k) (is_below 3 o)) (Receive (value_of o)) Other
+    cond-false (both (is 72 k) (is_below 3 o)) (Receive (value_of o)) Other
     (not_so (both (is 72 k) (is_below 3 o))
     (λ e. let w = both_true (is 72 k) (is_below 3 o) e in omega (arith, one_byte 72 k w.0, one_digit 3 o (omega arith) w.1)))
 long_in (k ∷ s ∷ x ∷ []) h = rw (not_so (both (is 82 k) (both (is_below 4 s) (is_below 4294967296 x))) no_read, not_so (both (is 77 k) (both (is_below 4 s) (is_below 3 x))) no_move) refl

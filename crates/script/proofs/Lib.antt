@@ -1,6 +1,6 @@
 pub mod Cases
 pub mod Numbers
-pub mod Fields
+pub mod Splits
 pub mod Lines
 pub mod Lengths
 pub mod Decimals

@@ -1,5 +1,5 @@
 -- Laws of a line whose end has not come yet: bytes more, and what the line is, for bytes of any number. Assumes nothing.
-use Prim.Native.Nat.{ℕ, suc, ◌+◌, ◌<◌, ◌≤◌, min}
+use Prim.Native.Nat.{ℕ, suc, ◌+◌, ◌-◌, ◌<◌, ◌≤◌, min}
 use mathlib.Core.Path.{◌≡◌, refl, sym, ap, ◌∙◌}
 use mathlib.Core.Bool.{Bool, cond, false, true}
 use mathlib.Core.List.{List, [], ◌∷◌, ◌++◌, append_assoc, append-nil}
@@ -8,6 +8,7 @@ use native.Mathlib.Numerals.{add-one}
 use native.Mathlib.Omega.{arith}
 use lib.Dec.{eqb, leb}
 use lib.ListN.{drop, drop_of_length-le, get_or, length, take, set, replicate, length-append, length-replicate}
+use Rattle.std.proofs.lemmas.List.Edits.{get_or-between, length-between}
 use lib.Seq.{drop-cons, sets, length-sets, set_out}
 use borrow.Author.Tests.{eq-eqb, eqb-true, le-leb, lt-leb, ne_eqb}
 use Rattle.causal.proofs.Tests.{lt_or_le}
@@ -72,9 +73,9 @@ module _ (p : Pending) (bytes : List ℕ) (from i : ℕ) (q : Pending) (T : Taki
     unfolding has_end
     end_more = rw (drop-cons bytes i 0 h, ne_eqb (get_or bytes i 0) 10 n, add-one i) refl
 
-    pub taking_more : (q' : Pending) → q' ≡ pushed q (get_or bytes i 0) → Taking p bytes from (i + 1) q'
-    taking_more q' e =
-        record {
+    pub taking_more : (j : ℕ) (q' : Pending) → j ≡ i + 1 → q' ≡ pushed q (get_or bytes i 0) → Taking p bytes from j q'
+    taking_more j q' k e = rw k
+        (record {
           within = omega arith;
           size = T.size ∙ (let a = ap length line_more in let b = ap (λ (t : Bool). cond {A = ℕ} t 1 0) end_more in omega arith);
           ends = T.ends ∙ end_more;
@@ -83,7 +84,7 @@ module _ (p : Pending) (bytes : List ℕ) (from i : ℕ) (q : Pending) (T : Taki
             e ∙ ap (λ (x : Pending). pushed x (get_or bytes i 0)) t.1 ∙ push_more t.0 (get_or bytes i 0),
             t.2 ∙ ap (λ (x : List ℕ). t.0 ++ x) line_more ∙ sym (append_assoc t.0 (get_or bytes i 0 ∷ []) (first_line (drop (i + 1) bytes))),
           );
-        }
+        })
 
   taken : first_line (drop i bytes) ≡ [] → (t : Bool) (next : ℕ) → has_end (drop i bytes) ≡ t → next ≡ i + cond t 1 0 → next ≤ length bytes → Takes p bytes from (record { pending = q; next = next; ended = t })
   taken none t next e k le =
@@ -101,9 +102,16 @@ module _ (p : Pending) (bytes : List ℕ) (from i : ℕ) (q : Pending) (T : Taki
       taken (rw (drop-cons bytes i 0 h, eq-eqb (get_or bytes i 0) 10 n) refl) true (i + 1) (rw (drop-cons bytes i 0 h, eq-eqb (get_or bytes i 0) 10 n) refl) refl (omega arith)
 
   -- no byte more
-  pub taken_all : length bytes ≤ i → Takes p bytes from (record { pending = q; next = i; ended = false })
+  pub taken_all : length bytes ≤ i → Takes p bytes from (record { pending = q; next = length bytes; ended = false })
   unfolding first_line has_end
-  taken_all h = taken (rw (drop_of_length-le bytes h) refl) false i (rw (drop_of_length-le bytes h) refl) (omega arith) T.within
+  taken_all h = taken (rw (drop_of_length-le bytes h) refl) false (length bytes) (rw (drop_of_length-le bytes h) refl) (omega (arith, T.within)) (omega arith)
+
+-- byte i of the bytes from `from` on
+pub at_rest : (l : List ℕ) (from i : ℕ) → from ≤ length l → i < length (take (length l - from) (drop from l))
+    → (from + i < length l) × (get_or (take (length l - from) (drop from l)) i 0 ≡ get_or l (from + i) 0)
+at_rest l from i h n =
+    let b : from + i < length l = omega (arith, length-between l from (length l)) in
+    (b, get_or-between l from (length l) i 0 b)
 
 -- what was taken, among the bytes
 pub line_part : (bs : List ℕ) → take (line_size bs) bs ≡ first_line bs ++ cond (has_end bs) (10 ∷ []) []

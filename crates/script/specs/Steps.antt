@@ -1,50 +1,24 @@
--- What the steps of the parser compute. A number stops at 2^32, which also stands for a field that is no number. Assumes nothing.
-use Rattle.std.specs.Prelude.{ℕ, ◌+◌, ◌≤◌, min, ◌≡◌, cond, eqb, ltb, length, drop}
-use mathlib.Core.List.{List, [], ◌∷◌, foldl}
+-- What the steps of the parser compute, and what the methods of a row promise. Assumes nothing.
+use Rattle.std.specs.Prelude.{◌≡◌, ℕ, List, length, cond, ltb, Option, Some, None}
 use Rattle.causal.specs.Tests.{both}
-use Rattle.script.specs.Fields.{is_digit, proper, value_of, with_digit}
-use Rattle.script.specs.declared.line.Line.{Line}
-use Rattle.script.specs.declared.line.Line.TheVariants.{Write, Read, Move, Receive, Other}
+use Rattle.script.specs.Fields.{is_digit, is_below, value_of, with_digit}
+use Rattle.script.specs.Puts.{Put}
+use Rattle.script.specs.declared.put.Row.{Row}
 
--- one byte more
-unfoldable pub turned : ℕ → ℕ → ℕ
-turned v b = cond (is_digit b) (min (with_digit v b) 4294967296) 4294967296
+-- one digit more
+unfoldable pub with_digit_of : ℕ → ℕ → Option ℕ
+with_digit_of v b = cond (both (is_digit b) (ltb (with_digit v b) 4294967296)) (Some (with_digit v b)) None
 
-unfoldable pub capped : List ℕ → ℕ
-capped f = foldl turned 0 f
+-- the number that a field writes, if it is one and below n
+unfoldable pub below_of : ℕ → List ℕ → Option ℕ
+below_of n f = cond (is_below n f) (Some (value_of f)) None
 
-unfoldable pub field_of : List ℕ → ℕ
-field_of f = cond (proper f) (min (value_of f) 4294967296) 4294967296
+-- the number that a field writes, if it is one and below 2^32
+unfoldable pub number_of : List ℕ → Option ℕ
+number_of f = below_of 4294967296 f
 
--- the bytes before the first space
-unfoldable pub first_field : List ℕ → List ℕ
-first_field [] = []
-first_field (b ∷ l) = cond (eqb b 32) [] (b ∷ first_field l)
-
--- the field that starts at i: its number, and where it ends
-pub record FieldAt (l : List ℕ) (i value end : ℕ) : Type 0 where
-  pub number : value ≡ field_of (first_field (drop i l))
-  pub ends : end ≡ i + length (first_field (drop i l))
-  pub within : end ≤ length l
-
--- a line of a letter and one, two or three fields behind it, by their numbers
-unfoldable pub receive_of : ℕ → Line
-receive_of o = cond (ltb o 3) (Receive o) Other
-
-unfoldable pub read_of : ℕ → ℕ → Line
-read_of s p = cond (both (ltb s 4) (ltb p 4294967296)) (Read s p) Other
-
-unfoldable pub move_of : ℕ → ℕ → Line
-move_of s o = cond (both (ltb s 4) (ltb o 3)) (Move s o) Other
-
-unfoldable pub write_of : ℕ → ℕ → ℕ → Line
-write_of s p v = cond (both (ltb s 4) (both (ltb p 4294967296) (ltb v 4294967296))) (Write s p v) Other
-
-unfoldable pub one_of : ℕ → ℕ → Line
-one_of k o = cond (eqb k 72) (receive_of o) Other
-
-unfoldable pub two_of : ℕ → ℕ → ℕ → Line
-two_of k s x = cond (eqb k 82) (read_of s x) (cond (eqb k 77) (move_of s x) Other)
-
-unfoldable pub three_of : ℕ → ℕ → ℕ → ℕ → Line
-three_of k s p v = cond (eqb k 87) (write_of s p v) Other
+-- vs are put where the next byte goes; the row is the same reference
+pub record Puts (old : Row) (vs : List ℕ) (new : Row) : Type 0 where
+  pub same : new.out.ghost_name ≡ old.out.ghost_name
+  pub room : length new.out.now ≡ length old.out.now
+  pub put : Put old.out.now old.at vs new.out.now new.at

@@ -1,86 +1,37 @@
-// The fields of a line: the bytes between its spaces, each a number in decimal.
-ghost use Rattle.std.specs.Prelude.{◌≡◌, ◌+◌, ◌≤◌, length, drop};
-ghost use Rattle.script.specs.Steps.{turned, capped, field_of, first_field, FieldAt};
+// The number that a field of a line writes.
+ghost use Rattle.std.specs.Prelude.{◌≡◌};
+ghost use Rattle.script.specs.Steps.{below_of, number_of, with_digit_of};
 
-// Stands for a field that is no number below 2^32.
-pub const NONE: u64 = 4294967296;
-
-// A field: its number, and where it ends.
-#[derive(Clone, Copy)]
-pub struct Field {
-    pub value: u64,
-    pub end: usize,
+// A number with one digit more, if the byte is a digit and the number stays below 2^32.
+#[tactic(auto, unfolding(crate::specs::Steps::with_digit_of, crate::specs::Fields::is_digit, causal::specs::Tests::both))]
+fn with_digit(v: u32, b: u8) -> Option<u32>
+    ensures { result ≡ with_digit_of v b }
+{
+    if !b.is_ascii_digit() {
+        return None;
+    }
+    v.checked_mul(10)?.checked_add(u32::from(b - b'0'))
 }
 
-fn wide(x: u8) -> u64
-    ensures { result ≡ x }
+// The number: digits, at least one, with no leading zero.
+pub fn number(field: &[u8]) -> Option<u32>
+    ensures { result ≡ number_of field.now }
 {
-    x as u64
+    let first = *field.first()?;
+    if first == b'0' && field.len() > 1 {
+        return None;
+    }
+    let mut v = 0;
+    for b in field {
+        v = with_digit(v, *b)?;
+    }
+    Some(v)
 }
 
-// One byte more of a number.
-fn turn(v: u64, b: u8) -> u64
-    requires { v ≤ 4294967296 }
-    ensures { (result ≡ turned v b) × (result ≤ 4294967296) }
+// The number, if it is below n.
+#[tactic(auto, unfolding(crate::specs::Steps::below_of, crate::specs::Steps::number_of, crate::specs::Fields::is_below, causal::specs::Tests::both))]
+pub fn below(n: u32, field: &[u8]) -> Option<u32>
+    ensures { result ≡ below_of n field.now }
 {
-    if b < 48 {
-        return NONE;
-    }
-    if b > 57 {
-        return NONE;
-    }
-    let n = 10 * v + wide(b - 48);
-    if n > NONE { NONE } else { n }
-}
-
-// The number that the bytes write, if they are digits.
-fn value(part: &[u8]) -> u64
-    ensures { result ≡ capped part.now }
-{
-    let mut v: u64 = 0;
-    for i in 0..part.len() {
-        v = turn(v, part[i]);
-    }
-    v
-}
-
-// The number of a field: digits, at least one, with no leading zero.
-fn number(part: &[u8]) -> u64
-    ensures { result ≡ field_of part.now }
-{
-    let n = part.len();
-    if n == 0 {
-        return NONE;
-    }
-    if n == 1 {
-        return value(part);
-    }
-    if part[0] == 48 {
-        return NONE;
-    }
-    value(part)
-}
-
-// Where the field that starts at from ends: at a space, or at the end of the line.
-pub fn field_end(bytes: &[u8], from: usize) -> usize
-    requires { from ≤ length bytes.now }
-    ensures { (result ≡ from + length (first_field (drop from bytes.now))) × (result ≤ length bytes.now) }
-{
-    let mut i = from;
-    while i < bytes.len() {
-        if bytes[i] == 32 {
-            return i;
-        }
-        i += 1;
-    }
-    i
-}
-
-pub fn field_at(bytes: &[u8], from: usize) -> Field
-    requires { from ≤ length bytes.now }
-    ensures { FieldAt bytes.now from result.value result.end }
-{
-    let end = field_end(bytes, from);
-    let value = number(&bytes[from..end]);
-    Field { value, end }
+    number(field).filter(|v| *v < n)
 }

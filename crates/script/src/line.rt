@@ -1,15 +1,16 @@
 // A line of a script: what it asks for.
-ghost use Rattle.std.specs.Prelude.{◌≡◌};
-ghost use Rattle.script.specs.Lines.{line_of};
-ghost use Rattle.script.specs.Steps.{receive_of, read_of, move_of, write_of, one_of, two_of, three_of};
+#![tactic(auto, using(crate::proofs::Lines::below_no, crate::proofs::Lines::below_yes), unfolding(crate::specs::Lines::line_in, crate::specs::Steps::number_of, causal::specs::Tests::both, causal::specs::Lists::eq_words))]
 
-use crate::field::{NONE, field_at, field_end};
+ghost use Rattle.std.specs.Prelude.{◌≡◌, ◌∷◌, [], unwrap_or};
+ghost use Rattle.script.specs.Lines.{line_in, line_of};
 
-const SESSIONS: u64 = 4;
+use crate::field::{below, number};
 
-const OFFICES: u64 = 3;
+const SESSIONS: u32 = 4;
 
-#[derive(Clone, Copy)]
+const OFFICES: u32 = 3;
+
+#[derive(Clone, Copy, PartialEq, Eq, Debug)]
 pub enum Line {
     // W session plot value
     Write(u32, u32, u32),
@@ -23,111 +24,57 @@ pub enum Line {
     Other,
 }
 
-fn receive(o: u64) -> Line
-    ensures { result ≡ receive_of o }
-{
-    if o >= OFFICES {
-        return Line::Other;
-    }
-    Line::Receive(o as u32)
-}
-
-fn read(s: u64, p: u64) -> Line
-    ensures { result ≡ read_of s p }
-{
-    if s >= SESSIONS {
-        return Line::Other;
-    }
-    if p >= NONE {
-        return Line::Other;
-    }
-    Line::Read(s as u32, p as u32)
-}
-
-fn move_to(s: u64, o: u64) -> Line
-    ensures { result ≡ move_of s o }
-{
-    if s >= SESSIONS {
-        return Line::Other;
-    }
-    if o >= OFFICES {
-        return Line::Other;
-    }
-    Line::Move(s as u32, o as u32)
-}
-
-fn write(s: u64, p: u64, v: u64) -> Line
-    ensures { result ≡ write_of s p v }
-{
-    if s >= SESSIONS {
-        return Line::Other;
-    }
-    if p >= NONE {
-        return Line::Other;
-    }
-    if v >= NONE {
-        return Line::Other;
-    }
-    Line::Write(s as u32, p as u32, v as u32)
-}
-
 // A letter and one field.
-fn one(letter: u8, o: u64) -> Line
-    ensures { result ≡ one_of letter o }
+fn one(letter: u8, office: &[u8]) -> Option<Line>
+    ensures { unwrap_or result Line.Other ≡ line_in ((letter ∷ []) ∷ office.now ∷ []) }
 {
-    if letter == b'H' {
-        return receive(o);
+    match letter {
+        b'H' => Some(Line::Receive(below(OFFICES, office)?)),
+        _ => None,
     }
-    Line::Other
 }
 
 // A letter and two fields.
-fn two(letter: u8, s: u64, x: u64) -> Line
-    ensures { result ≡ two_of letter s x }
+fn two(letter: u8, s: &[u8], x: &[u8]) -> Option<Line>
+    ensures { unwrap_or result Line.Other ≡ line_in ((letter ∷ []) ∷ s.now ∷ x.now ∷ []) }
 {
-    if letter == b'R' {
-        return read(s, x);
+    match letter {
+        b'R' => Some(Line::Read(below(SESSIONS, s)?, number(x)?)),
+        b'M' => Some(Line::Move(below(SESSIONS, s)?, below(OFFICES, x)?)),
+        _ => None,
     }
-    if letter == b'M' {
-        return move_to(s, x);
-    }
-    Line::Other
 }
 
 // A letter and three fields.
-fn three(letter: u8, s: u64, p: u64, v: u64) -> Line
-    ensures { result ≡ three_of letter s p v }
+fn three(letter: u8, s: &[u8], plot: &[u8], value: &[u8]) -> Option<Line>
+    ensures { unwrap_or result Line.Other ≡ line_in ((letter ∷ []) ∷ s.now ∷ plot.now ∷ value.now ∷ []) }
 {
-    if letter == b'W' {
-        return write(s, p, v);
+    match letter {
+        b'W' => Some(Line::Write(below(SESSIONS, s)?, number(plot)?, number(value)?)),
+        _ => None,
     }
-    Line::Other
+}
+
+// What the line asks for; None for any other line.
+fn asked(bytes: &[u8]) -> Option<Line>
+    ensures { unwrap_or result Line.Other ≡ line_of bytes.now }
+{
+    let mut fields = bytes.split(|b| *b == b' ');
+    let [letter] = fields.next()? else {
+        return None;
+    };
+    let first = fields.next()?;
+    match (fields.next(), fields.next(), fields.next()) {
+        (None, _, _) => one(*letter, first),
+        (Some(second), None, _) => two(*letter, first, second),
+        (Some(second), Some(third), None) => three(*letter, first, second, third),
+        _ => None,
+    }
 }
 
 // The line of these bytes, its newline not among them.
 pub fn parse_line(bytes: &[u8]) -> Line
     ensures { result ≡ line_of bytes.now }
 {
-    let n = bytes.len();
-    let k = field_end(bytes, 0);
-    if k != 1 {
-        return Line::Other;
-    }
-    if n == 1 {
-        return Line::Other;
-    }
-    let letter = bytes[0];
-    let a = field_at(bytes, 2);
-    if a.end == n {
-        return one(letter, a.value);
-    }
-    let b = field_at(bytes, a.end + 1);
-    if b.end == n {
-        return two(letter, a.value, b.value);
-    }
-    let c = field_at(bytes, b.end + 1);
-    if c.end == n {
-        return three(letter, a.value, b.value, c.value);
-    }
-    Line::Other
+    asked(bytes).unwrap_or(Line::Other)
 }

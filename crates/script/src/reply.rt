@@ -1,12 +1,12 @@
 // The reply to a line of a script, with a newline behind it.
-ghost use Rattle.std.specs.Prelude.{◌≡◌, ◌∷◌, [], ◌++◌, ◌+◌, ◌≤◌, length};
+ghost use Rattle.std.specs.Prelude.{◌≡◌, ◌+◌, ◌≤◌, length};
 ghost use Rattle.std.proofs.lemmas.List.Edits.{sets};
-ghost use Rattle.script.specs.Replies.{decimal, name_bytes, numbered, reply_bytes};
-ghost use Rattle.script.specs.Puts.{Put};
+ghost use Rattle.script.specs.Replies.{reply_bytes};
+ghost use Rattle.script.specs.Steps.{Puts};
 
-use crate::put::{put_decimal, put_text};
+use crate::put::Row;
 
-#[derive(Clone, Copy)]
+#[derive(Clone, Copy, PartialEq, Eq, Debug)]
 pub enum Reply {
     // W office.serial
     Wrote(u32, u32),
@@ -28,60 +28,48 @@ pub enum Reply {
     Odd,
 }
 
-// A name: office.serial, and the newline.
-fn put_name(o: u32, s: u32, out: &mut [u8], at: usize) -> usize
-    requires { at + 22 ≤ length out.old }
-    ensures { Put out.old at (name_bytes o s ++ (10 ∷ [])) out.new result }
-{
-    let dot = put_decimal(o, &mut *out, at);
-    let from = put_text(b".", &mut *out, dot);
-    let end = put_decimal(s, &mut *out, from);
-    put_text(b"\n", &mut *out, end)
-}
-
-// A text, a number and the newline.
-fn put_numbered(text: &[u8], n: u32, out: &mut [u8], at: usize) -> usize
-    requires { at + length text.now + 11 ≤ length out.old }
-    ensures { Put out.old at (numbered text.now n) out.new result }
-{
-    let from = put_text(text, &mut *out, at);
-    let end = put_decimal(n, &mut *out, from);
-    put_text(b"\n", &mut *out, end)
-}
-
-fn put_wrote(o: u32, s: u32, out: &mut [u8], at: usize) -> usize
-    requires { at + 40 ≤ length out.old }
-    ensures { Put out.old at (87 ∷ 32 ∷ name_bytes o s ++ (10 ∷ [])) out.new result }
-{
-    let from = put_text(b"W ", &mut *out, at);
-    put_name(o, s, &mut *out, from)
-}
-
-fn put_found(v: u32, o: u32, s: u32, out: &mut [u8], at: usize) -> usize
-    requires { at + 40 ≤ length out.old }
-    ensures { Put out.old at (82 ∷ 32 ∷ decimal v ++ (32 ∷ name_bytes o s ++ (10 ∷ []))) out.new result }
-{
-    let from = put_text(b"R ", &mut *out, at);
-    let end = put_decimal(v, &mut *out, from);
-    let name = put_text(b" ", &mut *out, end);
-    put_name(o, s, &mut *out, name)
+impl Row<'_> {
+    #[tactic(auto, using(crate::proofs::Decimals::ten_enough, crate::proofs::Decimals::name_length))]
+    fn reply(&mut self, reply: Reply)
+        requires { self.old.at + 40 ≤ length self.old.out.now }
+        ensures puts { Puts self.old (reply_bytes reply) self.new }
+        ensures short { self.new.at ≤ self.old.at + 40 }
+    {
+        match reply {
+            Reply::Wrote(o, s) => {
+                self.text(b"W ");
+                self.name(o, s);
+            }
+            Reply::Found(v, o, s) => {
+                self.text(b"R ");
+                self.decimal(v);
+                self.text(b" ");
+                self.name(o, s);
+            }
+            Reply::NoEntry => self.text(b"R none"),
+            Reply::Moved => self.text(b"M ok"),
+            Reply::Received(n) => {
+                self.text(b"H ");
+                self.decimal(n);
+            }
+            Reply::NoFrame => self.text(b"H none"),
+            Reply::Refused(n) => {
+                self.text(b"refused ");
+                self.decimal(n);
+            }
+            Reply::Full => self.text(b"full"),
+            Reply::Odd => self.text(b"line?"),
+        }
+        self.text(b"\n");
+    }
 }
 
 // Puts the reply at `at`, and answers where it ends.
-#[tactic(auto, unfolding(crate::specs::Replies::reply_bytes))]
 pub fn put_reply(reply: Reply, out: &mut [u8], at: usize) -> usize
     requires { at + 40 ≤ length out.old }
     ensures { (result ≡ at + length (reply_bytes reply)) × (out.new ≡ sets out.old at (reply_bytes reply)) × (result ≤ at + 40) }
 {
-    match reply {
-        Reply::Wrote(o, s) => put_wrote(o, s, out, at),
-        Reply::Found(v, o, s) => put_found(v, o, s, out, at),
-        Reply::NoEntry => put_text(b"R none\n", out, at),
-        Reply::Moved => put_text(b"M ok\n", out, at),
-        Reply::Received(n) => put_numbered(b"H ", n, out, at),
-        Reply::NoFrame => put_text(b"H none\n", out, at),
-        Reply::Refused(n) => put_numbered(b"refused ", n, out, at),
-        Reply::Full => put_text(b"full\n", out, at),
-        Reply::Odd => put_text(b"line?\n", out, at),
-    }
+    let mut row = Row { out, at };
+    row.reply(reply);
+    row.at
 }

@@ -14,7 +14,7 @@ use Rattle.frame.proofs.Entries.{EntryFacts, entry_facts, facts_entry}
 use Rattle.frame.proofs.Ids.{ids_of_lem, ids_range}
 use Rattle.store.specs.Offices.{need, slot_at, entry_at}
 use Rattle.store.specs.Slots.{fits, slot_ok}
-use Rattle.store.specs.Deps.{Looks, LooksAll, clock_at, ids_fine, lone_ok, of_word, of_words, gathered_to, gathered_in}
+use Rattle.store.specs.Deps.{Look, LookAll, clock_at, ids_fine, lone_ok, of_word, of_words, gathered_to, gathered_in}
 use Rattle.store.specs.declared.sound.Looked.{Looked}
 use Rattle.store.proofs.Keep.{part_ids}
 
@@ -94,32 +94,25 @@ module _ (ws : List ℕ) (may : List ℕ → Bool) (p i w : ℕ) (first before :
   look_none =
       record { lone = all_none _; clocks = sym (ap (both (is_empty first)) (all_none _) ∙ both_one _); gathered = refl }
 
-  pub look_more : (b rest t : ℕ) (bad deps : List ℕ) → Next w b rest t → Below b bad deps → (r : Bool) → r ≡ lone_ok ws p i t → not r ≡ false
+  pub look_more : (b rest t : ℕ) (bad deps : List ℕ) → Next w b rest t → Below b bad deps → (r : Bool) → r ≡ lone_ok ws p i t → r ≡ true
       → (clock over worse : List ℕ) → clock ≡ (entry_at ws (32 * i + t)).clock → is_empty over ≡ may clock → worse ≡ unite bad over
       → (d more : List ℕ) → d ≡ (entry_at ws (32 * i + t)).deps → more ≡ unite deps d → Below (t + 1) worse more
   look_more b rest t bad deps x B r e f clock over worse k o q d more y z =
       record {
-        lone = bits_more w (lone_ok ws p i) b rest t x ∙ both_intro _ _ B.lone (sym e ∙ not-false r f);
+        lone = bits_more w (lone_ok ws p i) b rest t x ∙ both_intro _ _ B.lone (sym e ∙ f);
         clocks = clocks_more b rest t bad clock over worse x B.clocks k o q;
         gathered = deps_more ws i w before b rest t deps d more x B.gathered y z;
       }
 
-  pub look_fails : (b rest t : ℕ) (bad deps : List ℕ) → Next w b rest t → (r : Bool) → r ≡ lone_ok ws p i t → not r ≡ true
-      → Looks ws may p i w first before (record { ok = false; bad = bad; deps = deps })
-  look_fails b rest t bad deps x r e f =
-      record {
-        lone = bits_fail w (lone_ok ws p i) b rest t x (sym e ∙ not-true r f);
-        clocks = λ (h : false ≡ true). false_true h;
-        gathered = λ (h : false ≡ true). false_true h;
-      }
+  pub look_fails : (b rest t : ℕ) → Next w b rest t → (r : Bool) → r ≡ lone_ok ws p i t → r ≡ false → of_word w (lone_ok ws p i) ≡ false
+  look_fails b rest t x r e f = sym (bits_fail w (lone_ok ws p i) b rest t x (sym e ∙ f))
 
-  pub look_done : (b rest : ℕ) (bad deps : List ℕ) → Passed w b rest → rest ≡ 0 → Below b bad deps
-      → Looks ws may p i w first before (record { ok = true; bad = bad; deps = deps })
-  look_done b rest bad deps x z B =
+  pub look_done : (b rest : ℕ) (x : Looked) → Passed w b rest → rest ≡ 0 → Below b x.bad x.deps → Look ws may p i w first before x
+  look_done b rest x q z B =
       record {
-        lone = sym (bits_done w (lone_ok ws p i) b rest x z ∙ B.lone);
-        clocks = λ h. B.clocks ∙ ap (both (is_empty first)) (sym (bits_done w (clock_at ws may i) b rest x z));
-        gathered = λ h. deps_done ws i w before b rest deps x z B.gathered;
+        lone = bits_done w (lone_ok ws p i) b rest q z ∙ B.lone;
+        clocks = B.clocks ∙ ap (both (is_empty first)) (sym (bits_done w (clock_at ws may i) b rest q z));
+        gathered = deps_done ws i w before b rest x.deps q z B.gathered;
       }
 
 -- ---- all words
@@ -145,78 +138,60 @@ module _ (ws v : List ℕ) where
 -- what is known of the first i words
 module _ (ws : List ℕ) (may : List ℕ → Bool) (n p : ℕ) (ids : List ℕ) where
   pub record Upto (i : ℕ) (r : Looked) : Type 0 where
-    pub fine : r.ok ≡ true
     pub lone : all_below i (λ j. of_word (get_or ids j 0) (lone_ok ws p j)) ≡ true
     pub clocks : is_empty r.bad ≡ all_below i (λ j. of_word (get_or ids j 0) (clock_at ws may j))
     pub gathered : r.deps ≡ gathered_to ws ids (32 * i)
 
-  pub words_none : Upto 0 (record { ok = true; bad = zeros; deps = zeros })
+  pub words_none : Upto 0 (record { bad = zeros; deps = zeros })
   unfolding is_empty all_below both
-  words_none = record { fine = refl; lone = refl; clocks = refl; gathered = deps_none ws ids }
+  words_none = record { lone = refl; clocks = refl; gathered = deps_none ws ids }
 
-  pub words_more : (i : ℕ) (b r : Looked) → Upto i b → Looks ws may p i (get_or ids i 0) b.bad b.deps r → r.ok ≡ true → Upto (i + 1) r
+  pub words_more : (i : ℕ) (b r : Looked) → Upto i b → Look ws may p i (get_or ids i 0) b.bad b.deps r → Upto (i + 1) r
   unfolding all_below
-  words_more i b r B L h =
+  words_more i b r B L =
       record {
-        fine = h;
-        lone = all_more (λ j. of_word (get_or ids j 0) (lone_ok ws p j)) i B.lone (sym L.lone ∙ h);
+        lone = all_more (λ j. of_word (get_or ids j 0) (lone_ok ws p j)) i B.lone L.lone;
         clocks =
-            L.clocks h ∙ ap (λ (x : Bool). both x (of_word (get_or ids i 0) (clock_at ws may i))) B.clocks
+            L.clocks ∙ ap (λ (x : Bool). both x (of_word (get_or ids i 0) (clock_at ws may i))) B.clocks
             ∙ ap (λ (j : ℕ). all_below j (λ j. of_word (get_or ids j 0) (clock_at ws may j))) (sym (add-one i));
-        gathered = deps_next ws ids i b.deps r.deps B.gathered (L.gathered h);
+        gathered = deps_next ws ids i b.deps r.deps B.gathered L.gathered;
       }
 
-  pub words_fail : (i : ℕ) (b r : Looked) → i < n → Looks ws may p i (get_or ids i 0) b.bad b.deps r → not r.ok ≡ true → LooksAll ws may n p ids r
+  pub words_fail : (i : ℕ) → i < n → of_word (get_or ids i 0) (lone_ok ws p i) ≡ false → of_words n ids (lone_ok ws p) ≡ false
   unfolding of_words
-  words_fail i b r l L h =
-      let no = not-true r.ok h in
-      record {
-        lone = no ∙ sym (all_fails (λ j. of_word (get_or ids j 0) (lone_ok ws p j)) n i l (sym L.lone ∙ no));
-        clocks = λ e. false_true (sym no ∙ e);
-        gathered = λ e. false_true (sym no ∙ e);
-      }
+  words_fail i l h = all_fails (λ j. of_word (get_or ids j 0) (lone_ok ws p j)) n i l h
 
-  pub words_done : (i : ℕ) (r : Looked) → Upto i r → i ≤ n → n ≤ i → LooksAll ws may n p ids r
+  pub words_done : (i : ℕ) (r : Looked) → Upto i r → i ≡ n → LookAll ws may n p ids r
   unfolding of_words
-  words_done i r B l m =
-      let q : i ≡ n = omega arith in
+  words_done i r B q =
       record {
-        lone = B.fine ∙ sym (ap (λ (j : ℕ). all_below j (λ j. of_word (get_or ids j 0) (lone_ok ws p j))) (sym q) ∙ B.lone);
-        clocks = λ h. B.clocks ∙ ap (λ (j : ℕ). all_below j (λ j. of_word (get_or ids j 0) (clock_at ws may j))) q;
-        gathered = λ h. B.gathered ∙ ap (λ (j : ℕ). gathered_to ws ids (32 * j)) q;
+        lone = ap (λ (j : ℕ). all_below j (λ j. of_word (get_or ids j 0) (lone_ok ws p j))) (sym q) ∙ B.lone;
+        clocks = B.clocks ∙ ap (λ (j : ℕ). all_below j (λ j. of_word (get_or ids j 0) (clock_at ws may j))) q;
+        gathered = B.gathered ∙ ap (λ (j : ℕ). gathered_to ws ids (32 * j)) q;
       }
 
   -- by a test that says the same of every clock
-  pub looks_as : (say : List ℕ → Bool) → ((c : List ℕ) → may c ≡ say c) → (r : Looked) → LooksAll ws may n p ids r → LooksAll ws say n p ids r
+  pub looks_as : (say : List ℕ → Bool) → ((c : List ℕ) → may c ≡ say c) → (r : Looked) → LookAll ws may n p ids r → LookAll ws say n p ids r
   unfolding of_words of_word
   looks_as say same r L =
       record {
         lone = L.lone;
         clocks =
-            λ h. L.clocks h
+            L.clocks
             ∙ all_ext _ _ n (λ i l. all_ext _ _ 32 (λ b m. ap (implies (eqb (bit (get_or ids i 0) b) 1)) (same (entry_at ws (32 * i + b)).clock)));
         gathered = L.gathered;
       }
 
 module _ (ws : List ℕ) (n p : ℕ) (ids : List ℕ) where
   -- asked of all at once
-  module _ (all : List ℕ) (r : Looked) (L : LooksAll ws (clock_ok n) n p ids r) where
-    pub not_lone : not r.ok ≡ true → false ≡ ids_fine ws n p ids all
+  module _ (all : List ℕ) where
+    pub not_lone : of_words n ids (lone_ok ws p) ≡ false → false ≡ ids_fine ws n p ids all
     unfolding ids_fine both
-    not_lone h =
-        ap (λ (b : Bool). both b (both (of_words n ids (clock_at ws (clock_ok n))) (subset_of (gathered_to ws ids (32 * n)) all))) (sym (not-true r.ok h) ∙ L.lone)
+    not_lone h = rw h
 
-    pub not_clocks : not r.ok ≡ false → (e : Bool) → e ≡ is_empty r.bad → not e ≡ true → false ≡ ids_fine ws n p ids all
+    pub all_asked : (r : Looked) → LookAll ws (clock_ok n) n p ids r → both (is_empty r.bad) (subset_of r.deps all) ≡ ids_fine ws n p ids all
     unfolding ids_fine both
-    not_clocks h e q k =
-        let ok = not-false r.ok h in
-        (λ i. both ((sym ok ∙ L.lone) i) (both ((sym (not-true e k) ∙ q ∙ L.clocks ok) i) (subset_of (gathered_to ws ids (32 * n)) all)))
-
-    pub deps_asked : not r.ok ≡ false → (e : Bool) → e ≡ is_empty r.bad → not e ≡ false → (x : Bool) → x ≡ subset_of r.deps all → x ≡ ids_fine ws n p ids all
-    unfolding ids_fine both
-    deps_asked h e q k x y =
-        let ok = not-false r.ok h in
-        y ∙ (λ i. both ((sym ok ∙ L.lone) i) (both ((sym (not-false e k) ∙ q ∙ L.clocks ok) i) (subset_of (L.gathered ok i) all)))
+    all_asked r L = rw (L.lone, L.clocks, L.gathered)
 
   -- one id of a set
   pub words_at : (f : ℕ → ℕ → Bool) → of_words n ids f ≡ true → (k : ℕ) → k < 32 * n → has ids k ≡ 1 → f (k / 32) (k % 32) ≡ true

@@ -11,6 +11,7 @@ pub mod Rules
 pub mod Deps
 pub mod Places
 pub mod Ready
+pub mod Steps
 pub mod Joins
 pub mod Alike
 pub mod Changes

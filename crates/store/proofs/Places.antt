@@ -10,26 +10,6 @@ use Rattle.store.specs.Current.{InSlots, better_at, weighed, place_to, place_in,
 
 -- ---- one id
 
-module _ (ws : List ℕ) (plot k : ℕ) (best : Option ℕ) (x : ℕ) (e : x ≡ (entry_at ws k).plot) where
-  pub weigh_skip : (x ≡ plot → ⊥) → best ≡ weighed ws plot k best
-  unfolding weighed
-  weigh_skip n = rw (ne_eqb (entry_at ws k).plot plot (λ q. n (e ∙ q)))
-
-  pub weigh_first : x ≡ plot → best ≡ None → Some k ≡ weighed ws plot k best
-  unfolding weighed better_at
-  weigh_first h b = rw (eq-eqb (entry_at ws k).plot plot (sym e ∙ h), b)
-
-  pub weigh_new : (b : ℕ) (r : Bool) → x ≡ plot → best ≡ Some b → r ≡ outranks (entry_at ws k) (entry_at ws b) → r ≡ true → Some k ≡ weighed ws plot k best
-  unfolding weighed better_at
-  weigh_new b r h o f t = rw (eq-eqb (entry_at ws k).plot plot (sym e ∙ h), o, sym f ∙ t)
-
-  pub weigh_old : (b : ℕ) (r : Bool) → x ≡ plot → best ≡ Some b → r ≡ outranks (entry_at ws k) (entry_at ws b) → r ≡ false → Some b ≡ weighed ws plot k best
-  unfolding weighed better_at
-  weigh_old b r h o f t = rw (eq-eqb (entry_at ws k).plot plot (sym e ∙ h), o, sym f ∙ t)
-
-pub in_slots_at : (m : ℕ) (best : Option ℕ) (b : ℕ) → InSlots m best → best ≡ Some b → (b < 256) × (slot_at b + 18 ≤ m)
-in_slots_at m best b h e = rw e at h
-
 pub in_slots : (ws : List ℕ) (m plot k : ℕ) (best : Option ℕ) → k < 256 → slot_at k + 18 ≤ m → InSlots m best → InSlots m (weighed ws plot k best)
 unfolding weighed better_at
 in_slots ws m plot k best l h o = go (eqb (entry_at ws k).plot plot)

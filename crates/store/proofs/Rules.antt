@@ -107,6 +107,21 @@ rules_of ws h =
 pub laid : (ws : List ℕ) → sound_store ws ≡ true → Laid ws
 laid ws h = (rules_of ws h).laid
 
+-- the numbers of a store that is sound, and of one that is laid, for `using`
+pub sound_few : (ws : List ℕ) → sound_store ws ≡ true → get_or ws 0 0 ≤ 8
+sound_few ws h = (rules_of ws h).laid.few
+
+pub sound_own : (ws : List ℕ) → sound_store ws ≡ true → get_or ws 1 0 < get_or ws 0 0
+sound_own ws h = (rules_of ws h).laid.own
+
+pub sound_long : (ws : List ℕ) → sound_store ws ≡ true → need (get_or ws 0 0) ≤ length ws
+sound_long ws h = (rules_of ws h).laid.long
+
+pub sound_front : (ws : List ℕ) → sound_store ws ≡ true → 19 ≤ length ws
+sound_front ws h = let l = laid ws h in omega (arith, l.long)
+
+pub ruleset numbers = (sound_few, sound_own, sound_long, sound_front, laid)
+
 -- of a held id
 pub record Held (ws : List ℕ) (k : ℕ) : Type 0 where
   pub small : k < 256

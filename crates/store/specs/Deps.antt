@@ -1,5 +1,5 @@
 -- Held slots as code asks them: the rules that the words of a slot say by themselves, and the deps of a set of ids, gathered. Assumes nothing.
-use Rattle.std.specs.Prelude.{◌≡◌, ℕ, zero, suc, ◌+◌, ◌*◌, Bool, true, cond, List, ◌==◌, nat_lt, slice_index}
+use Rattle.std.specs.Prelude.{◌≡◌, ℕ, zero, suc, ◌+◌, ◌*◌, Bool, true, false, cond, List, Option, MatchOption, ◌==◌, nat_lt, slice_index}
 use Rattle.causal.specs.Tests.{both, implies, all_below}
 use Rattle.causal.specs.Lists.{zeros}
 use Rattle.causal.specs.Sets.{bit, is_empty, is_in, subset_of, unite}
@@ -35,18 +35,24 @@ unfoldable pub gathered_in : List ℕ → ℕ → ℕ → ℕ → List ℕ → L
 gathered_in ws i w zero before = before
 gathered_in ws i w (suc b) before = cond (bit w b == 1) (unite (gathered_in ws i w b before) (entry_at ws (32 * i + b)).deps) (gathered_in ws i w b before)
 
--- what the slots of word i of a set say, and those before: of each whether it keeps the rules of single words; if so, no bit of `bad` is set
--- where all clocks may be so (`may`), and `deps` has the deps of all
-pub record Looks (ws : List ℕ) (may : List ℕ → Bool) (p i w : ℕ) (bad deps : List ℕ) (r : Looked) : Type 0 where
-  pub lone : r.ok ≡ of_word w (lone_ok ws p i)
-  pub clocks : r.ok ≡ true → is_empty r.bad ≡ both (is_empty bad) (of_word w (clock_at ws may i))
-  pub gathered : r.ok ≡ true → r.deps ≡ gathered_in ws i w 32 deps
+-- what the slots of word i of a set say, and those before: each keeps the rules of single words; no bit of `bad` is set where all clocks
+-- may be so (`may`); `deps` has the deps of all. None where a slot breaks those rules
+pub record Look (ws : List ℕ) (may : List ℕ → Bool) (p i w : ℕ) (bad deps : List ℕ) (x : Looked) : Type 0 where
+  pub lone : of_word w (lone_ok ws p i) ≡ true
+  pub clocks : is_empty x.bad ≡ both (is_empty bad) (of_word w (clock_at ws may i))
+  pub gathered : x.deps ≡ gathered_in ws i w 32 deps
+
+abbrev pub Looks : List ℕ → (List ℕ → Bool) → ℕ → ℕ → ℕ → List ℕ → List ℕ → Option Looked → Type 0
+Looks ws may p i w bad deps r = MatchOption r (of_word w (lone_ok ws p i) ≡ false) (Look ws may p i w bad deps)
 
 -- the same of all words of a set that are of the ring
-pub record LooksAll (ws : List ℕ) (may : List ℕ → Bool) (n p : ℕ) (ids : List ℕ) (r : Looked) : Type 0 where
-  pub lone : r.ok ≡ of_words n ids (lone_ok ws p)
-  pub clocks : r.ok ≡ true → is_empty r.bad ≡ of_words n ids (clock_at ws may)
-  pub gathered : r.ok ≡ true → r.deps ≡ gathered_to ws ids (32 * n)
+pub record LookAll (ws : List ℕ) (may : List ℕ → Bool) (n p : ℕ) (ids : List ℕ) (x : Looked) : Type 0 where
+  pub lone : of_words n ids (lone_ok ws p) ≡ true
+  pub clocks : is_empty x.bad ≡ of_words n ids (clock_at ws may)
+  pub gathered : x.deps ≡ gathered_to ws ids (32 * n)
+
+abbrev pub LooksAll : List ℕ → (List ℕ → Bool) → ℕ → ℕ → List ℕ → Option Looked → Type 0
+LooksAll ws may n p ids r = MatchOption r (of_words n ids (lone_ok ws p) ≡ false) (LookAll ws may n p ids)
 
 -- the slots of a set of ids keep the rules, and their deps are in another set
 unfoldable pub ids_fine : List ℕ → ℕ → ℕ → List ℕ → List ℕ → Bool

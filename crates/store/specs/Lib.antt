@@ -4,3 +4,4 @@ pub mod Slots
 pub mod Deps
 pub mod Current
 pub mod Tops
+pub mod Bits

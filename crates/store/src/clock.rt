@@ -5,15 +5,17 @@ ghost use Rattle.store.specs.Slots.{Laid};
 ghost use Rattle.store.specs.Current.{WordReaches};
 ghost use Rattle.store.specs.Tops.{tops_in};
 
+use crate::bits::Bits;
 use crate::layout;
 
 // How many entries the office made.
+#[tactic(auto, using(crate::proofs::Joins::made_is))]
 pub fn made(store: &[u32]) -> u32
     requires { Laid store.now }
     ensures { result ≡ made_of (office_of store.now) }
 {
     let own = store[1] as usize;
-    u32::count_ones(store[3 + own])
+    store[3 + own].count_ones()
 }
 
 // w is word i of a set: the join of the clocks of its ids and of the clock before.
@@ -22,18 +24,15 @@ fn tops_in(store: &[u32], i: usize, w: u32, before: [u32; 8]) -> [u32; 8]
     ensures { result ≡ tops_in store.now i w 32 before }
 {
     let mut tops = before;
-    let mut rest = w;
-    while rest != 0 {
-        let k = 32 * i + u32::trailing_zeros(rest) as usize;
-        let clock = layout::clock_at(store, k);
-        let more = causal::clock::join(tops, clock);
+    for b in Bits(w) {
+        let more = causal::clock::join(tops, layout::clock_at(store, 32 * i + b));
         tops = more;
-        rest = rest & (rest - 1);
     }
     tops
 }
 
 // At its own place how many entries it made, elsewhere the greatest number among visible entries.
+#[tactic(auto, using(crate::proofs::Rules::numbers))]
 pub fn office_clock(store: &[u32]) -> [u32; 8]
     requires { sound_store store.now ≡ true }
     ensures { result ≡ clock_of (office_of store.now) }
@@ -41,8 +40,8 @@ pub fn office_clock(store: &[u32]) -> [u32; 8]
     let visible = layout::set_at(store, 11);
     let n = store[0] as usize;
     let mut tops = [0u32; 8];
-    for i in 0..n {
-        let more = tops_in(store, i, visible[i], tops);
+    for (i, &w) in visible[..n].iter().enumerate() {
+        let more = tops_in(store, i, w, tops);
         tops = more;
     }
     let own = store[1] as usize;

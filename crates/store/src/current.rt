@@ -6,9 +6,11 @@ ghost use Rattle.frame.specs.Entries.{outranks};
 ghost use Rattle.store.specs.Offices.{slot_at, entry_at, sound_store};
 ghost use Rattle.store.specs.Current.{WordReaches, InSlots, weighed, place_in, current_at};
 
+use crate::bits::Bits;
 use crate::layout;
 
 // Does the entry in slot j outrank that in slot k?
+#[tactic(auto, unfolding(crate::specs::Offices::entry_at, frame::specs::Entries::outranks))]
 fn ranks_above(store: &[u32], j: usize, k: usize) -> bool
     requires { (j < 256) × (k < 256) × (slot_at j + 18 ≤ length store.now) × (slot_at k + 18 ≤ length store.now) }
     ensures { result ≡ outranks (entry_at store.now j) (entry_at store.now k) }
@@ -19,6 +21,7 @@ fn ranks_above(store: &[u32], j: usize, k: usize) -> bool
 }
 
 // The better of id k, if it is on the plot, and the best so far.
+#[tactic(auto, unfolding(crate::specs::Current::weighed, crate::specs::Current::better_at), using(std::proofs::lemmas::Bool::Decides::nat_tests))]
 fn weigh(store: &[u32], plot: u32, k: usize, best: Option<usize>) -> Option<usize>
     requires { (k < 256) × (slot_at k + 18 ≤ length store.now) × InSlots (length store.now) best }
     ensures { result ≡ weighed store.now plot k best }
@@ -38,24 +41,22 @@ fn best_in(store: &[u32], plot: u32, i: usize, w: u32, before: Option<usize>) ->
     ensures { result ≡ place_in store.now plot i w 32 before }
 {
     let mut best = before;
-    let mut rest = w;
-    while rest != 0 {
-        let k = 32 * i + u32::trailing_zeros(rest) as usize;
-        best = weigh(store, plot, k, best);
-        rest = rest & (rest - 1);
+    for b in Bits(w) {
+        best = weigh(store, plot, 32 * i + b, best);
     }
     best
 }
 
 // The id of the current entry where the visible set is the one given.
+#[tactic(auto, using(crate::proofs::Rules::numbers))]
 pub fn current(store: &[u32], visible: [u32; 8], plot: u32) -> Option<usize>
     requires { (sound_store store.now ≡ true) × (subset_of visible (part store.now 3 8) ≡ true) }
     ensures { result ≡ current_at store.now visible plot }
 {
     let n = store[0] as usize;
     let mut best = None;
-    for i in 0..n {
-        best = best_in(store, plot, i, visible[i], best);
+    for (i, &w) in visible[..n].iter().enumerate() {
+        best = best_in(store, plot, i, w, best);
     }
     best
 }

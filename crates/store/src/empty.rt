@@ -2,8 +2,6 @@
 ghost use Rattle.std.specs.Prelude.{◌≡◌, ◌≤◌, length};
 ghost use Rattle.store.specs.Slots.{empty_words};
 
-use crate::layout;
-
 // Settings, and nothing held. What the slots have means nothing, and stays.
 pub fn lay_empty(store: &mut [u32], offices: u32, own: u32, plots: u32)
     requires { 19 ≤ length store.old }
@@ -12,7 +10,5 @@ pub fn lay_empty(store: &mut [u32], offices: u32, own: u32, plots: u32)
     store[0] = offices;
     store[1] = own;
     store[2] = plots;
-    let none = [0u32; 8];
-    layout::put(&mut *store, 3, none);
-    layout::put(&mut *store, 11, none);
+    store[3..19].fill(0);
 }

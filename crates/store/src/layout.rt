@@ -8,13 +8,11 @@ ghost use Rattle.store.specs.Offices.{need, slot_at, entry_at, settings_ok};
 use frame::entry::Entry;
 
 // Offices 2 to 8, plots 1 to 64, the own office one of the ring.
+#[tactic(auto, unfolding(crate::specs::Offices::settings_ok, causal::specs::Tests::both), using(std::proofs::lemmas::Bool::Decides::nat_tests))]
 pub fn settings_ok(offices: u32, own: u32, plots: u32) -> bool
     ensures { result ≡ settings_ok offices own plots }
 {
-    if !frame::entry::ring_ok(offices, plots) {
-        return false;
-    }
-    own < offices
+    frame::entry::ring_ok(offices, plots) && own < offices
 }
 
 // The words of a store.
@@ -25,23 +23,16 @@ pub fn need_of(offices: u32) -> usize
 }
 
 // The eight words from `at` on.
+#[tactic(auto, unfolding(causal::specs::Lists::part))]
 pub fn set_at(store: &[u32], at: usize) -> [u32; 8]
     requires { at + 8 ≤ length store.now }
     ensures { result ≡ part store.now at 8 }
 {
-    [
-        store[at],
-        store[at + 1],
-        store[at + 2],
-        store[at + 3],
-        store[at + 4],
-        store[at + 5],
-        store[at + 6],
-        store[at + 7],
-    ]
+    *store[at..].first_chunk().unwrap()
 }
 
 // Plot, clock and deps of the entry in the slot of id k.
+#[tactic(auto, unfolding(crate::specs::Offices::entry_at))]
 pub fn plot_at(store: &[u32], k: usize) -> u32
     requires { slot_at k + 18 ≤ length store.now }
     ensures { result ≡ (entry_at store.now k).plot }
@@ -49,6 +40,7 @@ pub fn plot_at(store: &[u32], k: usize) -> u32
     store[19 + 18 * k]
 }
 
+#[tactic(auto, unfolding(crate::specs::Offices::entry_at))]
 pub fn clock_at(store: &[u32], k: usize) -> [u32; 8]
     requires { slot_at k + 18 ≤ length store.now }
     ensures { result ≡ (entry_at store.now k).clock }
@@ -56,6 +48,7 @@ pub fn clock_at(store: &[u32], k: usize) -> [u32; 8]
     set_at(store, 19 + 18 * k + 2)
 }
 
+#[tactic(auto, unfolding(crate::specs::Offices::entry_at))]
 pub fn deps_at(store: &[u32], k: usize) -> [u32; 8]
     requires { slot_at k + 18 ≤ length store.now }
     ensures { result ≡ (entry_at store.now k).deps }
@@ -64,29 +57,27 @@ pub fn deps_at(store: &[u32], k: usize) -> [u32; 8]
 }
 
 // The entry itself.
+#[tactic(auto, unfolding(crate::specs::Offices::entry_at))]
 pub fn entry_at(store: &[u32], k: usize) -> Entry
     requires { (k < 256) × (slot_at k + 18 ≤ length store.now) }
     ensures { result ≡ entry_at store.now k }
 {
-    let clock = clock_at(store, k);
-    let deps = deps_at(store, k);
     Entry {
         office: (k / 32) as u32,
         serial: (k % 32 + 1) as u32,
         plot: plot_at(store, k),
         value: store[19 + 18 * k + 1],
-        clock,
-        deps,
+        clock: clock_at(store, k),
+        deps: deps_at(store, k),
     }
 }
 
 // Stores eight words from `at` on.
+#[tactic(auto, using(causal::proofs::Copies::stored))]
 pub fn put(store: &mut [u32], at: usize, xs: [u32; 8])
     requires { at + 8 ≤ length store.old }
     ensures laid { store.new ≡ sets store.old at xs }
     ensures eight { length xs ≡ 8 }
 {
-    for j in 0..8 {
-        store[at + j] = xs[j];
-    }
+    store[at..at + 8].copy_from_slice(&xs);
 }

@@ -7,6 +7,7 @@ ghost use Rattle.store.specs.Offices.{slot_at, entry_at};
 use frame::entry::Entry;
 
 // Has the slot of e's id the content of e?
+#[tactic(auto, unfolding(frame::specs::Entries::same_content, crate::specs::Offices::entry_at, causal::specs::Tests::both), using(std::proofs::lemmas::Bool::Decides::nat_tests, crate::proofs::Eights::part_words))]
 pub fn has_content(store: &[u32], e: &Entry) -> bool
     requires { slot_at (id_of e.now) + 18 ≤ length store.now }
     ensures { result ≡ same_content e.now (entry_at store.now (id_of e.now)) }

@@ -7,94 +7,73 @@ ghost use Rattle.store.specs.Offices.{need, slot_at, office_of, sound_office, so
 ghost use Rattle.store.specs.Slots.{Laid, no_gap, slot_ok};
 ghost use Rattle.store.specs.Deps.{Looks, LooksAll, ids_fine, lone_ok};
 
+use crate::bits::Bits;
 use crate::layout;
 
 // Are the bits of w that are set the lowest ones?
+#[tactic(auto, using(crate::proofs::Gaps::no_gap_lem))]
 fn no_gap(w: u32) -> bool
     ensures { result ≡ no_gap w }
 {
-    w & std::num::wrapping_add_u32(w, 1) == 0
+    w & w.wrapping_add(1) == 0
 }
 
 // The rules that single words of a slot say: the slot of serial b + 1 of office i.
-fn slot_ok(store: &[u32], p: u32, i: usize, b: u32) -> bool
+#[tactic(auto, unfolding(crate::specs::Deps::lone_ok, causal::specs::Sets::bit, causal::specs::Tests::both), using(std::proofs::lemmas::Bool::Decides::nat_tests))]
+fn slot_ok(store: &[u32], p: u32, i: usize, b: usize) -> bool
     requires { (slot_at (32 * i + b) + 18 ≤ length store.now) × (i < 8) × (b < 32) }
     ensures { result ≡ lone_ok store.now p i b }
 {
-    let at = 19 + 18 * (32 * i + b as usize);
-    if store[at] >= p {
-        return false;
-    }
-    if store[at + 1] >= 0x1000_0000 {
-        return false;
-    }
-    if store[at + 2 + i] != b + 1 {
-        return false;
-    }
-    (store[at + 10 + i] >> b) % 2 == 0
+    let at = 19 + 18 * (32 * i + b);
+    store[at] < p
+        && store[at + 1] < 0x1000_0000
+        && store[at + 2 + i] as usize == b + 1
+        && (store[at + 10 + i] >> b) % 2 == 0
 }
 
-// What the slots of some ids say: whether single words keep the rules; then what is wrong with their clocks, and their deps, each of all
+// What the slots of some ids say that keep the rules of single words: what is wrong with their clocks, and their deps, each of all
 // together, to be asked once.
 #[derive(Clone, Copy)]
 struct Looked {
-    ok: bool,
     bad: [u32; 8],
     deps: [u32; 8],
 }
 
-// Of the ids that word i of a set has, w, and those before; no clock may be over `most`.
-fn look(store: &[u32], most: [u32; 8], p: u32, i: usize, w: u32, before: Looked) -> Looked
+// Of the ids that word i of a set has, w, and those before; no clock may be over `most`. None where a slot breaks a rule of single words.
+fn look(store: &[u32], most: [u32; 8], p: u32, i: usize, w: u32, before: Looked) -> Option<Looked>
     requires { (need i + 576 ≤ length store.now) × (i < 8) }
     ensures { Looks store.now (under_ok most) p i w before.bad before.deps result }
 {
-    let mut bad = before.bad;
-    let mut deps = before.deps;
-    let mut rest = w;
-    while rest != 0 {
-        let b = u32::trailing_zeros(rest);
+    let mut looked = before;
+    for b in Bits(w) {
         if !slot_ok(store, p, i, b) {
-            return Looked {
-                ok: false,
-                bad,
-                deps,
-            };
+            return None;
         }
-        let k = 32 * i + b as usize;
+        let k = 32 * i + b;
         let over = frame::entry::overs(most, layout::clock_at(store, k));
-        let worse = causal::set::union(bad, over);
-        let more = causal::set::union(deps, layout::deps_at(store, k));
-        bad = worse;
-        deps = more;
-        rest = rest & (rest - 1);
+        looked = Looked {
+            bad: causal::set::union(looked.bad, over),
+            deps: causal::set::union(looked.deps, layout::deps_at(store, k)),
+        };
     }
-    Looked {
-        ok: true,
-        bad,
-        deps,
-    }
+    Some(looked)
 }
 
 // Of all ids of a set that are of the ring.
-fn look_all(store: &[u32], n: usize, p: u32, ids: [u32; 8]) -> Looked
+fn look_all(store: &[u32], n: usize, p: u32, ids: [u32; 8]) -> Option<Looked>
     requires { (need n ≤ length store.now) × (n ≤ 8) }
     ensures { LooksAll store.now (clock_ok n) n p ids result }
 {
     let most = frame::entry::mosts(n);
     let none = [0u32; 8];
     let mut looked = Looked {
-        ok: true,
         bad: none,
         deps: none,
     };
-    for i in 0..n {
-        let next = look(store, most, p, i, ids[i], looked);
-        looked = next;
-        if !looked.ok {
-            return looked;
-        }
+    for (i, &w) in ids[..n].iter().enumerate() {
+        looked = look(store, most, p, i, w, looked)?;
     }
-    looked
+    Some(looked)
 }
 
 // Do the slots of a set of ids keep the rules, with their deps in another set?
@@ -102,16 +81,10 @@ fn ids_fine(store: &[u32], n: usize, p: u32, ids: [u32; 8], all: [u32; 8]) -> bo
     requires { (need n ≤ length store.now) × (n ≤ 8) }
     ensures { result ≡ ids_fine store.now n p ids all }
 {
-    let looked = look_all(store, n, p, ids);
-    if !looked.ok {
-        return false;
+    match look_all(store, n, p, ids) {
+        Some(looked) => causal::set::is_empty(looked.bad) && causal::set::subset(looked.deps, all),
+        None => false,
     }
-    let bad = looked.bad;
-    let deps = looked.deps;
-    if !causal::set::is_empty(bad) {
-        return false;
-    }
-    causal::set::subset(deps, all)
 }
 
 // All held slots: ids of the ring, the rules of each, deps of visible ones visible, deps of hidden ones held. So deps of visible ones are
@@ -121,14 +94,9 @@ fn slots_ok(store: &[u32], n: u32, p: u32, held: [u32; 8], visible: [u32; 8]) ->
     ensures { result ≡ all_below 256 (slot_ok store.now n p held visible) }
 {
     let ring = n as usize;
-    if !frame::entry::ids_ok(ring, held) {
-        return false;
-    }
-    if !ids_fine(store, ring, p, visible, visible) {
-        return false;
-    }
-    let hidden = causal::set::without(held, visible);
-    ids_fine(store, ring, p, hidden, held)
+    frame::entry::ids_ok(ring, held)
+        && ids_fine(store, ring, p, visible, visible)
+        && ids_fine(store, ring, p, causal::set::without(held, visible), held)
 }
 
 // What is visible is held, the held slots keep the rules, and the own serials have no gap. Nothing held, nothing to ask.
@@ -141,28 +109,16 @@ fn content_ok(store: &[u32]) -> bool
     if !causal::set::subset(visible, held) {
         return false;
     }
-    if causal::set::is_empty(held) {
-        return true;
-    }
-    if !slots_ok(store, store[0], store[2], held, visible) {
-        return false;
-    }
-    let own = store[1] as usize;
-    no_gap(held[own])
+    causal::set::is_empty(held)
+        || slots_ok(store, store[0], store[2], held, visible) && no_gap(held[store[1] as usize])
 }
 
 // Long enough, settings in range, and the content sound.
 pub fn is_sound(store: &[u32]) -> bool
     ensures { result ≡ sound_store store.now }
 {
-    if store.len() < 19 {
-        return false;
-    }
-    if !layout::settings_ok(store[0], store[1], store[2]) {
-        return false;
-    }
-    if store.len() < layout::need_of(store[0]) {
-        return false;
-    }
-    content_ok(store)
+    store.len() >= 19
+        && layout::settings_ok(store[0], store[1], store[2])
+        && store.len() >= layout::need_of(store[0])
+        && content_ok(store)
 }

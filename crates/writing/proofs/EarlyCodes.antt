@@ -1,5 +1,5 @@
 -- The refusals of a write before the room is known, as code finds them. Assumes nothing.
-use Prim.Native.Nat.{ℕ, zero, suc, ◌≤◌}
+use Prim.Native.Nat.{ℕ, zero, suc}
 use mathlib.Core.Path.{◌≡◌, refl, sym, ◌∙◌}
 use mathlib.Core.Bool.{Bool, true, false}
 use mathlib.Core.List.{List}
@@ -13,8 +13,7 @@ use Rattle.frame.specs.Sessions.{Content, session_ok}
 use Rattle.frame.specs.Tokens.{rows_of}
 use Rattle.store.specs.Offices.{Office, sound_store, made}
 use Rattle.office.specs.Calls.{own_code, write_code, write_sends}
-use Rattle.office.specs.Decide.{bare, start_code}
-use Rattle.office.proofs.OwnCodes.{check_le, or_le, own_le}
+use Rattle.office.specs.Decide.{start_code}
 use Rattle.writing.specs.Writes.{first_codes, second_codes, early_code}
 
 pub write_code_lem : (O : Office) (s : Content) (plot value room : ℕ)
@@ -36,6 +35,10 @@ write_code_lem O s plot value room =
     go false b c d f h x y = refl
 
 -- its first refusals: those that a reading has too, then 4 and 5
+pub start_sound : (ws : List ℕ) (s : Content) → 0 ≡ start_code ws s → sound_store ws ≡ true
+unfolding start_code
+start_sound ws s h = (check_none (sound_store ws) 2 _ (omega arith) (sym h)).0
+
 module _ (ws : List ℕ) (s : Content) (plot value c : ℕ) (e : c ≡ start_code ws s) where
   abbrev Rest : ℕ
   Rest = check (ltb plot (get_or ws 2 0)) 4 (check (ltb value 268435456) 5 0)
@@ -78,17 +81,3 @@ pub early_own : (b : Bool) (O : Office) (s : Content) (plot value x : ℕ) → c
     → second_codes O (length s.own) s.read ≡ 0 → x ≡ own_code O s.own → x ≡ check b 2 (early_code O s plot value)
 unfolding early_code check or_else
 early_own b O s plot value x z w e = let a = check_none b 2 _ (omega arith) z in rw (a.0, a.1, w) e
-
-pub early_le : (b : Bool) (O : Office) (s : Content) (plot value : ℕ) → check b 2 (early_code O s plot value) ≤ 12
-unfolding early_code first_codes second_codes
-early_le b O s plot value =
-    check_le b 2 _ (omega arith)
-    (or_le _ _ (check_le _ 3 _ (omega arith) (check_le _ 4 _ (omega arith) (check_le _ 5 0 (omega arith) (omega arith))))
-    (or_le _ _ (check_le _ 7 _ (omega arith) (check_le _ 6 _ (omega arith) (check_le _ 12 0 (omega arith) (omega arith)))) (own_le O s.own)))
-
--- of a session that carries nothing
-pub early_bare : (b : Bool) (O : Office) (n : ℕ) (clock read : List ℕ) (plot value x : ℕ)
-    → check b 2 (first_codes O.offices O.plots (bare n clock read) plot value) ≡ 0 → x ≡ second_codes O 0 read → x ≡ check b 2 (early_code O (bare n clock read) plot value)
-unfolding own_code
-early_bare b O n clock read plot value zero z e = early_own b O (bare n clock read) plot value 0 z (sym e) refl
-early_bare b O n clock read plot value (suc k) z e = early_second b O (bare n clock read) plot value (suc k) z e (λ (q : suc k ≡ 0). omega arith)

@@ -3,9 +3,11 @@ use Prim.Native.Nat.{ℕ, zero, suc, ◌+◌, ◌-◌, ◌*◌, ◌<◌, ◌≤�
 use mathlib.Core.Path.{◌≡◌, refl, sym, ap, ◌∙◌, subst}
 use mathlib.Core.Bool.{Bool, true, false, cond}
 use mathlib.Core.List.{List, [], ◌∷◌, ◌++◌, map, append_assoc, append-nil}
+use Rattle.std.proofs.Math.ListN.{drop_of_length-le}
+use Rattle.std.proofs.lemmas.List.{drop_more}
 use native.Mathlib.Nat.{zero-add, add-zero, le_refl}
 use native.Mathlib.Omega.{arith}
-use lib.ListN.{length, length-append}
+use lib.ListN.{length, get_or, drop, length-append}
 use lib.Seq.{sets}
 use Rattle.causal.specs.Lists.{tab}
 use Rattle.causal.specs.Sets.{is_in}
@@ -22,7 +24,7 @@ use Rattle.frame.proofs.Tokens.{reads_le}
 use Rattle.store.specs.Offices.{Office}
 use Rattle.office.specs.Calls.{missing}
 use Rattle.office.specs.Steps.{own_at, own_to}
-use Rattle.writing.specs.Writes.{started, frame_if, frames_in, all_frames, AllHeld}
+use Rattle.writing.specs.Writes.{started, frame_if, frames_in, all_frames}
 
 -- ---- one own write
 
@@ -52,77 +54,54 @@ module _ (held : List ℕ) (n : ℕ) (e : Entry) (r : Bool) (k : ℕ) (p : k ≡
   send_turn f at x o y t g a b =
       let z = ap frame_words g ∙ sent t in (a ∙ ap (λ (l : List ℕ). at + length l) z, b ∙ ap (λ (l : List ℕ). sets o at l) z)
 
--- ---- all of them
+-- ---- all of them: what is still to send at a turn of a loop
 
-frames_snoc : (held : List ℕ) (n : ℕ) (es : List Entry) (e : Entry)
-    → frames_in held n (es ++ (e ∷ [])) ≡ frames_in held n es ++ frame_if (is_in held (id_of e)) n e
-unfolding frames_in
-frames_snoc held n [] e = append-nil (frame_if (is_in held (id_of e)) n e)
-frames_snoc held n (x ∷ es) e =
-    ap (λ (l : List ℕ). frame_if (is_in held (id_of x)) n x ++ l) (frames_snoc held n es e)
-    ∙ sym (append_assoc (frame_if (is_in held (id_of x)) n x) (frames_in held n es) (frame_if (is_in held (id_of e)) n e))
+module _ (held : List ℕ) (n : ℕ) (e : Entry) where
+  left_cons : (x : Entry) (own : List Entry) → all_frames held n (x ∷ own) e ≡ frame_if (is_in held (id_of x)) n x ++ all_frames held n own e
+  unfolding all_frames frames_in
+  left_cons x own = append_assoc (frame_if (is_in held (id_of x)) n x) (frames_in held n own) (frame_words (started n e))
 
-module _ (held : List ℕ) (n : ℕ) (own : List Entry) where
-  pub frames_more : (i : ℕ) → frames_in held n (own_to own (i + 1)) ≡ frames_in held n (own_to own i) ++ frame_if (is_in held (id_of (own_at own i))) n (own_at own i)
-  frames_more i = ap (frames_in held n) (tab_more i (own_at own)) ∙ frames_snoc held n (own_to own i) (own_at own i)
+  pub left_more : (own : List Entry) (i : ℕ) (d : Entry) → i < length own
+      → all_frames held n (drop i own) e ≡ frame_if (is_in held (id_of (get_or own i d))) n (get_or own i d) ++ all_frames held n (drop (i + 1) own) e
+  left_more own i d h = ap (λ (es : List Entry). all_frames held n es e) (drop_more own i d h) ∙ left_cons (get_or own i d) (drop (i + 1) own)
 
-  pub length_more : (i : ℕ) → length (frames_in held n (own_to own (i + 1)))
-      ≡ length (frames_in held n (own_to own i)) + length (frame_if (is_in held (id_of (own_at own i))) n (own_at own i))
-  length_more i =
-      ap length (frames_more i) ∙ length-append (frames_in held n (own_to own i)) (frame_if (is_in held (id_of (own_at own i))) n (own_at own i))
+  pub left_length : (own : List Entry) (i : ℕ) (d : Entry) → i < length own → length (all_frames held n (drop i own) e)
+      ≡ length (frame_if (is_in held (id_of (get_or own i d))) n (get_or own i d)) + length (all_frames held n (drop (i + 1) own) e)
+  left_length own i d h =
+      ap length (left_more own i d h)
+      ∙ length-append (frame_if (is_in held (id_of (get_or own i d))) n (get_or own i d)) (all_frames held n (drop (i + 1) own) e)
 
-  frames_far : (i d : ℕ) → length (frames_in held n (own_to own i)) ≤ length (frames_in held n (own_to own (d + i)))
-  frames_far i zero = rw zero-add (le_refl _)
-  frames_far i (suc d) = let e : suc d + i ≡ (d + i) + 1 = omega arith in rw e (omega (arith, frames_far i d, length_more (d + i)))
+  pub put_more : (own : List Entry) (i : ℕ) (d : Entry) → i < length own → (o o' : List ℕ) (at at' : ℕ)
+      → at' ≡ at + length (frame_if (is_in held (id_of (get_or own i d))) n (get_or own i d)) → o' ≡ sets o at (frame_if (is_in held (id_of (get_or own i d))) n (get_or own i d))
+      → sets o' at' (all_frames held n (drop (i + 1) own) e) ≡ sets o at (all_frames held n (drop i own) e)
+  put_more own i d h o o' at at' p q =
+      rw (p, q)
+      (sym (sets_append o at (frame_if (is_in held (id_of (get_or own i d))) n (get_or own i d)) (all_frames held n (drop (i + 1) own) e))
+      ∙ ap (sets o at) (sym (left_more own i d h)))
 
-  pub frames_mono : (i j : ℕ) → i ≤ j → length (frames_in held n (own_to own i)) ≤ length (frames_in held n (own_to own j))
-  frames_mono i j h = let e : (j - i) + i ≡ j = omega arith in rw e at (frames_far i (j - i))
+  pub left_end : (own : List Entry) (i : ℕ) → length own ≤ i → all_frames held n (drop i own) e ≡ frame_words (started n e)
+  unfolding all_frames frames_in
+  left_end own i h = ap (λ (es : List Entry). all_frames held n es e) (drop_of_length-le own h)
 
-  pub frames_start : frames_in held n (own_to own 0) ≡ []
-  unfolding frames_in tab
-  frames_start = refl
-
-pub frame_le : (b : Bool) (n : ℕ) (e : Entry) → n ≤ 8 → length (frame_if b n e) ≤ 268
+frame_le : (b : Bool) (n : ℕ) (e : Entry) → n ≤ 8 → length (frame_if b n e) ≤ 268
 frame_le true n e h = omega arith
 frame_le false n e h = omega (arith, length_frame (started n e), reads_le e.deps)
 
-pub frames_le : (held : List ℕ) (n : ℕ) (own : List Entry) (i : ℕ) → n ≤ 8 → length (frames_in held n (own_to own i)) ≤ 268 * i
-frames_le held n own zero h = omega (arith, ap length (frames_start held n own))
-frames_le held n own (suc i) h =
-    let e : suc i ≡ i + 1 = omega arith in
-    rw e
-    (omega (arith, frames_le held n own i h, frame_le (is_in held (id_of (own_at own i))) n (own_at own i) h, length_more held n own i))
+frames_le : (held : List ℕ) (n : ℕ) (own : List Entry) → n ≤ 8 → length (frames_in held n own) ≤ 268 * length own
+unfolding frames_in
+frames_le held n [] h = omega arith
+frames_le held n (e ∷ own) h =
+    omega (
+      arith,
+      frames_le held n own h,
+      frame_le (is_in held (id_of e)) n e h,
+      length-append (frame_if (is_in held (id_of e)) n e) (frames_in held n own),
+    )
 
-pub turn_sets : (o₀ o z a b ab : List ℕ) (at : ℕ) → at ≡ length a → o ≡ sets o₀ 0 a → z ≡ sets o at b → ab ≡ a ++ b → z ≡ sets o₀ 0 ab
-turn_sets o₀ o z a b ab at p q r s =
-    r
-    ∙ ap (λ (l : List ℕ). sets l at b) q
-    ∙ ap (λ (i : ℕ). sets (sets o₀ 0 a) i b) (p ∙ sym (zero-add (length a)))
-    ∙ sym (sets_append o₀ 0 a b)
-    ∙ ap (λ (l : List ℕ). sets o₀ 0 l) (sym s)
-
--- ---- the new entry alone, where no own write is new
-
-frames_none : (held : List ℕ) (n : ℕ) (own : List Entry) (k : ℕ) → ((i : ℕ) → i < k → is_in held (id_of (own_at own i)) ≡ true) → frames_in held n (own_to own k) ≡ []
-frames_none held n own zero h = frames_start held n own
-frames_none held n own (suc k) h =
-    let e : suc k ≡ k + 1 = omega arith in
-    rw e
-    (frames_more held n own k
-    ∙ ap (λ (b : Bool). frames_in held n (own_to own k) ++ frame_if b n (own_at own k)) (h k (omega arith))
-    ∙ append-nil (frames_in held n (own_to own k))
-    ∙ frames_none held n own k (λ i l. h i (omega arith)))
-
-module _ (b : Bool) (held : List ℕ) (n : ℕ) (own : List Entry) (k : ℕ) (e : Entry) (h : AllHeld b held own k) (y : b ≡ true) (f : Frame) (g : f ≡ started n e) where
-  pub alone : frame_words f ≡ all_frames held n (own_to own k) e
-  unfolding all_frames
-  alone = ap frame_words g ∙ ap (λ (l : List ℕ). l ++ frame_words (started n e)) (sym (frames_none held n own k (h y)))
-
-  pub put_alone : (o y : List ℕ) (r : ℕ) → length (all_frames held n (own_to own k) e) ≤ length o → r ≡ 0 + length (frame_words f) → y ≡ sets o 0 (frame_words f)
-      → (r ≡ length (all_frames held n (own_to own k) e)) × (y ≡ laid (all_frames held n (own_to own k) e) o)
-  unfolding laid
-  put_alone o y r h a b =
-      (a ∙ zero-add (length (frame_words f)) ∙ ap length alone, b ∙ ap (sets o 0) alone ∙ sets_front o (all_frames held n (own_to own k) e) h)
+pub all_le : (held : List ℕ) (n : ℕ) (own : List Entry) (e : Entry) → n ≤ 8 → length (all_frames held n own e) ≤ 268 * length own + 268
+unfolding all_frames
+all_le held n own e h =
+    omega (arith, frames_le held n own h, frame_le false n e h, length-append (frames_in held n own) (frame_words (started n e)))
 
 -- ---- they are the frames that Calls says
 

@@ -1,11 +1,11 @@
 -- What `write` answers and leaves, from what its parts do. Assumes nothing.
 use Rattle.std.proofs.Common.{Err, Ok, Result}
+use Rattle.std.specs.Result.{IsErrAnd}
 use Rattle.store.proofs.Rules.{laid as Laid-of}
 use Prim.Native.Nat.{ℕ, zero, suc, ◌+◌, ◌*◌, ◌^◌, ◌<◌, ◌≤◌}
 use mathlib.Core.Path.{◌≡◌, refl, sym, ap, ap₂, ◌∙◌, subst}
 use mathlib.Core.Bool.{Bool, true, false}
-use mathlib.Core.List.Memᴰ
-use mathlib.Core.List.{List, Memᴰ}
+use mathlib.Core.List.{List}
 use native.Mathlib.Omega.{arith}
 use lib.Dec.{ltb}
 use lib.ListN.{length, get_or}
@@ -28,23 +28,27 @@ use Rattle.frame.specs.Calls.{laid}
 use Rattle.frame.proofs.Entries.{RingFacts, entry_facts, facts_frame, frame_wider}
 use Rattle.frame.proofs.Ids.{id_range}
 use Rattle.frame.proofs.OwnTurns.{count_is}
-use Rattle.frame.proofs.Sessions.{ids_new, ids_set, session_facts, own_ok_lem}
+use Rattle.frame.proofs.Sessions.{session_facts}
 use Rattle.store.specs.Offices.{Office, need, slot_at, office_of, store_words, sound_store, made}
 use Rattle.store.specs.Slots.{hold_words}
 use Rattle.store.proofs.Bridge.{store_same}
 use Rattle.store.proofs.Keep.{Sound, store_facts}
 use Rattle.store.proofs.Changes.{hold_words_lem}
-use Rattle.office.specs.Calls.{Result, refusal, new_entry, sent_of, write_sends, write_code, hold_all, missing, own_code, write_on, write}
+use Rattle.office.specs.Calls.{Result as Outcome, refusal, new_entry, sent_of, write_sends, write_code, hold_all, missing, own_code, write_on, write}
 use Rattle.office.specs.Answers.{session_if, extended_by, made_by, with_made, write_session}
 use Rattle.office.specs.Promises.{MakePromise, WritePromise}
-use Rattle.office.specs.Steps.{own_at, own_to, holds_in, Slots}
-use Rattle.writing.specs.Writes.{first_codes, second_codes, early_code, started, all_frames, AllHeld, Framed}
+use Rattle.office.specs.Steps.{own_at, holds_in, Slots}
+use Rattle.writing.specs.declared.write.Made.{Made}
+use Rattle.writing.specs.declared.write.Wrote.{Wrote}
+use Rattle.writing.specs.Answers.{entry_by, session_by, words_by, wrote_by}
+use Rattle.office.proofs.Exits.{number_some}
+use Rattle.writing.specs.Writes.{first_codes, second_codes, early_code, started, all_frames, Framed}
 use Rattle.office.proofs.KeepCalls.{all_known}
 use Rattle.office.proofs.Along.{Along, hold_end, start_along}
 use Rattle.office.proofs.KeepWrite.{A, takes, e_ok}
 use Rattle.writing.proofs.EarlyCodes.{write_code_lem}
+use Rattle.office.proofs.Shape.{own_kept}
 use Rattle.office.proofs.Slots.{settings, slot_of}
-use Rattle.office.proofs.Shape.{own_all, own_each}
 use Rattle.writing.proofs.Sends.{all_frames_lem}
 use Rattle.office.proofs.Holds.{holds_are}
 
@@ -101,37 +105,23 @@ module _ (ws : List ℕ) (s : Session) (sound : sound_store ws ≡ true) (sessio
   pub count_le : s.count ≤ 16
   count_le = omega (arith, (session_facts (office_of ws).offices (office_of ws).plots (content_of s) session).few, count_is s)
 
-  own_entry : (i : ℕ) → i < s.count → entry_ok (office_of ws).offices (office_of ws).plots (own_at s.own i) ≡ true
-  unfolding content_of
-  own_entry i l =
-      own_ok_lem (office_of ws).offices (office_of ws).plots (content_of s) (session_facts (office_of ws).offices (office_of ws).plots (content_of s) session) (own_at s.own i)
-      (own_each s.own s.count i l)
+  pub slots : (own : List Entry) → own ≡ (content_of s).own → Slots own (length ws)
+  slots own q =
+      subst (λ (x : List Entry). Slots x (length ws)) (sym q)
+      (λ i l. slot_of (office_of ws).offices (office_of ws).plots (length ws) (own_at (content_of s).own i) long (own_kept (office_of ws).offices (office_of ws).plots (content_of s) session i l))
 
-  pub slots : Slots s.own s.count (length ws)
-  slots i l = slot_of (office_of ws).offices (office_of ws).plots (length ws) (own_at s.own i) long (own_entry i l)
-
-  own_small : (e : Entry) → Memᴰ e (content_of s).own → id_of e < 256
-  unfolding content_of office_of
-  own_small =
-      own_all (λ (e : Entry). id_of e < 256) s.own s.count
-      (λ i l. omega (arith, id_range (get_or ws 0 0) (get_or ws 2 0) (own_at s.own i) (entry_facts (get_or ws 0 0) (get_or ws 2 0) (own_at s.own i) (own_entry i l)), (settings ws sound).high))
-
-  -- no own write is new to a set that has their ids
-  pub none_new : (own held : List ℕ) (b : Bool) → own ≡ ids_of (content_of s).own → b ≡ subset_of own held → AllHeld b held s.own s.count
-  unfolding content_of
-  none_new own held b o q y i l =
-      let es = own_to s.own s.count in
-      is_in_lem held (id_of (own_at s.own i))
-      (subset_within (ids_of es) held (ids_set es own_small) (sym (q ∙ ap (λ (x : List ℕ). subset_of x held) o) ∙ y) (id_of (own_at s.own i))
-      (ids_new es own_small (id_of (own_at s.own i)) (Memᴰ.map id_of (own_each s.own s.count i l))))
-
-  pub frames : Framed (get_or ws 0 0) s.own s.count
+  pub frames : (own : List Entry) → own ≡ (content_of s).own → Framed (get_or ws 0 0) own
   unfolding office_of
-  frames i l = frame_of (get_or ws 0 0) (get_or ws 2 0) (own_at s.own i) (settings ws sound) (own_entry i l)
+  frames own q =
+      subst (Framed (get_or ws 0 0)) (sym q)
+      (λ i l. frame_of (get_or ws 0 0) (get_or ws 2 0) (own_at (content_of s).own i) (settings ws sound) (own_kept (office_of ws).offices (office_of ws).plots (content_of s) session i l))
 
 module _ (ws : List ℕ) (s : Session) (plot value : ℕ) (R : Ready ws s plot value) where
+  pub few_own : length (content_of s).own < 16
+  few_own = ltb-true (length (content_of s).own) 16 R.room
+
   pub few : s.count < 16
-  few = omega (arith, ltb-true (length (content_of s).own) 16 R.room, count_is s)
+  few = omega (arith, few_own, count_is s)
 
   module _ (words : (i : ℕ) → get_or ws i 0 < 2 ^ 32) (N : SaneContent (content_of s)) where
     S : Sound (office_of ws)
@@ -180,27 +170,23 @@ module _ (ws : List ℕ) (s : Session) (plot value : ℕ) (R : Ready ws s plot v
         (takes (office_of ws) S (content_of s) N plot value R.session R.plot_ok R.value_ok R.more R.read_held R.owns)
         ∙ ap (store_words ws) (sym (hold_end (office_of ws) (missing (office_of ws) (content_of s).own) E))
 
-    pub store_left : (held : List ℕ) (e : Entry) → held ≡ part ws 3 8 → e ≡ new_entry (office_of ws) (content_of s) plot value
-        → hold_words (holds_in held ws (own_to s.own s.count)) e ≡ store_words ws (hold_all (office_of ws) (sent_of (office_of ws) (content_of s) plot value))
-    unfolding office_of content_of
-    store_left held e h q =
-        ap (λ (x : List ℕ). hold_words (holds_in x ws (own_to s.own s.count)) e) h
-        ∙ ap (λ (x : Entry). hold_words (holds_in (part ws 3 8) ws (own_to s.own s.count)) x) q
-        ∙ all_held
+    pub store_left : (held : List ℕ) (own : List Entry) (e : Entry) → held ≡ part ws 3 8 → own ≡ (content_of s).own → e ≡ new_entry (office_of ws) (content_of s) plot value
+        → hold_words (holds_in held ws own) e ≡ store_words ws (hold_all (office_of ws) (sent_of (office_of ws) (content_of s) plot value))
+    unfolding office_of
+    store_left held own e h o q = (λ i. hold_words (holds_in (h i) ws (o i)) (q i)) ∙ all_held
 
 -- the row that is left
-pub row_left : (ws : List ℕ) (s : Session) (plot value : ℕ) (held : List ℕ) (e : Entry) → held ≡ part ws 3 8 → e ≡ new_entry (office_of ws) (content_of s) plot value
-    → all_frames held (get_or ws 0 0) (own_to s.own s.count) e ≡ rows_of (write_sends (office_of ws) (content_of s) plot value)
-unfolding office_of content_of sent_of
-row_left ws s plot value held e h q =
-    ap (λ (x : List ℕ). all_frames x (get_or ws 0 0) (own_to s.own s.count) e) h
-    ∙ ap (all_frames (part ws 3 8) (get_or ws 0 0) (own_to s.own s.count)) q
-    ∙ all_frames_lem (office_of ws) (get_or ws 0 0) (own_to s.own s.count) (new_entry (office_of ws) (content_of s) plot value)
+pub row_left : (ws : List ℕ) (s : Session) (plot value : ℕ) (held : List ℕ) (own : List Entry) (e : Entry) → held ≡ part ws 3 8 → own ≡ (content_of s).own
+    → e ≡ new_entry (office_of ws) (content_of s) plot value → all_frames held (get_or ws 0 0) own e ≡ rows_of (write_sends (office_of ws) (content_of s) plot value)
+unfolding office_of sent_of
+row_left ws s plot value held own e h o q =
+    (λ i. all_frames (h i) (get_or ws 0 0) (o i) (q i))
+    ∙ all_frames_lem (office_of ws) (get_or ws 0 0) (content_of s).own (new_entry (office_of ws) (content_of s) plot value)
 
 -- ---- the call
 
 module _ (ws : List ℕ) (s : Session) (plot value : ℕ) (out : List ℕ) where
-  abbrev W : Result (List ℕ) (List ℕ)
+  abbrev W : Outcome (List ℕ) (List ℕ)
   W = write ws (content_of s) plot value out
 
   abbrev Early : ℕ
@@ -214,10 +200,10 @@ module _ (ws : List ℕ) (s : Session) (plot value : ℕ) (out : List ℕ) where
   stops : (x : ℕ) → (x ≡ 0 → ⊥) → write ws (content_of s) plot value out ≡ refusal x ws (content_of s) out → Says (record { code = x; words = 0 }) s ws out
   unfolding write_session session_if
   stops x n e = (
-    ap (λ (r : Result (List ℕ) (List ℕ)). record { code = r.code; words = r.count }) (sym e),
-    same_session x n ∙ ap (λ (r : Result (List ℕ) (List ℕ)). session_if r.code s (extended_by s (new_entry (office_of ws) (content_of s) plot value))) (sym e),
-    ap (λ (r : Result (List ℕ) (List ℕ)). r.store) (sym e),
-    ap (λ (r : Result (List ℕ) (List ℕ)). r.row) (sym e),
+    ap (λ (r : Outcome (List ℕ) (List ℕ)). record { code = r.code; words = r.count }) (sym e),
+    same_session x n ∙ ap (λ (r : Outcome (List ℕ) (List ℕ)). session_if r.code s (extended_by s (new_entry (office_of ws) (content_of s) plot value))) (sym e),
+    ap (λ (r : Outcome (List ℕ) (List ℕ)). r.store) (sym e),
+    ap (λ (r : Outcome (List ℕ) (List ℕ)). r.row) (sym e),
   )
     where
       same_session : (x : ℕ) → (x ≡ 0 → ⊥) → s ≡ session_if x s (extended_by s (new_entry (office_of ws) (content_of s) plot value))
@@ -275,16 +261,15 @@ module _ (ws : List ℕ) (s : Session) (plot value : ℕ) (out : List ℕ) where
     unfolding write_session session_if
     session_0 = ap (λ (c : ℕ). session_if c s (extended_by s (new_entry (office_of ws) (content_of s) plot value))) code_0
 
-  pub write_done : Early ≡ 0 → (m : ℕ) (t : Session) (z y : List ℕ) (held : List ℕ) (e : Entry) → held ≡ part ws 3 8 → e ≡ new_entry (office_of ws) (content_of s) plot value
-      → length (all_frames held (get_or ws 0 0) (own_to s.own s.count) e) ≤ length out
-      → m ≡ length (all_frames held (get_or ws 0 0) (own_to s.own s.count) e) → t ≡ extended_by s e
-      → z ≡ store_words ws (hold_all (office_of ws) (sent_of (office_of ws) (content_of s) plot value))
-      → y ≡ laid (all_frames held (get_or ws 0 0) (own_to s.own s.count) e) out
+  pub write_done : Early ≡ 0 → (m : ℕ) (t : Session) (z y : List ℕ) (held : List ℕ) (own : List Entry) (e : Entry) → held ≡ part ws 3 8 → own ≡ (content_of s).own
+      → e ≡ new_entry (office_of ws) (content_of s) plot value → length (all_frames held (get_or ws 0 0) own e) ≤ length out
+      → m ≡ length (all_frames held (get_or ws 0 0) own e) → t ≡ extended_by s e
+      → z ≡ store_words ws (hold_all (office_of ws) (sent_of (office_of ws) (content_of s) plot value)) → y ≡ laid (all_frames held (get_or ws 0 0) own e) out
       → Says (record { code = 0; words = m }) t z y
   unfolding check
-  write_done c m t z y held e h q l a b d f =
+  write_done c m t z y held own e h o q l a b d f =
       let n = check_none (sound_store ws) 2 _ (omega arith) c in
-      let r = row_left ws s plot value held e h q in
+      let r = row_left ws s plot value held own e h o q in
       let k : length (rows_of (write_sends (office_of ws) (content_of s) plot value)) ≤ length out = omega (arith, ap length r) in
       let w : write_code (office_of ws) (content_of s) plot value (length out) ≡ 0 =
       write_code_lem (office_of ws) (content_of s) plot value (length out)
@@ -305,12 +290,16 @@ module _ (ws : List ℕ) (s : Session) (plot value : ℕ) (out : List ℕ) where
   none_made zero n e = absurd (n refl)
   none_made (suc c) n e = ap (λ (k : ℕ). made_by k (new_entry (office_of ws) (content_of s) plot value)) e
 
-  pub not_made : (w : Result ℕ Refusal) (e : Entry) (x : Refusal) → w ≡ Err x → e ≡ blank_entry → (number_of x ≡ 0 → ⊥)
-      → Says (record { code = number_of x; words = 0 }) s ws out → MakePromise ws s plot value out w e ws out
+  pub not_made : (x : Refusal) → Says (record { code = number_of x; words = 0 }) s ws out → MakePromise ws s plot value out (Err x) blank_entry ws out
   unfolding reply_of with_made
-  not_made w e x a b n S =
-      subst (λ (p : Result ℕ Refusal × Entry). MakePromise ws s plot value out p.0 p.1 ws out) (λ i. (sym a i, sym b i))
-      (S, none_made (number_of x) n (ap (λ (r : Reply). r.code) S.0))
+  not_made x S = (S, none_made (number_of x) (number_some x) (ap (λ (r : Reply). r.code) S.0))
+
+  -- the exit of a `?`
+  pub refused : (r : Result Made Refusal) (x : Refusal) → IsErrAnd r (λ y. y ≡ x) → Says (record { code = number_of x; words = 0 }) s ws out
+      → MakePromise ws s plot value out (words_by r) (entry_by r) ws out
+  unfolding words_by entry_by
+  refused (Ok m) x p S = absurd p
+  refused (Err y) x p S = rw p (not_made x S)
 
   pub made_is : (m : ℕ) (e : Entry) (z y : List ℕ) → e ≡ new_entry (office_of ws) (content_of s) plot value
       → Says (record { code = 0; words = m }) (extended_by s e) z y → MakePromise ws s plot value out (Ok m) e z y
@@ -325,15 +314,17 @@ module _ (ws : List ℕ) (s : Session) (plot value : ℕ) (out : List ℕ) where
       let k : suc x ≡ (write ws (content_of s) plot value out).code = ap (λ (r : Reply). r.code) S.0 in
       absurd (omega arith)
 
-  module _ (w : Result ℕ Refusal) (e : Entry) (z y : List ℕ) (A : MakePromise ws s plot value out w e z y) where
-    pub wrote_few : (m : ℕ) → w ≡ Ok m → s.count < 16
-    unfolding reply_of
-    wrote_few m h = few_of Early refl (ap (λ (r : Reply). r.code) (ap reply_of (sym h) ∙ A.0.0))
+  pub wrote_few : (m : Made) (z y : List ℕ) → MakePromise ws s plot value out (words_by (Ok m)) (entry_by (Ok m)) z y → s.count < 16
+  unfolding reply_of words_by
+  wrote_few m z y A = few_of Early refl (ap (λ (r : Reply). r.code) A.0.0)
 
-    pub wrote_same : (x : Refusal) → w ≡ Err x → WritePromise ws s plot value out (reply_of w) s z y
-    unfolding with_made
-    wrote_same x h = (A.0.0, ap (λ (v : Result ℕ Refusal). with_made s v e) (sym h) ∙ A.0.1, A.0.2, A.0.3)
+  pub wrote_not : (r : Result Wrote Refusal) (x : Refusal) (z y : List ℕ) → IsErrAnd r (λ v. v ≡ x) → MakePromise ws s plot value out (words_by (Err x)) (entry_by (Err x)) z y
+      → WritePromise ws s plot value out (reply_of (wrote_by r)) (session_by s r) z y
+  unfolding with_made words_by entry_by wrote_by session_by
+  wrote_not (Ok m) x z y p A = absurd p
+  wrote_not (Err v) x z y p A = rw p A.0
 
-    pub wrote_more : (m : ℕ) → w ≡ Ok m → (t : Session) → t ≡ extended_by s e → WritePromise ws s plot value out (reply_of w) t z y
-    unfolding with_made
-    wrote_more m h t q = (A.0.0, q ∙ ap (λ (v : Result ℕ Refusal). with_made s v e) (sym h) ∙ A.0.1, A.0.2, A.0.3)
+  pub wrote_more : (m : Made) (t : Session) (z y : List ℕ) → t ≡ extended_by s m.entry → MakePromise ws s plot value out (words_by (Ok m)) (entry_by (Ok m)) z y
+      → WritePromise ws s plot value out (reply_of (Ok m.words)) t z y
+  unfolding with_made words_by entry_by
+  wrote_more m t z y q A = rw q A.0

@@ -4,7 +4,7 @@ ghost use Rattle.causal.specs.Lists.{part};
 ghost use Rattle.causal.specs.Codes.{check};
 ghost use Rattle.frame.specs.Entries.{id_of};
 ghost use Rattle.frame.specs.Refusals.{code_of, reply_of};
-ghost use Rattle.frame.specs.Sessions.{content_of};
+ghost use Rattle.frame.specs.Sessions.{SaneContent, content_of};
 ghost use Rattle.store.specs.Offices.{slot_at, office_of, sound_store};
 ghost use Rattle.store.specs.Slots.{Laid, hold_words};
 ghost use Rattle.office.specs.Calls.{new_entry};
@@ -76,6 +76,12 @@ pub fn may_write(store: &[u32], s: &Session, plot: u32, value: u32) -> Result<()
 
 // ---- what a write makes and leaves
 
+// What the type of a session says of it: behind a reference, a proof does not know that. Nothing is done.
+fn known(s: Session)
+    ensures { s.count ≤ 16 → SaneContent (content_of s) }
+{
+}
+
 // From the clock, the read ids and the ids of own writes of a session.
 fn entry_by(store: &[u32], s: &Session, plot: u32, value: u32) -> Entry
     requires { (sound_store store.now ≡ true) × (s.now.count ≤ 16) }
@@ -126,6 +132,7 @@ pub fn make(
     ensures { MakePromise store.old s.now plot value out.old (words_by result) (entry_by result) store.new out.new }
 {
     may_write(store, s, plot, value)?;
+    known(*s);
     let own = own_writes(s);
     let entry = entry_by(store, s, plot, value);
     let n = store[0];

@@ -1,9 +1,12 @@
-use Rattle.std.proofs.Common.{◌∙◌}
-use Rattle.causal.proofs.Sets.{eight_tests}
+use Rattle.std.proofs.Common.{◌≡◌, eqb, ltb, get_or, ◌∙◌, rules}
+use Rattle.causal.specs.Tests.{either}
 use Rattle.frame.specs.Entries.{ids_ok, ids_place_ok}
+use Rattle.frame.proofs.Chains.{each_made, none_set}
 use Rattle.frame.proofs.entry.ids_ok.Goals as goal
 
 pub returns : goal.returns
 unfolding ids_ok ids_place_ok
-returns c = c.is_empty.ensures
-    ∙ eight_tests (ids_place_ok c.args.n c.args.ids) _ _ _ _ _ _ _ _ c.beyond.ensures c.beyond-2.ensures c.beyond-3.ensures c.beyond-4.ensures c.beyond-5.ensures c.beyond-6.ensures c.beyond-7.ensures c.beyond-8.ensures
+returns c =
+    let z = c.args in
+    c.is_empty.ensures ∙ none_set _ (ids_place_ok z.n z.ids)
+    (each_made _ _ (λ j w. eqb w 0 ≡ either (ltb j z.n) (eqb (get_or z.ids j 0) 0)) 8 (λ i y q h k. search rules) _ c.from_fn-left.ensures.items)

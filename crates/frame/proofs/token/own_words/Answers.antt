@@ -1,24 +1,14 @@
-use Rattle.std.proofs.Common.{◌≡◌, ℕ, length, sym, ap, ◌∙◌, arith}
-use Rattle.frame.specs.Frames.{frame_words}
-use Rattle.frame.specs.Tokens.{own_rows}
-use Rattle.causal.specs.Lists.{tab}
-use Rattle.frame.specs.declared.entry.Frame.{Frame}
-use Rattle.frame.proofs.OwnTurns.{owns_of}
-use Rattle.frame.proofs.TokenTurns as T
+use Rattle.std.proofs.Common.{◌^◌, ◌<◌, arith, rules, sum_by}
+use borrow.Author.Tests.{tests}
+use Rattle.std.proofs.lemmas.Iterator.{YieldsList-from_map, YieldsList-from_slice}
+use Rattle.std.proofs.lemmas.Iterator.Consumers.{fits_by_from_yields_list}
+use Rattle.frame.proofs.TokenTurns.{size_in, rows_size, rows_few}
 use Rattle.frame.proofs.token.own_words.Goals as goal
 
-pub loop-i-init : goal.loop-i-init
-unfolding tab
-loop-i-init c = (omega arith, sym (ap length (T.rows_none c.args.n (owns_of c.args.own))))
-
-pub words_of-words-requires : goal.words_of-words-requires
-words_of-words-requires c = omega (arith, ap (λ (f : Frame). f.offices) c.own_frame-frame.ensures, c.requires.0)
-
-pub overflow_add-words : goal.overflow_add-words
-overflow_add-words c = let z = c.args in let l = c.loop-i in let f = owns_of z.own in let w = c.words_of-words.ensures ∙ ap (λ (x : Frame). length (frame_words x)) c.own_frame-frame.ensures in omega (arith, w, l.invariant.1, T.frame_few z.n f (f l.i) c.requires.0, T.rows_few z.n f l.i c.requires.0, c.requires.1)
-
-pub loop-i-preserved : goal.loop-i-preserved
-loop-i-preserved c = let z = c.args in let l = c.loop-i in let f = owns_of z.own in let w = c.words_of-words.ensures ∙ ap (λ (x : Frame). length (frame_words x)) c.own_frame-frame.ensures in (omega arith, omega (arith, w, l.invariant.1, T.rows_length z.n f l.i))
-
-pub returns : goal.returns
-returns c = let z = c.args in let l = c.loop-i in let f = owns_of z.own in let e : l.i ≡ z.count = omega arith in l.invariant.1 ∙ ap (λ (k : ℕ). length (own_rows z.n (tab k f))) e
+-- no frame has more than 268 words
+pub sum-requires-clause-fits : goal.sum-requires-clause-fits
+sum-requires-clause-fits c = let n = c.args.n in let own = c.args.own.now in
+    let few : sum_by (size_in n) own < 2 ^ 64 = omega (arith, rows_size n own, rows_few n own c.requires.0, c.requires.1) in
+    fits_by_from_yields_list (size_in n) own c.map.result (2 ^ 64)
+    (YieldsList-from_map _ (size_in n) (YieldsList-from_slice own cc) c.map.ensures.closure (λ x r q k. search (rules, tests)))
+    few

@@ -1,31 +1,14 @@
-use Rattle.std.proofs.Common.{◌≡◌, ℕ, ◌+◌, ◌%◌, List, set, sym, refl, ap, ◌∙◌, arith, length-set}
+use Rattle.std.proofs.Common.{◌≡◌, ℕ, ◌%◌, List, ap, ◌∙◌, rules}
+use lib.Seq.{sets}
 use Rattle.causal.specs.Lists.{tab}
-use Rattle.causal.proofs.Lists.{sets_tab, tab_more}
 use Rattle.frame.specs.Words.{clock_word, clock_words, total}
-use Rattle.frame.proofs.Words.{sum_more}
+use Rattle.frame.proofs.Chains.{words_are}
 use Rattle.frame.proofs.word.put_clock.Goals as goal
-
-pub loop-j-init : goal.loop-j-init
-unfolding tab total
-loop-j-init c = (omega arith, refl, refl, refl)
-
-pub overflow_add-w : goal.overflow_add-w
-overflow_add-w c = omega (arith, c.requires.2 c.loop-j.j (omega arith))
-
-pub bounds-out-at : goal.bounds-out-at
-bounds-out-at c = omega (arith, c.loop-j.invariant.1, c.requires.1)
-
-pub loop-j-preserved : goal.loop-j-preserved
-loop-j-preserved c = let z = c.args in let l = c.loop-j in (
-  omega arith,
-  simp length-set l.invariant.1,
-  ap (λ (o : List ℕ). set o (z.at + l.j) (clock_word z.clock l.j)) l.invariant.2 ∙ sets_tab z.out.now z.at (clock_word z.clock) l.j,
-  ap (λ (x : ℕ). x % 268435456) c.wrapping_add_u32-sum.ensures.value ∙ sum_more l.sum (clock_word z.clock l.j) (tab l.j (clock_word z.clock)) l.invariant.3 ∙ ap (λ (o : List ℕ). total o % 268435456) (sym (tab_more l.j (clock_word z.clock))),
-)
-
-pub shape_of-out : goal.shape_of-out
-shape_of-out c = c.loop-j.invariant.1
 
 pub returns : goal.returns
 unfolding clock_words
-returns c = let e : c.loop-j.j ≡ c.args.n = omega arith in (rw e at c.loop-j.invariant.3, rw e at c.loop-j.invariant.2)
+returns c =
+    let z = c.args in
+    let e = c.put_words.ensures in
+    let q : e.0 ≡ tab z.n (clock_word z.clock) = words_are e.0 (clock_word z.clock) z.n e.1 (λ j h. let p = e.2 j h in search rules) in
+    (e.3 ∙ ap (λ (l : List ℕ). total l % 268435456) q, e.4 ∙ ap (sets z.out.now z.at) q)

@@ -81,7 +81,7 @@ loop-rest-preserved c = let z = c.args in
             ∙ ap (λ (k : ℕ). set (sets z.out.now z.at (id_words_in z.j z.w i.0)) k v) i.2
             ∙ sym (sets_append z.out.now z.at (id_words_in z.j z.w i.0) (v ∷ []))
             ∙ ap (sets z.out.now z.at) (sym y),
-        ap (λ (x : ℕ). x % 268435456) c.wrapping_add_u32-sum.ensures.value ∙ sum_more c.loop-rest.sum v (id_words_in z.j z.w i.0) i.4 ∙ ap (λ (o : List ℕ). total o % 268435456) (sym y),
+        sum_more c.loop-rest.sum v (id_words_in z.j z.w i.0) i.4 ∙ ap (λ (o : List ℕ). total o % 268435456) (sym y),
       ),
     )
 

@@ -21,8 +21,8 @@ returns-then-not-has_room c =
     let may : frame_ok c.args.f.offices 64 c.args.f ≡ true = sym c.frame_ok.ensures ∙ not-false _ c.if-not-frame_ok.false-raw in
     let z = c.args in let f = z.f in let o = z.out.now in write_refused f o 7 (write_code_8 f o (may) (sym c.has_room.ensures ∙ not-true _ c.if-not-has_room.true-raw))
 
-pub put-n-requires : goal.put-n-requires
-put-n-requires c =
+pub put-requires : goal.put-requires
+put-requires c =
     let may : frame_ok c.args.f.offices 64 c.args.f ≡ true = sym c.frame_ok.ensures ∙ not-false _ c.if-not-frame_ok.false-raw in
     let z = c.args in let f = z.f in let o = z.out.now in (may, leb-true (length (frame_words f)) (length o) (sym c.has_room.ensures ∙ not-false _ c.if-not-has_room.false-raw))
 
@@ -32,4 +32,4 @@ returns c =
     let may : frame_ok c.args.f.offices 64 c.args.f ≡ true = sym c.frame_ok.ensures ∙ not-false _ c.if-not-frame_ok.false-raw in
     let z = c.args in let f = z.f in let o = z.out.now in
     let l = leb-true (length (frame_words f)) (length o) (sym c.has_room.ensures ∙ not-false _ c.if-not-has_room.false-raw) in
-    write_accepted f o c.put-n.result c.put-n.new.out (write_code_0 f o (may) l) c.put-n.ensures.0 c.put-n.ensures.1
+    write_accepted f o c.put.result c.put.new.out (write_code_0 f o (may) l) c.put.ensures.0 c.put.ensures.1

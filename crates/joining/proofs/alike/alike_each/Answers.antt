@@ -1,20 +1,19 @@
-use mathlib.Core.Path.{◌∙◌, sym}
-use native.Mathlib.Omega.{arith}
-use Rattle.causal.proofs.Tests.{all_none, turn_done, turn_fails, turn_more}
-use Rattle.frame.proofs.OwnTurns.{owns_of}
-use Rattle.joining.specs.Joins.{alike}
-use Rattle.joining.proofs.Each.{each_below}
-use borrow.Author.Rules.{rules}
+use Rattle.std.proofs.Common.{◌≡◌, true, false, rules, sym, ap, ◌∙◌}
+use Rattle.std.proofs.lemmas.Iterator.{cases_from_all, YieldsList-from_slice}
+use borrow.Author.Tests.{tests}
+use Rattle.causal.specs.Sets.{is_in}
+use Rattle.frame.specs.Entries.{id_of}
+use Rattle.joining.specs.Joins.{alike as alikeOf}
+use Rattle.joining.proofs.Each.{alike_unknown, each_all}
 use Rattle.joining.proofs.alike.alike_each.Goals as goal
 
-pub loop-i-init : goal.loop-i-init
-loop-i-init c = (omega arith, all_none _)
+pub returns-then-not-among : goal.returns-then-not-among
+returns-then-not-among c =
+    let out : is_in c.args.ids (id_of c.args.e.now) ≡ false = sym c.among.ensures ∙ c.if-not-among.true in
+    rw c.if-not-among.true (sym (alike_unknown c.args.e.now c.args.own.now c.requires.0 (rw c.requires.1 at out)))
 
-pub returns-then-not-alike : goal.returns-then-not-alike
-returns-then-not-alike c = let z = c.args in let l = c.loop-i in let f = owns_of z.own in turn_fails (λ j. alike z.e (f j)) z.count l.i _ (omega arith) c.alike.ensures c.if-not-alike.true-raw ∙ sym (each_below (alike z.e) f z.count)
-
-pub loop-i-preserved : goal.loop-i-preserved
-loop-i-preserved c = let z = c.args in let l = c.loop-i in let f = owns_of z.own in (search rules, turn_more (λ j. alike z.e (f j)) l.i _ l.invariant.1 c.alike.ensures c.if-not-alike.false-raw)
-
-pub returns : goal.returns
-returns c = let z = c.args in let l = c.loop-i in let f = owns_of z.own in turn_done (λ j. alike z.e (f j)) z.count l.i l.invariant.1 (omega arith) (omega arith) ∙ sym (each_below (alike z.e) f z.count)
+pub returns-else-not-among : goal.returns-else-not-among
+returns-else-not-among c =
+    each_all (alikeOf c.args.e.now) c.args.own.now _
+    (cases_from_all _ _ _ (λ f. alikeOf c.args.e.now f ≡ true) (λ f. alikeOf c.args.e.now f ≡ false) c.all.ensures.ran (YieldsList-from_slice c.args.own.now cc)
+    (λ x q k. search (rules, tests)) (λ x q k. search (rules, tests)))

@@ -1,40 +1,79 @@
-use mathlib.Core.Path.{◌∙◌, sym}
-use native.Mathlib.Omega.{arith}
-use borrow.Author.Tests.{not-false, not-true}
-use Rattle.frame.specs.Refusals.{number_of}
-use Rattle.frame.specs.Sessions.{content_of}
+use Rattle.std.proofs.Common.{◌≡◌, ◌≤◌, length, refl, sym, ap, ◌∙◌, arith}
+use Rattle.frame.specs.Refusals.{code_of, number_of}
+use Rattle.frame.specs.Sessions.{content_of, filled, ids_of}
+use Rattle.frame.proofs.OwnTurns.{count_is}
 use Rattle.joining.proofs.Codes as C
 use Rattle.joining.proofs.Front as F
 use Rattle.joining.proofs.join.join_sound.Goals as goal
 
-pub front_of-front-requires : goal.front_of-front-requires
-front_of-front-requires c = let z = c.args in let n = z.offices in let p = z.plots in let q = c.requires in (C.few n p z.first q.0 q.1, C.few n p z.second q.0 q.2)
+pub own_writes-first_own-requires : goal.own_writes-first_own-requires
+own_writes-first_own-requires c = let q = c.requires in C.few c.args.offices c.args.plots c.args.first.now q.0 q.1
 
-pub own_row-row-requires : goal.own_row-row-requires
-own_row-row-requires c = let z = c.args in let n = z.offices in let p = z.plots in let q = c.requires in C.few n p z.first q.0 q.1
+pub own_writes-second_own-requires : goal.own_writes-second_own-requires
+own_writes-second_own-requires c = let q = c.requires in C.few c.args.offices c.args.plots c.args.second.now q.0 q.2
 
-pub returns-then-front-m : goal.returns-then-front-m
-returns-then-front-m c = let z = c.args in let n = z.offices in let p = z.plots in let q = c.requires in let s = c.front_of-front.ensures in let r = c.accepted.ensures in F.nothing_new n p z.first q.0 q.1 z.second _ s.0 s.2 q.2 c.if-front-m.true _ _ r.0 r.1 r.2 r.3 r.4 (r.5 ∙ c.own_row-row.ensures)
+pub with_blanks-requires : goal.with_blanks-requires
+with_blanks-requires c =
+    let q = c.requires in
+    omega (arith, ap length c.own_writes-first_own.ensures, count_is c.args.first.now, C.few c.args.offices c.args.plots c.args.first.now q.0 q.1)
 
-pub own_ids-ids-requires : goal.own_ids-ids-requires
-own_ids-ids-requires c = let z = c.args in let n = z.offices in let p = z.plots in let q = c.requires in C.few n p z.first q.0 q.1
+pub returns-then-front-second : goal.returns-then-front-second
+unfolding code_of
+returns-then-front-second c =
+    let q = c.requires in
+    let s = rw (c.own_writes-first_own.ensures, c.own_writes-second_own.ensures) at c.same_front-front.ensures in
+    let r = c.joined.ensures in
+    F.nothing_new c.args.offices c.args.plots c.args.first.now q.0 q.1 c.args.second.now _ s.0 s.1 s.2 q.2 c.if-front-second.true _ _ refl r.0 r.1 r.2 r.3
+    (r.4 ∙ c.with_blanks.ensures ∙ ap filled c.own_writes-first_own.ensures)
 
 pub all_alike-requires : goal.all_alike-requires
-unfolding content_of
-all_alike-requires c = let z = c.args in let n = z.offices in let p = z.plots in let q = c.requires in let s = c.front_of-front.ensures in (s.1, C.few n p z.second q.0 q.2, C.few n p z.first q.0 q.1, C.small n p z.first q.0 q.1, c.own_ids-ids.ensures, F.front_alike n p z.first q.0 q.1 z.second _ s.0 s.2)
+all_alike-requires c =
+    let q = c.requires in
+    let s = rw (c.own_writes-first_own.ensures, c.own_writes-second_own.ensures) at c.same_front-front.ensures in
+    let ids = c.ids_of-ids.ensures ∙ ap ids_of c.own_writes-first_own.ensures in
+    rw (c.own_writes-first_own.ensures, c.own_writes-second_own.ensures)
+    (s.1, C.small c.args.offices c.args.plots c.args.first.now q.0 q.1, ids, F.front_alike c.args.offices c.args.plots c.args.first.now q.0 q.1 c.args.second.now _ s.0 s.1 s.2)
 
 pub returns-then-not-all_alike : goal.returns-then-not-all_alike
-unfolding content_of number_of
-returns-then-not-all_alike c = let z = c.args in let n = z.offices in let p = z.plots in let q = c.requires in C.refused n p z.first z.second 10 _ _ (C.two_contents n p z.first z.second q.0 q.1 q.2 (sym c.all_alike.ensures ∙ not-true _ c.if-not-all_alike.true-raw)) c.refused.ensures.0 c.refused.ensures.1
+unfolding code_of number_of
+returns-then-not-all_alike c =
+    let q = c.requires in
+    let r = rw (c.own_writes-first_own.ensures, c.own_writes-second_own.ensures) at c.all_alike.ensures in
+    C.refused c.args.offices c.args.plots c.args.first.now c.args.second.now 10 _ _ (C.two_contents c.args.offices c.args.plots c.args.first.now c.args.second.now q.0 q.1 q.2 (sym r ∙ c.if-not-all_alike.true)) refl refl
 
-pub both_own-carried-requires : goal.both_own-carried-requires
-unfolding content_of
-both_own-carried-requires c = let z = c.args in let n = z.offices in let p = z.plots in let q = c.requires in let s = c.front_of-front.ensures in (C.few n p z.first q.0 q.1, s.1, C.few n p z.second q.0 q.2, F.front_out n p z.first q.0 q.1 z.second _ s.0 s.2 _ c.own_ids-ids.ensures)
+pub both_own-both-requires : goal.both_own-both-requires
+both_own-both-requires c =
+    let q = c.requires in
+    let s = rw (c.own_writes-first_own.ensures, c.own_writes-second_own.ensures) at c.same_front-front.ensures in
+    let ids = c.ids_of-ids.ensures ∙ ap ids_of c.own_writes-first_own.ensures in
+    rw (c.own_writes-first_own.ensures, c.own_writes-second_own.ensures) (
+      omega (arith, count_is c.args.first.now, C.few c.args.offices c.args.plots c.args.first.now q.0 q.1),
+      s.1,
+      omega (arith, count_is c.args.second.now, C.few c.args.offices c.args.plots c.args.second.now q.0 q.2),
+      F.front_out c.args.offices c.args.plots c.args.first.now q.0 q.1 c.args.second.now _ s.0 s.1 s.2 _ ids,
+    )
 
-pub returns-then-count-gt16 : goal.returns-then-count-gt16
-unfolding content_of number_of
-returns-then-count-gt16 c = let z = c.args in let n = z.offices in let p = z.plots in let q = c.requires in C.refused n p z.first z.second 6 _ _ (C.too_many n p z.first z.second q.0 q.1 q.2 (sym c.all_alike.ensures ∙ not-false _ c.if-not-all_alike.false-raw) (omega (arith, c.if-count-gt16.true, c.both_own-carried.ensures.0, C.more_is n p z.first z.second q.0 q.1 q.2 _ c.own_ids-ids.ensures))) c.refused-then-count-gt16.ensures.0 c.refused-then-count-gt16.ensures.1
+pub returns-then-both-gt16 : goal.returns-then-both-gt16
+unfolding code_of number_of
+returns-then-both-gt16 c =
+    let q = c.requires in
+    let r = rw (c.own_writes-first_own.ensures, c.own_writes-second_own.ensures) at c.all_alike.ensures in
+    let new = rw (c.own_writes-first_own.ensures, c.own_writes-second_own.ensures) at c.both_own-both.ensures in
+    let ids = c.ids_of-ids.ensures ∙ ap ids_of c.own_writes-first_own.ensures in
+    C.refused c.args.offices c.args.plots c.args.first.now c.args.second.now 6 _ _
+    (C.too_many c.args.offices c.args.plots c.args.first.now c.args.second.now q.0 q.1 q.2 (sym r ∙ c.if-not-all_alike.false)
+    (omega (arith, c.if-both-gt16.true, new.0, count_is c.args.first.now, C.more_is c.args.offices c.args.plots c.args.first.now c.args.second.now q.0 q.1 q.2 _ ids))) refl refl
 
 pub returns : goal.returns
-unfolding content_of
-returns c = let z = c.args in let n = z.offices in let p = z.plots in let q = c.requires in let ids = c.own_ids-ids.ensures in let new = c.both_own-carried.ensures in let r = c.accepted-2.ensures in C.accepted n p z.first z.second _ _ (C.no_refusal n p z.first z.second q.0 q.1 q.2 (sym c.all_alike.ensures ∙ not-false _ c.if-not-all_alike.false-raw) (omega (arith, c.if-count-gt16.false, new.0, C.more_is n p z.first z.second q.0 q.1 q.2 _ ids))) r.0 (C.made n p z.first z.second q.0 q.1 q.2 _ ids _ r.1 r.2 r.3 (r.4 ∙ new.0) (r.5 ∙ new.1 c.if-count-gt16.false))
+unfolding code_of
+returns c =
+    let q = c.requires in
+    let r = rw (c.own_writes-first_own.ensures, c.own_writes-second_own.ensures) at c.all_alike.ensures in
+    let new = rw (c.own_writes-first_own.ensures, c.own_writes-second_own.ensures) at c.both_own-both.ensures in
+    let ids = c.ids_of-ids.ensures ∙ ap ids_of c.own_writes-first_own.ensures in
+    let j = c.joined-2.ensures in
+    let more = C.more_is c.args.offices c.args.plots c.args.first.now c.args.second.now q.0 q.1 q.2 _ ids in
+    let count = count_is c.args.first.now in
+    C.accepted c.args.offices c.args.plots c.args.first.now c.args.second.now _ _
+    (C.no_refusal c.args.offices c.args.plots c.args.first.now c.args.second.now q.0 q.1 q.2 (sym r ∙ c.if-not-all_alike.false) (omega (arith, c.if-both-gt16.false, new.0, count, more))) refl
+    (C.made c.args.offices c.args.plots c.args.first.now c.args.second.now q.0 q.1 q.2 _ ids _ j.0 j.1 j.2 (omega (arith, j.3, new.0, count)) (j.4 ∙ new.1 c.if-both-gt16.false))

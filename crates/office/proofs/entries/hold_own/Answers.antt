@@ -1,20 +1,22 @@
-use Prim.Native.Nat.{ℕ}
-use mathlib.Core.Path.{refl, ap, ◌∙◌}
-use native.Mathlib.Omega.{arith}
-use Rattle.office.specs.Steps.{own_to, holds_in}
-use Rattle.office.proofs.Holds.{holds_start, holds_more}
-use borrow.Author.Rules.{rules}
+use Prim.Native.Nat.{ℕ, ◌+◌}
+use mathlib.Core.List.{List}
+use mathlib.Core.Path.{◌∙◌, ap, sym}
+use lib.ListN.{drop}
+use Rattle.std.proofs.lemmas.List.{at_drop_all, at_drop_more}
+use Rattle.frame.specs.Sessions.{nobody}
+use Rattle.office.specs.Steps.{holds_in}
 use Rattle.office.proofs.entries.hold_own.Goals as goal
 
-pub loop-i-init : goal.loop-i-init
-loop-i-init c = (search rules, refl, holds_start c.args.held c.args.own c.args.store.now)
-
-pub hold_new-requires : goal.hold_new-requires
-hold_new-requires c = let p = c.requires.1 c.loop-i.i (omega arith) in
-    omega (arith, p, c.loop-i.invariant.1)
-
-pub loop-i-preserved : goal.loop-i-preserved
-loop-i-preserved c = (search rules, c.hold_new.auto.store ∙ c.loop-i.invariant.1, holds_more c.args.held c.args.own c.args.store.now _ _ c.loop-i.i c.loop-i.invariant.2 c.hold_new.ensures)
+pub loop-e-preserved : goal.loop-e-preserved
+unfolding holds_in
+loop-e-preserved c = let own = c.args.own.now in
+    let i = c.loop-e.e-index in
+    let held = c.args.held in (
+      c.hold_new.auto.store ∙ c.loop-e.invariant.0,
+      ap (λ (ws : List ℕ). holds_in held ws (drop (i + 1) own)) c.hold_new.ensures
+          ∙ sym (at_drop_more (holds_in held c.loop-e.store) own i nobody c.loop-e-test.true) ∙ c.loop-e.invariant.1,
+    )
 
 pub returns : goal.returns
-returns c = c.loop-i.invariant.2 ∙ ap (λ (i : ℕ). holds_in c.args.held c.args.store.now (own_to c.args.own i)) (omega arith)
+unfolding holds_in
+returns c = sym (at_drop_all (holds_in c.args.held c.loop-e.store) c.args.own.now c.loop-e.e-index c.loop-e-test.false) ∙ c.loop-e.invariant.1

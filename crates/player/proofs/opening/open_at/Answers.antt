@@ -2,7 +2,6 @@ use Prim.Native.Nat.{◌*◌}
 use native.Mathlib.Omega.{arith}
 use Rattle.player.proofs.Delivery as dl
 use Rattle.player.proofs.Started as st
-use borrow.Author.Rules.{rules}
 use Rattle.player.proofs.opening.open_at.Goals as goal
 
 pub returns : goal.returns

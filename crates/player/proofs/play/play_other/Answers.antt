@@ -1,6 +1,5 @@
 use Rattle.player.specs.Desks.{desk}
 use Rattle.player.proofs.PlayMove as mv
-use borrow.Author.Rules.{rules}
 use Rattle.player.proofs.play.play_other.Goals as goal
 
 pub returns-then-office-gt2 : goal.returns-then-office-gt2

@@ -1,18 +1,22 @@
-use Rattle.office.specs.Decide.{with_seen}
 use Rattle.player.specs.Desks.{desk}
 use Rattle.player.proofs.LineRead as rd
-use borrow.Author.Rules.{rules}
 use Rattle.player.proofs.play.read_line.Goals as goal
 
-pub read_at-read-requires : goal.read_at-read-requires
-read_at-read-requires c = let S = c.requires.1.3.1 in (S.placed c.args.i c.requires.0, S.long_stores)
+pub returns-in-Ok : goal.returns-in-Ok
+returns-in-Ok c = λ ss row lines g own S.
+    let a = c.args in
+    let q = c.read_at in
+    let d = desk ss a.board in
+    let x = c.in-Ok.field-0 in
+    rw c.reply_of.ensures
+    (rd.line_done g d a.stores.now lines S a.i c.requires.0 a.s.now own a.plot row q.new.stores q.ensures.1 x.entry _
+    (rd.seen_done (rd.Promised g d a.stores.now lines S a.i c.requires.0 a.s.now own a.plot row q.new.stores q.ensures.1) a.s.now q.result x c.in-Ok.is q.ensures.0))
 
-pub returns-in-Refused : goal.returns-in-Refused
-returns-in-Refused c = λ ss row lines g own S.
-    let q = c.read_at-read in
-    rd.line_refused g (desk ss c.args.board) c.args.stores.now lines S c.args.i c.requires.0 c.args.s own c.args.plot row q.result.status q.result.found q.result.entry (with_seen c.args.s q.result.seen) q.new.stores q.ensures.0 q.ensures.1 c.in-Refused.refusal c.number_of-code.result c.in-Refused.is c.number_of-code.ensures
-
-pub returns-in-Accepted : goal.returns-in-Accepted
-returns-in-Accepted c = λ ss row lines g own S.
-    let q = c.read_at-read in
-    rd.line_done g (desk ss c.args.board) c.args.stores.now lines S c.args.i c.requires.0 c.args.s own c.args.plot row q.result.status q.result.found q.result.entry (with_seen c.args.s q.result.seen) q.new.stores q.ensures.0 q.ensures.1 c.reply_of-reply.result c.in-Accepted.is c.reply_of-reply.ensures
+pub returns-in-Err : goal.returns-in-Err
+returns-in-Err c = λ ss row lines g own S.
+    let a = c.args in
+    let q = c.read_at in
+    let d = desk ss a.board in
+    rw c.from.ensures
+    (rd.line_refused g d a.stores.now lines S a.i c.requires.0 a.s.now own a.plot row q.new.stores q.ensures.1 c.in-Err.refusal
+    (rd.seen_refused (rd.Promised g d a.stores.now lines S a.i c.requires.0 a.s.now own a.plot row q.new.stores q.ensures.1) a.s.now q.result c.in-Err.refusal c.in-Err.is q.ensures.0))

@@ -7,7 +7,6 @@ use Rattle.causal.specs.Lists.{part}
 use Rattle.frame.specs.Refusals.{reply_of}
 use Rattle.office.specs.Promises.{ReceivePromise}
 use Rattle.player.proofs.Delivery as dl
-use borrow.Author.Rules.{rules}
 use Rattle.player.proofs.play.receive_at.Goals as goal
 
 pub returns : goal.returns

@@ -1,9 +1,8 @@
-use Prim.Native.Nat.{ℕ, ◌+◌, ◌-◌, ◌≤◌}
+use Prim.Native.Nat.{◌+◌}
 use mathlib.Core.Path.{◌∙◌, ◌≡◌, ap}
 use native.Mathlib.Omega.{arith}
-use Rattle.player.specs.Desks.{Cut, length_at, start_of}
+use Rattle.player.specs.Desks.{length_at, start_of}
 use Rattle.player.proofs.Cuts as cuts
-use borrow.Author.Rules.{rules}
 use Rattle.player.proofs.queue.count_frames.Goals as goal
 
 pub loop-at-init : goal.loop-at-init

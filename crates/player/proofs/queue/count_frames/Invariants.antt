@@ -1,9 +1,6 @@
-use Prim.Native.Nat.{ℕ, ◌+◌, ◌-◌, ◌≤◌}
-use mathlib.Core.Path.{◌∙◌, ◌≡◌, ap}
-use native.Mathlib.Omega.{arith}
-use Rattle.player.specs.Desks.{Cut, length_at, start_of}
-use Rattle.player.proofs.Cuts as cuts
-use borrow.Author.Rules.{rules}
+use Prim.Native.Nat.{ℕ, ◌-◌, ◌≤◌}
+use mathlib.Core.Path.{◌≡◌}
+use Rattle.player.specs.Desks.{Cut, start_of}
 use Rattle.player.proofs.queue.count_frames.Given as goal
 
 abbrev pub invariant-loop-at : goal.invariant-loop-at

@@ -2,7 +2,6 @@ use Rattle.ring.proofs.Fit.{next_step, next_wrap}
 use mathlib.Core.Path.{◌∙◌, sym}
 use native.Mathlib.Omega.{arith}
 use native.Mathlib.Numerals.{add-one}
-use borrow.Author.Rules.{rules}
 use Rattle.player.proofs.queue.next_of.Goals as goal
 
 pub returns-then-office-lt3 : goal.returns-then-office-lt3

@@ -1,13 +1,11 @@
-use Prim.Native.Nat.{◌%◌, ◌+◌, ◌-◌, ◌≤◌}
+use Prim.Native.Nat.{◌%◌, ◌+◌}
 use mathlib.Core.List.{◌∷◌}
 use mathlib.Core.Path.{◌∙◌, ◌≡◌, ap}
 use native.Mathlib.Omega.{arith}
-use lib.ListN.{length}
 use lib.Seq.{sets}
 use Rattle.causal.specs.Lists.{part}
-use Rattle.player.specs.Desks.{frame_len, length_at, pushed, slot_at, start_of}
+use Rattle.player.specs.Desks.{frame_len, length_at, pushed, slot_at}
 use Rattle.player.proofs.Cuts as cuts
-use borrow.Author.Rules.{rules}
 use Rattle.player.proofs.queue.push_frames.Goals as goal
 
 pub loop-k-init : goal.loop-k-init

@@ -1,13 +1,7 @@
-use Prim.Native.Nat.{◌%◌, ◌+◌, ◌-◌, ◌≤◌}
-use mathlib.Core.List.{◌∷◌}
-use mathlib.Core.Path.{◌∙◌, ◌≡◌, ap}
-use native.Mathlib.Omega.{arith}
+use Prim.Native.Nat.{◌≤◌}
+use mathlib.Core.Path.{◌≡◌}
 use lib.ListN.{length}
-use lib.Seq.{sets}
-use Rattle.causal.specs.Lists.{part}
-use Rattle.player.specs.Desks.{frame_len, length_at, pushed, slot_at, start_of}
-use Rattle.player.proofs.Cuts as cuts
-use borrow.Author.Rules.{rules}
+use Rattle.player.specs.Desks.{pushed, start_of}
 use Rattle.player.proofs.queue.push_frames.Given as goal
 
 abbrev pub invariant-loop-k : goal.invariant-loop-k

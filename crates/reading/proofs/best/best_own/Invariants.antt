@@ -1,7 +1,7 @@
 use mathlib.Core.Path.{◌≡◌}
-use Prim.Native.Nat.{◌≤◌}
-use Rattle.reading.specs.Readings.{best_to}
+use lib.ListN.{drop}
+use Rattle.store.specs.Offices.{best_own}
 use Rattle.reading.proofs.best.best_own.Given as goal
 
-abbrev pub invariant-loop-i : goal.invariant-loop-i
-invariant-loop-i l = (l.i ≤ l.count) × (l.best ≡ best_to l.own l.plot l.initial.best l.i)
+abbrev pub invariant-loop-e : goal.invariant-loop-e
+invariant-loop-e l = best_own l.plot l.best (drop l.e-index l.own) ≡ best_own l.plot l.initial.best l.own

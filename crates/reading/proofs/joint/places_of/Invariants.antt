@@ -1,8 +1,7 @@
 use mathlib.Core.Path.{◌≡◌}
-use Prim.Native.Nat.{◌≤◌}
 use lib.ListN.{length}
 use Rattle.reading.specs.Readings.{PlacesTo}
 use Rattle.reading.proofs.joint.places_of.Given as goal
 
 abbrev pub invariant-loop-i : goal.invariant-loop-i
-invariant-loop-i l = (l.i ≤ length l.plots) × (length l.places ≡ 16) × PlacesTo l.store l.visible l.plots l.i l.places
+invariant-loop-i l = (length l.places ≡ 16) × PlacesTo l.store l.visible l.plots l.i l.places

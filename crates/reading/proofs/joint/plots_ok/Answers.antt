@@ -1,20 +1,23 @@
-use native.Mathlib.Omega.{arith}
-use Rattle.reading.proofs.JointReads.{plots_more, plots_fail, plots_done}
-use Rattle.causal.proofs.Tests.{all_none}
-use Rattle.causal.proofs.Chain.{le_fails}
+use mathlib.Core.Path.{◌∙◌, ap, sym}
+use mathlib.Core.Bool.{Bool}
+use lib.Dec.{ltb}
+use lib.ListN.{length}
+use borrow.Author.Tests.{le-leb, lt-leb}
+use Rattle.std.proofs.Common.{rules, tests}
+use Rattle.std.proofs.lemmas.Iterator.{YieldsList-from_slice}
+use Rattle.std.proofs.lemmas.Iterator.Search.{all_from_yields_List}
+use Rattle.causal.specs.Tests.{both}
+use Rattle.reading.proofs.JointReads.{plots_all}
 use Rattle.reading.proofs.joint.plots_ok.Goals as goal
 
-pub returns-then-plots-gt16 : goal.returns-then-plots-gt16
-returns-then-plots-gt16 c = le_fails _ 16 _ c.if-plots-gt16.true
+pub returns-then-plots-le16 : goal.returns-then-plots-le16
+unfolding both
+returns-then-plots-le16 c = let qs = c.args.plots.now in
+    let few = le-leb (length qs) 16 c.if-plots-le16.true in
+    rw few
+    (all_from_yields_List (λ q. ltb q c.args.p) _ _ c.all.result c.all.ensures.ran (YieldsList-from_slice qs cc) (λ x b q k. search (rules, tests))
+    ∙ plots_all c.args.p qs)
 
-pub loop-i-init : goal.loop-i-init
-loop-i-init c = (omega arith, c.if-plots-gt16.false, all_none _)
-
-pub returns-then-plots-i : goal.returns-then-plots-i
-returns-then-plots-i c = plots_fail c.args.p c.args.plots.now c.loop-i.i c.loop-i.invariant.1 (omega arith) c.if-plots-i.true
-
-pub loop-i-preserved : goal.loop-i-preserved
-loop-i-preserved c = (omega arith, c.loop-i.invariant.1, plots_more c.args.p c.args.plots.now c.loop-i.i c.loop-i.invariant.2 c.if-plots-i.false)
-
-pub returns : goal.returns
-returns c = plots_done c.args.p c.args.plots.now c.loop-i.i c.loop-i.invariant.1 c.loop-i.invariant.2 c.loop-i.invariant.0 c.loop-i-test.false
+pub returns-else-plots-le16 : goal.returns-else-plots-le16
+unfolding both
+returns-else-plots-le16 c = rw (lt-leb (length c.args.plots.now) 16 c.if-plots-le16.false)

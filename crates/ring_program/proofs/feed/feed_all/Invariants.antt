@@ -11,8 +11,8 @@ use Rattle.ring_program.specs.Fed.{Leads, desk_of, fed}
 use Rattle.ring_program.proofs.feed.feed_all.Given as goal
 
 abbrev pub invariant-loop-from : goal.invariant-loop-from
-invariant-loop-from l = (l.from ≤ length l.bytes) × (length l.out ≡ length l.initial.out) × (length l.text ≡ length l.initial.text) × (length l.stores ≡ length l.initial.stores) × (length l.lines ≡ length l.initial.lines) × (l.cur.at ≡ 0) × (l.cur.wrote ≡ true)
-    × ((g : Scene) (bs : List ℕ) → Shows g (desk_of l.initial.cur) l.initial.stores l.initial.lines → l.initial.cur.pending ≡ pending_of bs → Leads (fed g bs (part l.bytes 0 l.from)) l.cur l.stores l.lines)
+invariant-loop-from l = (l.from ≤ length l.bytes) × (length l.out ≡ length l.initial.out) × (length l.text ≡ length l.initial.text) × (length l.stores ≡ length l.initial.stores) × (length l.lines ≡ length l.initial.lines) × (l.stage.at ≡ 0) × (l.stage.wrote ≡ true)
+    × ((g : Scene) (bs : List ℕ) → Shows g (desk_of l.initial.stage) l.initial.stores l.initial.lines → l.initial.stage.pending ≡ pending_of bs → Leads (fed g bs (part l.bytes 0 l.from)) l.stage l.stores l.lines)
 
 abbrev pub decreases-loop-from : goal.decreases-loop-from
 decreases-loop-from l = length l.bytes - l.from

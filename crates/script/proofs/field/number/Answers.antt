@@ -1,16 +1,30 @@
-use native.Mathlib.Omega.{arith}
-use mathlib.Core.Path.{◌∙◌}
-use Rattle.script.proofs.Numbers.{field_none, field_one, field_zero, field_many}
+use Rattle.std.proofs.Common.{arith, ◌∙◌, sym}
+use Rattle.std.proofs.lemmas.List.{at_drop_more, at_drop_all}
+use Rattle.script.proofs.Numbers.{behind, behind_none, behind_digit, digit_below, behind_stop, no_first, zero_first, whole_number}
 use Rattle.script.proofs.field.number.Goals as goal
 
-pub returns-then-n-eq0 : goal.returns-then-n-eq0
-returns-then-n-eq0 c = field_none c.args.part.now c.if-n-eq0.true
+pub returns-in_err-first : goal.returns-in_err-first
+returns-in_err-first c = c.from_residual.ensures ∙ no_first c.args.field.now c.in_err-first.ensures.value
 
-pub returns-then-n-eq1 : goal.returns-then-n-eq1
-returns-then-n-eq1 c = c.value.ensures ∙ field_one c.args.part.now c.if-n-eq1.true
+pub returns-then-field-gt1 : goal.returns-then-field-gt1
+returns-then-field-gt1 c = zero_first c.args.field.now _ c.in_ok-first.ensures.value c.if-first-eq48.true c.if-field-gt1.true
 
-pub returns-then-part-eq48 : goal.returns-then-part-eq48
-returns-then-part-eq48 c = field_zero c.args.part.now (omega arith) c.if-part-eq48.true
+pub loop-b-preserved : goal.loop-b-preserved
+loop-b-preserved c =
+    let L = c.loop-b in
+    let e = sym c.with_digit.ensures ∙ c.in_ok-v.was in
+    (digit_below _ _ _ e, sym (behind_digit _ _ _ _ e) ∙ sym (at_drop_more (behind L.v) c.args.field.now L.b-index 0 (omega arith)) ∙ L.invariant.1)
+
+pub returns-in_err-v : goal.returns-in_err-v
+returns-in_err-v c =
+    let f = c.args.field.now in
+    let L = c.loop-b in
+    c.from_residual-in_err-v.ensures ∙ sym (behind_stop _ _ _ (sym c.with_digit.ensures ∙ c.in_err-v.was)) ∙ sym (at_drop_more (behind L.v) f L.b-index 0 (omega arith))
+    ∙ L.invariant.1 ∙ whole_number f _ c.in_ok-first.ensures.value c.else-first-eq48.either
 
 pub returns : goal.returns
-returns c = c.value-2.ensures ∙ field_many c.args.part.now (omega arith) c.if-part-eq48.false
+returns c =
+    let f = c.args.field.now in
+    let L = c.loop-b in
+    sym (behind_none L.v (omega arith)) ∙ sym (at_drop_all (behind L.v) f L.b-index (omega arith))
+    ∙ L.invariant.1 ∙ whole_number f _ c.in_ok-first.ensures.value c.else-first-eq48.either

@@ -1,31 +1,23 @@
 use Rattle.std.proofs.Common.{◌+◌, refl, arith}
-use lib.Count.{count_trailing_zeros, trailing_le}
-use Rattle.causal.proofs.Walk.{passed_none, next}
+use Rattle.causal.proofs.Walk.{passed_none}
+use Rattle.store.proofs.Steps.{taken}
 use Rattle.store.specs.Tops.{tops_in}
 use Rattle.store.proofs.Joins.{tops_more, tops_done}
 use Rattle.store.proofs.clock.tops_in.Goals as goal
 
-pub loop-rest-init : goal.loop-rest-init
+pub loop-b-init : goal.loop-b-init
 unfolding tops_in
-loop-rest-init c = (0, passed_none c.args.w (omega arith), refl)
+loop-b-init c = (0, rw c.into_iter-b-iterator.ensures.into_iter_gives (passed_none c.args.w (omega arith)), refl)
 
-pub overflow_cast-k : goal.overflow_cast-k
-overflow_cast-k c = omega (arith, trailing_le 32 c.loop-rest.rest)
-
-pub overflow_add-k : goal.overflow_add-k
-overflow_add-k c = omega (arith, trailing_le 32 c.loop-rest.rest)
-
-pub clock_at-clock-requires : goal.clock_at-clock-requires
-clock_at-clock-requires c = let x = next c.args.w c.loop-rest.invariant.0 c.loop-rest.rest c.loop-rest.invariant.1 c.loop-rest-test.true in
+pub clock_at-requires : goal.clock_at-requires
+clock_at-requires c =
+    let x = taken _ _ _ _ _ c.loop-b.invariant.1 c.in-Some.ensures.steps in
     c.requires.1 _ x.below x.member
 
-pub loop-rest-smaller : goal.loop-rest-smaller
-loop-rest-smaller c = let x = next c.args.w c.loop-rest.invariant.0 c.loop-rest.rest c.loop-rest.invariant.1 c.loop-rest-test.true in
-    x.falls
-
-pub loop-rest-preserved : goal.loop-rest-preserved
-loop-rest-preserved c = let x = next c.args.w c.loop-rest.invariant.0 c.loop-rest.rest c.loop-rest.invariant.1 c.loop-rest-test.true in
-    (count_trailing_zeros 32 c.loop-rest.rest + 1, x.then, tops_more c.args.store.now c.args.i c.args.w c.args.before c.loop-rest.invariant.0 c.loop-rest.rest _ c.loop-rest.tops _ _ x c.loop-rest.invariant.2 c.clock_at-clock.ensures c.join-more.ensures)
+pub loop-b-preserved : goal.loop-b-preserved
+loop-b-preserved c =
+    let x = taken _ _ _ _ _ c.loop-b.invariant.1 c.in-Some.ensures.steps in
+    (c.in-Some.b + 1, rw c.in-Some.ensures.steps.2 x.then, tops_more c.args.store.now c.args.i c.args.w c.args.before c.loop-b.invariant.0 _ _ c.loop-b.tops _ _ x c.loop-b.invariant.2 c.clock_at.ensures c.join-more.ensures)
 
 pub returns : goal.returns
-returns c = tops_done c.args.store.now c.args.i c.args.w c.args.before c.loop-rest.invariant.0 c.loop-rest.rest c.loop-rest.tops c.loop-rest.invariant.1 c.loop-rest-test.false c.loop-rest.invariant.2
+returns c = tops_done c.args.store.now c.args.i c.args.w c.args.before c.loop-b.invariant.0 _ c.loop-b.tops c.loop-b.invariant.1 c.in-None.ensures.steps c.loop-b.invariant.2

@@ -21,5 +21,10 @@ shape_of-store c =
     len2
 
 pub returns : goal.returns
-returns c = let at = c.args.at in
-    record { laid = c.put-2.ensures.laid ∙ ap (λ (l : List ℕ). sets l (at + 10) c.args.e.deps) c.put.ensures.laid ∙ entry_run c.args.store.now at c.args.e c.put.ensures.eight; eighteen = entry_eighteen c.args.e c.put.ensures.eight c.put-2.ensures.eight }
+returns c =
+    let at = c.args.at in
+    let e = c.args.e.now in
+    record {
+      laid = c.put-2.ensures.laid ∙ ap (λ (l : List ℕ). sets l (at + 10) e.deps) c.put.ensures.laid ∙ entry_run c.args.store.now at e c.put.ensures.eight;
+      eighteen = entry_eighteen e c.put.ensures.eight c.put-2.ensures.eight;
+    }

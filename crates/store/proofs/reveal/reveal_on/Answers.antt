@@ -30,8 +30,8 @@ pub deps_at-deps-requires : goal.deps_at-deps-requires
 deps_at-deps-requires c =
     let start_ready : Ready (deps_in c.args.store.now) (part c.args.store.now 3 8) (part c.args.store.now 11 8) (get_or c.args.store.now 0 0) c.args.seeds = ready c.args.store.now (λ i. (c.shared_slice_known-1.given i).fits) c.requires.0 c.args.seeds (id_set c.args.seeds c.well_formed.1.0) c.requires.1 in
     let asked : c.lowest_of-next.result ≡ lowest_of (minus c.loop-k.pending c.loop-k.visible) = c.lowest_of-next.ensures ∙ ap lowest_of c.without-left.ensures in
-    let found : Step (deps_in c.args.store.now) (part c.args.store.now 3 8) (part c.args.store.now 11 8) (get_or c.args.store.now 0 0) c.args.seeds c.loop-k.pending c.loop-k.visible c.loop-k.steps c.in-At.k = step (deps_in c.args.store.now) (part c.args.store.now 3 8) (part c.args.store.now 11 8) (get_or c.args.store.now 0 0) c.args.seeds (start_ready) c.loop-k.pending c.loop-k.visible c.loop-k.steps c.in-At.k c.loop-k.invariant.0
-    (sym (asked) ∙ c.in-At.is) in
+    let found : Step (deps_in c.args.store.now) (part c.args.store.now 3 8) (part c.args.store.now 11 8) (get_or c.args.store.now 0 0) c.args.seeds c.loop-k.pending c.loop-k.visible c.loop-k.steps c.in-Some.k = step (deps_in c.args.store.now) (part c.args.store.now 3 8) (part c.args.store.now 11 8) (get_or c.args.store.now 0 0) c.args.seeds (start_ready) c.loop-k.pending c.loop-k.visible c.loop-k.steps c.in-Some.k c.loop-k.invariant.0
+    (sym (asked) ∙ c.in-Some.is) in
     let r = rules_of c.args.store.now c.requires.0 in
     omega (arith, (found).id, r.laid.long)
 
@@ -39,8 +39,8 @@ pub overflow_add-steps : goal.overflow_add-steps
 overflow_add-steps c =
     let start_ready : Ready (deps_in c.args.store.now) (part c.args.store.now 3 8) (part c.args.store.now 11 8) (get_or c.args.store.now 0 0) c.args.seeds = ready c.args.store.now (λ i. (c.shared_slice_known-1.given i).fits) c.requires.0 c.args.seeds (id_set c.args.seeds c.well_formed.1.0) c.requires.1 in
     let asked : c.lowest_of-next.result ≡ lowest_of (minus c.loop-k.pending c.loop-k.visible) = c.lowest_of-next.ensures ∙ ap lowest_of c.without-left.ensures in
-    let found : Step (deps_in c.args.store.now) (part c.args.store.now 3 8) (part c.args.store.now 11 8) (get_or c.args.store.now 0 0) c.args.seeds c.loop-k.pending c.loop-k.visible c.loop-k.steps c.in-At.k = step (deps_in c.args.store.now) (part c.args.store.now 3 8) (part c.args.store.now 11 8) (get_or c.args.store.now 0 0) c.args.seeds (start_ready) c.loop-k.pending c.loop-k.visible c.loop-k.steps c.in-At.k c.loop-k.invariant.0
-    (sym (asked) ∙ c.in-At.is) in
+    let found : Step (deps_in c.args.store.now) (part c.args.store.now 3 8) (part c.args.store.now 11 8) (get_or c.args.store.now 0 0) c.args.seeds c.loop-k.pending c.loop-k.visible c.loop-k.steps c.in-Some.k = step (deps_in c.args.store.now) (part c.args.store.now 3 8) (part c.args.store.now 11 8) (get_or c.args.store.now 0 0) c.args.seeds (start_ready) c.loop-k.pending c.loop-k.visible c.loop-k.steps c.in-Some.k c.loop-k.invariant.0
+    (sym (asked) ∙ c.in-Some.is) in
     let r = rules_of c.args.store.now c.requires.0 in
     omega (arith, (found).fresh, r.laid.few)
 
@@ -48,22 +48,22 @@ pub loop-k-smaller : goal.loop-k-smaller
 loop-k-smaller c =
     let start_ready : Ready (deps_in c.args.store.now) (part c.args.store.now 3 8) (part c.args.store.now 11 8) (get_or c.args.store.now 0 0) c.args.seeds = ready c.args.store.now (λ i. (c.shared_slice_known-1.given i).fits) c.requires.0 c.args.seeds (id_set c.args.seeds c.well_formed.1.0) c.requires.1 in
     let asked : c.lowest_of-next.result ≡ lowest_of (minus c.loop-k.pending c.loop-k.visible) = c.lowest_of-next.ensures ∙ ap lowest_of c.without-left.ensures in
-    let found : Step (deps_in c.args.store.now) (part c.args.store.now 3 8) (part c.args.store.now 11 8) (get_or c.args.store.now 0 0) c.args.seeds c.loop-k.pending c.loop-k.visible c.loop-k.steps c.in-At.k = step (deps_in c.args.store.now) (part c.args.store.now 3 8) (part c.args.store.now 11 8) (get_or c.args.store.now 0 0) c.args.seeds (start_ready) c.loop-k.pending c.loop-k.visible c.loop-k.steps c.in-At.k c.loop-k.invariant.0
-    (sym (asked) ∙ c.in-At.is) in
+    let found : Step (deps_in c.args.store.now) (part c.args.store.now 3 8) (part c.args.store.now 11 8) (get_or c.args.store.now 0 0) c.args.seeds c.loop-k.pending c.loop-k.visible c.loop-k.steps c.in-Some.k = step (deps_in c.args.store.now) (part c.args.store.now 3 8) (part c.args.store.now 11 8) (get_or c.args.store.now 0 0) c.args.seeds (start_ready) c.loop-k.pending c.loop-k.visible c.loop-k.steps c.in-Some.k c.loop-k.invariant.0
+    (sym (asked) ∙ c.in-Some.is) in
     omega (arith, (found).fresh)
 
 pub loop-k-preserved : goal.loop-k-preserved
 loop-k-preserved c =
     let asked : c.lowest_of-next.result ≡ lowest_of (minus c.loop-k.pending c.loop-k.visible) = c.lowest_of-next.ensures ∙ ap lowest_of c.without-left.ensures in
-    let of_slot : deps_in c.args.store.now c.in-At.k ≡ (entry_at c.args.store.now c.in-At.k).deps = let i = c.loop-k.invariant.0 in
-    let q = picked c.loop-k.pending c.loop-k.visible c.in-At.k i.wp i.wv (sym (asked) ∙ c.in-At.is) in
-    ap (λ (e : Entry). e.deps) (entry_held c.args.store.now c.in-At.k (i.held c.in-At.k q.pending)) in
+    let of_slot : deps_in c.args.store.now c.in-Some.k ≡ (entry_at c.args.store.now c.in-Some.k).deps = let i = c.loop-k.invariant.0 in
+    let q = picked c.loop-k.pending c.loop-k.visible c.in-Some.k i.wp i.wv (sym (asked) ∙ c.in-Some.is) in
+    ap (λ (e : Entry). e.deps) (entry_held c.args.store.now c.in-Some.k (i.held c.in-Some.k q.pending)) in
     let start_ready : Ready (deps_in c.args.store.now) (part c.args.store.now 3 8) (part c.args.store.now 11 8) (get_or c.args.store.now 0 0) c.args.seeds = ready c.args.store.now (λ i. (c.shared_slice_known-1.given i).fits) c.requires.0 c.args.seeds (id_set c.args.seeds c.well_formed.1.0) c.requires.1 in
-    let found : Step (deps_in c.args.store.now) (part c.args.store.now 3 8) (part c.args.store.now 11 8) (get_or c.args.store.now 0 0) c.args.seeds c.loop-k.pending c.loop-k.visible c.loop-k.steps c.in-At.k = step (deps_in c.args.store.now) (part c.args.store.now 3 8) (part c.args.store.now 11 8) (get_or c.args.store.now 0 0) c.args.seeds (start_ready) c.loop-k.pending c.loop-k.visible c.loop-k.steps c.in-At.k c.loop-k.invariant.0
-    (sym (asked) ∙ c.in-At.is) in
+    let found : Step (deps_in c.args.store.now) (part c.args.store.now 3 8) (part c.args.store.now 11 8) (get_or c.args.store.now 0 0) c.args.seeds c.loop-k.pending c.loop-k.visible c.loop-k.steps c.in-Some.k = step (deps_in c.args.store.now) (part c.args.store.now 3 8) (part c.args.store.now 11 8) (get_or c.args.store.now 0 0) c.args.seeds (start_ready) c.loop-k.pending c.loop-k.visible c.loop-k.steps c.in-Some.k c.loop-k.invariant.0
+    (sym (asked) ∙ c.in-Some.is) in
     let st = c.args.store.now in
     let n = get_or st 0 0 in
-    let k = c.in-At.k in
+    let k = c.in-Some.k in
     let p = c.loop-k.pending in
     let v = c.loop-k.visible in
     let s = c.loop-k.steps in
@@ -73,5 +73,5 @@ loop-k-preserved c =
     rw (ep, ev) (
       (found).next,
       c.loop-k.invariant.1 ∙ ap (λ (f : ℕ). stepsFrom f (deps_in st) p v s) fuel
-          ∙ step_at (32 * n - (s + 1)) (deps_in st) p v s k (sym (asked) ∙ c.in-At.is),
+          ∙ step_at (32 * n - (s + 1)) (deps_in st) p v s k (sym (asked) ∙ c.in-Some.is),
     )

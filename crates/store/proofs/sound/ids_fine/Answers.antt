@@ -1,11 +1,16 @@
-use Rattle.store.proofs.Deps.{not_lone, not_clocks, deps_asked}
+use Rattle.std.proofs.Common.{arith}
+use Rattle.std.proofs.lemmas.Grind.{common_steps}
+use Rattle.causal.specs.Tests.{both}
+use Rattle.store.proofs.Deps.{not_lone, all_asked}
 use Rattle.store.proofs.sound.ids_fine.Goals as goal
 
-pub returns-then-not-looked : goal.returns-then-not-looked
-returns-then-not-looked c = let q = c.look_all-looked in not_lone _ _ _ _ _ _ q.ensures c.if-not-looked.true
+pub returns-then-is_empty : goal.returns-then-is_empty
+unfolding both
+returns-then-is_empty c = grind (arith, common_steps, all_asked c.args.store.now c.args.n c.args.p c.args.ids c.args.all _ c.in-Some.ensures)
 
-pub returns-then-not-is_empty : goal.returns-then-not-is_empty
-returns-then-not-is_empty c = not_clocks _ _ _ _ _ _ c.look_all-looked.ensures c.if-not-looked.false _ c.is_empty.ensures c.if-not-is_empty.true-raw
+pub returns-else-is_empty : goal.returns-else-is_empty
+unfolding both
+returns-else-is_empty c = grind (arith, common_steps, all_asked c.args.store.now c.args.n c.args.p c.args.ids c.args.all _ c.in-Some.ensures)
 
-pub returns : goal.returns
-returns c = deps_asked _ _ _ _ _ _ c.look_all-looked.ensures c.if-not-looked.false _ c.is_empty.ensures c.if-not-is_empty.false-raw _ c.subset.ensures
+pub returns-in-None : goal.returns-in-None
+returns-in-None c = not_lone c.args.store.now c.args.n c.args.p c.args.ids c.args.all c.in-None.ensures

@@ -1,26 +1,22 @@
-use Rattle.std.proofs.Common.{◌<◌, ◌≤◌, length, get_or, sym, ◌∙◌, arith}
-use Rattle.causal.proofs.Chain.{chain}
-use borrow.Author.Tests.{not-false}
-use Rattle.store.specs.Offices.{need, sound_store}
-use Rattle.store.proofs.Rules.{short, settings_laid}
+use Rattle.std.proofs.Common.{◌≡◌, ◌≤◌, true, length, get_or, arith}
+use Rattle.std.proofs.lemmas.Grind.{common_steps}
+use Rattle.std.proofs.lemmas.Bool.Decides.{nat_tests}
+use Rattle.causal.specs.Tests.{both}
+use Rattle.store.specs.Offices.{need, settings_ok, sound_store}
+use Rattle.store.proofs.Rules.{settings_laid}
 use Rattle.store.proofs.sound.is_sound.Goals as goal
 
-pub returns-then-store-lt19 : goal.returns-then-store-lt19
-returns-then-store-lt19 c = let h : length c.args.store.now < 19 = c.if-store-lt19.true in
-    short c.args.store.now (omega arith)
-
-pub returns-then-not-settings_ok : goal.returns-then-not-settings_ok
-unfolding sound_store
-returns-then-not-settings_ok c = search (chain, arith) depth 9
+pub content_ok-requires : goal.content_ok-requires
+content_ok-requires c =
+    let set : settings_ok (get_or c.args.store.now 0 0) (get_or c.args.store.now 1 0) (get_or c.args.store.now 2 0) ≡ true = grind (arith, common_steps, nat_tests) in
+    let long : need (get_or c.args.store.now 0 0) ≤ length c.args.store.now = grind (arith, common_steps, nat_tests) in
+    let s = settings_laid _ _ _ set in
+    record { long = long; few = s.0; own = s.1 }
 
 pub returns-then-store-need_of : goal.returns-then-store-need_of
-returns-then-store-need_of c = short c.args.store.now (rw c.need_of.ensures at c.if-store-need_of.true)
+unfolding sound_store both
+returns-then-store-need_of c = grind (arith, common_steps, nat_tests)
 
-pub content_ok-requires : goal.content_ok-requires
-content_ok-requires c = let s = settings_laid _ _ _ (sym c.settings_ok.ensures ∙ not-false _ c.if-not-settings_ok.false-raw) in
-    record { long = rw c.need_of.ensures at c.if-store-need_of.false; few = s.0; own = s.1 }
-
-pub returns : goal.returns
-unfolding sound_store
-returns c = let h : need (get_or c.args.store.now 0 0) ≤ length c.args.store.now = rw c.need_of.ensures at c.if-store-need_of.false in
-    search (chain, arith) depth 9
+pub returns-else-store-need_of : goal.returns-else-store-need_of
+unfolding sound_store both
+returns-else-store-need_of c = grind (arith, common_steps, nat_tests)

@@ -1,9 +1,0 @@
-use Prim.Native.Nat.{◌≤◌}
-use mathlib.Core.Path.{◌≡◌}
-use lib.ListN.{length}
-use Rattle.office.specs.Steps.{own_to}
-use Rattle.writing.specs.Writes.{frames_in}
-use Rattle.writing.proofs.send.own_words.Given as goal
-
-abbrev pub invariant-loop-i : goal.invariant-loop-i
-invariant-loop-i l = (l.i ≤ l.count) × (l.words ≡ length (frames_in l.held l.n (own_to l.own l.i)))
