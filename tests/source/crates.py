@@ -10,8 +10,8 @@ TRUTHS = frozenset(["true", "false"])
 # What is made of one value, in an Option or a Result.
 MADE_OF = frozenset(["Some", "Ok", "Err"])
 # Methods of std that give a single number, and those that give what they are called on or given, or a part of it.
-SINGLE = frozenset("all any cmp count count_ones is_empty is_eq is_err is_ge is_gt is_le is_lt is_none is_ok is_some leading_zeros len".split())
-SINGLE |= frozenset("position sum then trailing_zeros wrapping_add wrapping_mul wrapping_sub".split())
+SINGLE = frozenset("all any cmp count is_empty is_eq is_err is_ge is_gt is_le is_lt is_none is_ok is_some len position sum then".split())
+SINGLE |= rattle.NUMBERS - {"max", "min"}
 KEEPING = frozenset("copied max min ok ok_or unwrap unwrap_or".split())
 # Traits whose functions are called by a macro, if not by their names.
 PRINTING = frozenset(["Debug", "Display"])

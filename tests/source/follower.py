@@ -21,10 +21,10 @@ RULES = {
     "anything by a call that has them, but by those that the walk names",
 }
 # Methods of std that neither give nor take a row, but by the rules for rows; those that take a closure, and the function that does.
-TAKING = frozenset("all any filter fold map map_err position take_while".split())
-KNOWN = TAKING | frozenset("checked_add checked_mul chunks_exact cmp copied count count_ones enumerate first first_chunk into".split())
-KNOWN |= frozenset("is_empty is_err is_ge is_gt is_le is_lt is_none is_ok is_some iter last leading_zeros len max min ok ok_or rev skip sum".split())
-KNOWN |= frozenset("take then trailing_zeros try_into unwrap unwrap_or wrapping_add wrapping_mul wrapping_sub zip".split()) | {COPY, FILL}
+TAKING = frozenset("all any filter find fold for_each is_some_and map map_err position take_while".split())
+KNOWN = TAKING | rattle.NUMBERS | {COPY, FILL}
+KNOWN |= frozenset("chunks_exact cmp contains copied count enumerate first first_chunk into is_empty is_err is_ge is_gt is_le".split())
+KNOWN |= frozenset("is_lt is_none is_ok is_some iter iter_mut last len ok ok_or rev skip sum take then try_into unwrap unwrap_or zip".split())
 FILLED = ("std", "array", "from_fn")
 # Names of std that a body may say by themselves.
 WORDS_OF_STD = frozenset(["None", "Option", "Result"])
@@ -175,7 +175,7 @@ class Follower:
                 self.look_at_type(Named(declared.path), file, function.path[-1], "a local", line)
             elif constant and path[0] not in values.names:
                 self.look_at_type(constant.type, file, function.path[-1], f"the constant {constant.name}", line)
-            elif follows not in ("(", ":") and not (len(path) == 1 and path[0] in ours) and path[0] not in rattle.WIDTHS and not rattle.is_test(body, at):
+            elif not (follows in ("(", ":") or path[0] in ours and len(path) == 1 or path[0] in rattle.WIDTHS or rattle.is_test(body, at)):
                 self.fault(FOLLOWED, function.file, line, f"{function.path[-1]} names {'::'.join(path)}, which is not found")
 
     def look_at_type(self, kind, file, where, name, line):
@@ -229,7 +229,9 @@ class Follower:
         if len(repeated) == 2 and rattle.written(repeated[0]) in rattle.WIDTHS:
             words = self.crates.words(rattle.type_of(group), values.file)
         else:
-            words = self.words_by_place(function.body, at, at + len(group), values) or values.of_array(group)
+            words = values.of_array(group)
+            asked = self.words_by_place(function.body, at, at + len(group), values) if len(repeated) == 2 else None
+            words = asked if asked and asked == self.crates.length(repeated[1], values.file) else words
             for element in elements:
                 if (values.of(element) or 3) > 2:
                     what = f"an array of {function.path[-1]} has `{rattle.written(element)}` in a place"

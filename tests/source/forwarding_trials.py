@@ -386,6 +386,7 @@ HOLDING = [
     hidden("nine places in an Option", SMALL, declared("fn keep(some: Option<[u32; 9]>) {}\n\n"), put("    keep(None);\n")),
     hidden("a pair of two rows' words", SMALL, declared(f"fn keep(some: ({many('[u32; 8]', 4)})) {{}}\n\n"), put("    keep(some);\n")),
 ]
+BY_PARTS = "        for part in out.chunks_exact(8) {\n            keep(part);\n        }\n"
 READING = [
     hidden("words copied to a local array", LENT, put("    some.copy_from_slice(&frame[..8]);\n"), put("    let mut some = [0u32; 8];\n")),
     hidden("words copied to a field", LENT, taken("    held.words.copy_from_slice(&frame[..8]);\n")),
@@ -400,18 +401,19 @@ READING = [
     hidden("the first eight", STRAIGHT, taken("    let part: [u32; 8] = *frame.first_chunk().unwrap();\n")),
     hidden("asked by an equality", STRAIGHT, taken("    if store[..8] == frame[..8] {\n        store[0] = 1;\n    }\n")),
     hidden("an iterator that is kept", LENT, put("    let words = frame.iter();\n    let more = (words, 1);\n")),
-    hidden("an iterator that is lent by a name", LENT, put("    let words = frame.iter();\n    keep(words);\n"), declared("fn keep(words: u32) {}\n\n")),
+    hidden("an iterator that is lent by a name", LENT, put("    let words = frame.iter();\n    keep(words);\n")),
     hidden("an iterator in a struct", LENT, put("    held.words = frame.iter();\n")),
     hidden("an iterator that is lent", LENT, put("    keep(frame.iter());\n"), declared("fn keep(words: u32) {}\n\n")),
     hidden("a vector of a row", FOLLOWED, put("    let some = frame.to_vec();\n")),
     hidden("a vector of an iterator", FOLLOWED, put("    let some = frame.iter().collect();\n")),
     hidden("a row's own method", LENT, put("    out.reverse();\n")),
     hidden("as many as a type says", FOLLOWED, put("    let some = frame.first_chunk::<267>();\n")),
-    hidden("the program has parts of the out row", LENT, before(FEED, PLAYED, "        for part in out.chunks_exact(8) {\n            keep(part);\n        }\n")),
+    hidden("the program has parts of the out row", LENT, before(FEED, PLAYED, BY_PARTS)),
 ]
 
 # Closures, and functions of types.
 FROM = "impl From<Held> for u32 {{\n    fn from(held: Held) -> u32 {{\n{}        held.a\n    }}\n}}\n\n"
+NEXT = "impl Iterator for Held {{\n    type Item = u32;\n\n    fn next(&mut self) -> Option<u32> {{\n{}        None\n    }}\n}}\n\n"
 HELD = "struct Held {\n    a: u32,\n}\n\n"
 METHOD = "impl Held {{\n    pub fn {}{{\n{}    }}\n}}\n\n"
 CLOSURES = [
@@ -421,6 +423,7 @@ CLOSURES = [
     hidden("a closure that is kept", FOLLOWED, put("    let twice = |i| 2 * i;\n")),
     hidden("a closure for a function of ours", FOLLOWED, put("    keep(|i| 2 * i);\n"), declared("fn keep<F: Fn(u32) -> u32>(f: F) {}\n\n")),
     hidden("a closure for any that is like one", FOLLOWED, put("    keep(|i| 2 * i);\n"), declared("fn keep(f: impl Fn(u32) -> u32) {}\n\n")),
+    hidden("an array beside an equality", SMALL, put("    let some = frame[..] == [0; 267];\n")),
     hidden("an array in a closure", SMALL, put("    let some = (0..8).all(|i| [0u32; 267][i] == 0);\n")),
     hidden("an array that a closure fills", SMALL, put("    let some: [u32; 267] = std::array::from_fn(|i| i as u32);\n")),
     hidden("so many as a type says", FOLLOWED, put("    let some = std::array::from_fn::<u32, 267, _>(|i| i as u32);\n")),
@@ -483,7 +486,7 @@ METHODS = [
         "an iterator of ours that makes a row",
         SMALL,
         [
-            declared(HELD + f"impl Iterator for Held {{\n    type Item = u32;\n\n    fn next(&mut self) -> Option<u32> {{\n{SCRATCH}        None\n    }}\n}}\n\n"),
+            declared(HELD + NEXT.format(SCRATCH)),
             put("    for some in (Held { a: 1 }) {}\n"),
         ],
         (FORWARD, SCRATCH),

@@ -26,6 +26,10 @@ NO_MANGLE = "unsafe ( no_mangle )"
 # How many words of 32 bits a number has.
 WIDTHS = {"bool": 1, "u8": 1, "u16": 1, "u32": 1, "i8": 1, "i16": 1, "i32": 1, "f32": 1}
 WIDTHS |= {"u64": 2, "usize": 2, "i64": 2, "isize": 2, "f64": 2}
+# Methods of a number that give numbers, one or in an Option.
+NUMBERS = frozenset("abs_diff checked_add checked_mul checked_sub count_ones div_ceil leading_ones leading_zeros max min pow".split())
+NUMBERS |= frozenset("saturating_add saturating_mul saturating_sub trailing_ones trailing_zeros".split())
+NUMBERS |= frozenset("wrapping_add wrapping_mul wrapping_neg wrapping_sub".split())
 
 Token = collections.namedtuple("Token", "kind text line")
 # References, slices, arrays with the tokens of their length, and names of numbers and declared types.

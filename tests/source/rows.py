@@ -9,14 +9,13 @@ from rattle import Ref, Slice
 # parts of the row.
 Word = collections.namedtuple("Word", "name line text parts", defaults=[False])
 
-# Methods that tell how long a row is, and of a single word those of numbers.
+# Methods that tell how long a row is.
 MEASURES = frozenset("is_empty len".split())
-NUMBERS = frozenset("count_ones leading_zeros max min trailing_zeros wrapping_add wrapping_mul wrapping_sub".split())
 # Methods that read a word of a row, all words one by one, and parts of it. What they give, if more than a word, is used up where it stands: by
 # a `for`, or by one of these.
-ONE, READS, PARTS = frozenset("first last".split()), frozenset(["iter"]), frozenset("chunks_exact first_chunk".split())
+ONE, READS, PARTS = frozenset("contains first last".split()), frozenset(["iter"]), frozenset("chunks_exact first_chunk".split())
 BETWEEN = frozenset("copied enumerate filter map rev skip take zip".split())
-USES = frozenset("all any count fold max min position sum unwrap unwrap_or".split())
+USES = frozenset("all any count find fold for_each max min position sum unwrap unwrap_or".split())
 # Methods that write to a row: words of another row or of an array, and one number to each place.
 COPY, FILL = "copy_from_slice", "fill"
 BESIDE = "zip"
@@ -73,7 +72,7 @@ class Rows:
             start -= 1
         follows, method = rattle.behind(body, end).text, self.method_at(end)
         if ahead == "[" and not has_range(body[at + 2 : end - 1]):
-            read = start == at and (follows not in ("[", ".", "(") or method in NUMBERS)
+            read = start == at and (follows not in ("[", ".", "(") or method in rattle.NUMBERS)
         elif follows == ".":
             if method in MEASURES or method in (COPY, FILL) and start == at:
                 return
