@@ -30,8 +30,8 @@ pub struct Stage {
     pub wrote: bool,
 }
 
-// A line played, by the session that it names, if it names one. The sessions are large: a line copies no more than the one that it names, and puts it back
-// where it has changed.
+// A line played, by the session that it names, if it names one. The sessions are large: a line copies no more than the one that it names, and puts it
+// back where it has changed.
 fn play(
     stage: &mut Stage,
     line: Line,
