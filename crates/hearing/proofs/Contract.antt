@@ -1,6 +1,7 @@
 -- The code of each call meets its contract (`_met`), which is its promise in office/specs/Promises.antt (`_is`) and asks for nothing (`_asks`): a
 -- changed `ensures` or an added `requires` breaks this file. Assumes nothing.
 use Rattle.std.proofs.Common.{Result}
+use Prim.Native.Nat.{ℕ}
 use mathlib.Core.Path.{◌≡◌, refl}
 use base.Logic.{SProp, emp}
 use contract.Monad.{Fun, fact}

@@ -1,4 +1,6 @@
 -- What `receive` answers and leaves, from what its parts do. Assumes nothing.
+use Rattle.std.proofs.Common.{Err, None, Ok, Option, Result, Some}
+use Rattle.std.specs.Result.{IsErrAnd}
 use Rattle.store.proofs.Rules.{laid as Laid-of}
 use Prim.Native.Nat.{ℕ, zero, suc, ◌+◌, ◌^◌, ◌<◌, ◌≤◌}
 use mathlib.Core.Path.{◌≡◌, refl, sym, ap, ap₂, ◌∙◌, subst}
@@ -15,16 +17,15 @@ use Rattle.causal.specs.Sets.{inserted, is_in, subset_of}
 use Rattle.causal.specs.Tests.{either}
 use Rattle.causal.proofs.Codes.{check_none, or_both}
 use Rattle.causal.proofs.Sets.{subset_by}
-use Rattle.causal.proofs.Tests.{not_so}
 use Rattle.frame.specs.Sessions.{SaneEntry}
 use Rattle.frame.specs.declared.entry.Frame.{Frame}
 use Rattle.frame.specs.Entries.{id_of}
 use Rattle.frame.specs.Frames.{ring_ok, frame_ok, frame_words, frame_of, accepts}
-use Rattle.frame.specs.Refusals.{Reply}
+use Rattle.frame.specs.Refusals.{Reply, number_of, reply_of}
+use Rattle.frame.specs.declared.refusal.Refusal.{Refusal}
 use Rattle.frame.specs.Tokens.{rows_of}
-use Rattle.frame.specs.Calls.{laid, read_frame_code, frame_if, read_frame}
+use Rattle.frame.specs.Calls.{laid, frame_in}
 use Rattle.frame.proofs.Entries.{frame_facts, facts_ring}
-use Rattle.frame.proofs.Reading.{told}
 use Rattle.store.specs.Offices.{Office, need, slot_at, office_of, store_words, sound_store, reveal, hold}
 use Rattle.store.specs.Slots.{hold_words}
 use Rattle.store.proofs.Bridge.{store_same}
@@ -33,15 +34,8 @@ use Rattle.store.proofs.Keep.{Sound, store_facts, sound_canon, sound_store_lem}
 use Rattle.store.proofs.Changes.{held_words, hold_words_lem, show_words}
 use Rattle.office.specs.Calls.{stored, entry_code, onward, receive_code, hold_new, received_by, receive_sends, receive_on, receive}
 use Rattle.office.specs.Steps.{hold_if}
-use Rattle.office.proofs.OwnCodes.{check_le, or_le, entry_le}
 use Rattle.office.proofs.KeepCalls.{Known, known, takes_new, kept, seed_set, seed_held}
 use Rattle.office.proofs.Slots.{settings, slot_of}
-
--- its number is one of the paper's
-pub receive_le : (O : Office) (f : Frame) (room : ℕ) → receive_code O f room ≤ 12
-unfolding receive_code
-receive_le O f room =
-    or_le _ _ (entry_le O f.entry) (check_le _ 12 _ (omega arith) (check_le _ 8 0 (omega arith) (omega arith)))
 
 module _ (ws : List ℕ) (f : Frame) (out : List ℕ) where
   abbrev pub Takes : Reply → List ℕ → List ℕ → Type 0
@@ -53,6 +47,12 @@ module _ (ws : List ℕ) (f : Frame) (out : List ℕ) where
   unfolding receive_on
   taken_refused zero e n = absurd (n refl)
   taken_refused (suc c) e n = let q = sym e in (rw q refl, rw q refl, rw q refl)
+
+  -- the exit of a `?`
+  pub answered : (r : Result ℕ Refusal) (x : Refusal) → IsErrAnd r (λ y. y ≡ x) → Takes (record { code = number_of x; words = 0 }) ws out → Takes (reply_of r) ws out
+  unfolding reply_of
+  answered (Ok n) x p T = absurd p
+  answered (Err y) x p T = rw p T
 
   done : receive_code (office_of ws) f (length out) ≡ 0
       → Takes (record { code = 0; words = length (rows_of (receive_sends f)) }) (store_words ws (received_by (office_of ws) f)) (laid (rows_of (receive_sends f)) out)
@@ -176,6 +176,24 @@ module _ (ws : List ℕ) (f : Frame) (out : List ℕ) where
           row : y ≡ laid (rows_of (receive_sends f)) out
           row = b ∙ ap (λ (l : List ℕ). laid l out) (sym sends)
 
+-- ---- the frame that a row has
+
+pub no_frame : (n p : ℕ) (fr : List ℕ) → None ≡ frame_in n p fr → accepts n p fr ≡ false
+unfolding frame_in
+no_frame n p fr q = go (accepts n p fr) q
+  where
+    go : (b : Bool) → None ≡ cond b (Some (frame_of fr)) None → b ≡ false
+    go true q = cc
+    go false q = refl
+
+pub some_frame : (n p : ℕ) (fr : List ℕ) (f : Frame) → Some f ≡ frame_in n p fr → (accepts n p fr ≡ true) × (f ≡ frame_of fr)
+unfolding frame_in
+some_frame n p fr f q = go (accepts n p fr) q
+  where
+    go : (b : Bool) → Some f ≡ cond b (Some (frame_of fr)) None → (b ≡ true) × (f ≡ frame_of fr)
+    go true q = (refl, cc)
+    go false q = absurd (cc)
+
 -- ---- the call
 
 module _ (ws fr out : List ℕ) where
@@ -192,28 +210,9 @@ module _ (ws fr out : List ℕ) where
   pub ring : sound_store ws ≡ true → ring_ok (get_or ws 0 0) (get_or ws 2 0) ≡ true
   ring t = facts_ring (get_or ws 0 0) (get_or ws 2 0) (settings ws t)
 
-  module _ (t : sound_store ws ≡ true) (f : Frame) (q : f ≡ read_frame (get_or ws 0 0) (get_or ws 2 0) fr) where
-    pub receive_format : f.offices ≡ 0 → Says (record { code = 9; words = 0 }) ws out
-    unfolding receive office_of read_frame_code check
-    receive_format z = let a = refused in (rw (t, a) refl, rw (t, a) refl, rw (t, a) refl)
-      where
-        refused : accepts (get_or ws 0 0) (get_or ws 2 0) fr ≡ false
-        refused =
-            not_so (accepts (get_or ws 0 0) (get_or ws 2 0) fr)
-            (λ u. let n : 9 ≡ 0 = (told (get_or ws 0 0) (get_or ws 2 0) fr (ring t) f q).0 z ∙ rw (ring t, u) refl in omega (arith, n))
-
-    code_none : (f.offices ≡ 0 → ⊥) → read_frame_code (get_or ws 0 0) (get_or ws 2 0) fr ≡ 0
-    code_none n = sym ((told (get_or ws 0 0) (get_or ws 2 0) fr (ring t) f q).1 n)
-
-    pub read_accepted : (f.offices ≡ 0 → ⊥) → accepts (get_or ws 0 0) (get_or ws 2 0) fr ≡ true
-    unfolding read_frame_code
-    read_accepted n =
-        let a = check_none (ring_ok (get_or ws 0 0) (get_or ws 2 0)) 1 _ (omega arith) (code_none n) in
-        (check_none (accepts (get_or ws 0 0) (get_or ws 2 0) fr) 9 0 (omega arith) a.1).0
-
-    pub read_frame_lem : (f.offices ≡ 0 → ⊥) → f ≡ frame_of fr
-    unfolding read_frame frame_if
-    read_frame_lem n = q ∙ rw (code_none n) refl
+  pub receive_format : sound_store ws ≡ true → None ≡ frame_in (get_or ws 0 0) (get_or ws 2 0) fr → Says (record { code = 9; words = 0 }) ws out
+  unfolding receive office_of
+  receive_format t q = let a = no_frame (get_or ws 0 0) (get_or ws 2 0) fr q in (rw (t, a) refl, rw (t, a) refl, rw (t, a) refl)
 
   pub receive_taken : (f : Frame) (r : Reply) (z y : List ℕ) → sound_store ws ≡ true → accepts (get_or ws 0 0) (get_or ws 2 0) fr ≡ true → f ≡ frame_of fr
       → Takes ws f out r z y → Says r z y

@@ -1,7 +1,8 @@
 -- How many frames a write sends: one for each own entry that is not held, and one. Assumes nothing.
 use Rattle.std.proofs.Common.{count_by, not}
+use Rattle.std.proofs.lemmas.List.Sums.{sum_by-cons}
 use Prim.Native.Nat.{ℕ, ◌+◌, ◌-◌, ◌≤◌}
-use mathlib.Core.Path.{◌≡◌, refl, ap, ◌∙◌}
+use mathlib.Core.Path.{◌≡◌, refl, sym, ap, ap₂, ◌∙◌}
 use mathlib.Core.Bool.{Bool, true, false, cond}
 use mathlib.Core.List.{List, [], ◌∷◌, ◌++◌}
 use native.Mathlib.Omega.{arith}
@@ -21,7 +22,12 @@ use Rattle.writing.specs.Writes.{outside}
 pub outside_is : (held : List ℕ) (es : List Entry) → outside held es ≡ count_by (λ e. not (is_in held (id_of e))) es
 unfolding outside
 outside_is held [] = refl
-outside_is held (e ∷ es) = ?
+outside_is held (e ∷ es) =
+    ap₂ (λ (m n : ℕ). m + n) (other (is_in held (id_of e))) (outside_is held es) ∙ sym (sum_by-cons (λ (x : Entry). cond (not (is_in held (id_of x))) 1 0) e es)
+  where
+    other : (b : Bool) → cond b 0 1 ≡ cond (not b) 1 0
+    other true = refl
+    other false = refl
 
 pub outside_le : (held : List ℕ) (es : List Entry) → outside held es ≤ length es
 unfolding outside

@@ -66,5 +66,6 @@ pub fn put_all(held: [u32; 8], n: u32, own: &[Entry], e: &Entry, out: &mut [u32]
     for own_write in own {
         at = put_turn(held, n, own_write, &mut *out, at);
     }
-    put_frame(&started(n, e), out, at)
+    let last = started(n, e);
+    put_frame(&last, out, at)
 }

@@ -1,59 +1,37 @@
+use Rattle.std.proofs.lemmas.Grind.{common_steps}
 use native.Mathlib.Omega.{arith}
-use Prim.Native.Nat.{ℕ, ◌<◌}
-use mathlib.Core.Path.{◌≡◌, refl, sym, ap, ◌∙◌}
-use lib.Dec.{leb, eqb}
+use mathlib.Core.Path.{◌≡◌, ap, ◌∙◌}
+use Prim.Native.Nat.{ℕ}
 use lib.ListN.{length, get_or}
+use Rattle.causal.specs.Codes.{check}
 use Rattle.causal.specs.Lists.{part}
 use Rattle.causal.specs.Sets.{subset_of}
 use Rattle.causal.specs.Tests.{either}
+use Rattle.causal.proofs.Codes.{or_goes}
 use Rattle.frame.specs.Frames.{frame_words}
-use Rattle.causal.proofs.Codes.{codes}
+use Rattle.frame.specs.Refusals.{code_of, number_of}
 use Rattle.frame.proofs.Entries.{frame_facts}
 use Rattle.store.specs.Offices.{office_of}
 use Rattle.store.proofs.Rules.{laid}
-use Rattle.office.specs.Calls.{onward, receive_code}
-use Rattle.hearing.proofs.Forwards.{length_onward}
+use Rattle.office.specs.Calls.{entry_code, onward, receive_code}
+use Rattle.office.proofs.Exits.{err_stops}
 use Rattle.office.proofs.Slots.{slot_of}
-use Rattle.hearing.proofs.receive.receive_code.Goals as goal
+use Rattle.hearing.proofs.Forwards.{length_onward}
+use Rattle.hearing.proofs.receive.may_take.Goals as goal
 
-pub bounds-store-1 : goal.bounds-store-1
-bounds-store-1 c = let ws = c.args.store.now in
-    let q = laid ws c.requires.0 in
-    let F = frame_facts (get_or ws 0 0) (get_or ws 2 0) c.args.f c.requires.2 in
-    let h : 1 < length ws = omega (arith, q.long) in h
+pub comes_in-requires : goal.comes_in-requires
+comes_in-requires c = let ws = c.args.store.now in
+    let F = frame_facts (get_or ws 0 0) (get_or ws 2 0) c.args.f.now c.requires.2 in
+    (c.requires.1, slot_of (get_or ws 0 0) (get_or ws 2 0) (length ws) c.args.f.now.entry (laid ws c.requires.0).long F.entry)
 
-pub entry_code-code-requires : goal.entry_code-code-requires
-entry_code-code-requires c = let ws = c.args.store.now in
-    let q = laid ws c.requires.0 in
-    let F = frame_facts (get_or ws 0 0) (get_or ws 2 0) c.args.f c.requires.2 in
-    (c.requires.1, refl, slot_of (get_or ws 0 0) (get_or ws 2 0) (length ws) c.args.f.entry q.long F.entry)
-
-pub returns-then-code-ne0 : goal.returns-then-code-ne0
-unfolding receive_code
-returns-then-code-ne0 c = search (codes, arith) depth 9
+pub returns-in_err-comes_in : goal.returns-in_err-comes_in
+unfolding receive_code code_of
+returns-in_err-comes_in c = err_stops c.from_residual.result _ (entry_code (office_of c.args.store.now) c.args.f.now.entry) _ c.from_residual.ensures.1 c.in_err-comes_in.ensures
 
 pub returns-then-not-subset : goal.returns-then-not-subset
-unfolding receive_code office_of
-returns-then-not-subset c = let ws = c.args.store.now in
-    let q = laid ws c.requires.0 in
-    let F = frame_facts (get_or ws 0 0) (get_or ws 2 0) c.args.f c.requires.2 in
-    let h : c.subset.result ≡ subset_of c.args.f.entry.deps (part ws 3 8) = c.subset.ensures ∙ ap (subset_of c.args.f.entry.deps) c.requires.1 in
-    search (codes, arith) depth 9
-
-pub returns-then-not-room_ok : goal.returns-then-not-room_ok
-unfolding receive_code office_of
-returns-then-not-room_ok c = let ws = c.args.store.now in
-    let q = laid ws c.requires.0 in
-    let F = frame_facts (get_or ws 0 0) (get_or ws 2 0) c.args.f c.requires.2 in
-    let h : c.subset.result ≡ subset_of c.args.f.entry.deps (part ws 3 8) = c.subset.ensures ∙ ap (subset_of c.args.f.entry.deps) c.requires.1 in
-    let g : c.room_ok.result ≡ either (eqb c.args.f.hops 0) (leb (length (frame_words (onward c.args.f))) c.args.room) = c.room_ok.ensures ∙ ap (λ (n : ℕ). either (eqb c.args.f.hops 0) (leb n c.args.room)) (c.requires.3 ∙ sym (length_onward c.args.f)) in
-    search (codes, arith) depth 9
+unfolding receive_code code_of number_of check either office_of
+returns-then-not-subset c = ?
 
 pub returns : goal.returns
-unfolding receive_code office_of
-returns c = let ws = c.args.store.now in
-    let q = laid ws c.requires.0 in
-    let F = frame_facts (get_or ws 0 0) (get_or ws 2 0) c.args.f c.requires.2 in
-    let h : c.subset.result ≡ subset_of c.args.f.entry.deps (part ws 3 8) = c.subset.ensures ∙ ap (subset_of c.args.f.entry.deps) c.requires.1 in
-    let g : c.room_ok.result ≡ either (eqb c.args.f.hops 0) (leb (length (frame_words (onward c.args.f))) c.args.room) = c.room_ok.ensures ∙ ap (λ (n : ℕ). either (eqb c.args.f.hops 0) (leb n c.args.room)) (c.requires.3 ∙ sym (length_onward c.args.f)) in
-    search (codes, arith) depth 9
+unfolding receive_code code_of number_of check either office_of
+returns c = ?

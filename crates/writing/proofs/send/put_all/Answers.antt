@@ -30,13 +30,13 @@ loop-own_write-preserved c = let z = c.args in
       put_more z.held z.n z.e.now z.own.now l.own_write-index nobody c.loop-own_write-test.true l.out _ l.at _ put.0 put.1 ∙ l.invariant.1,
     )
 
-pub started-requires : goal.started-requires
-started-requires c = (frame_facts c.args.n 64 (started c.args.n c.args.e.now) c.requires.1).low
+pub started-last-requires : goal.started-last-requires
+started-last-requires c = (frame_facts c.args.n 64 (started c.args.n c.args.e.now) c.requires.1).low
 
 pub put_frame-requires : goal.put_frame-requires
 put_frame-requires c = let z = c.args in
     let l = c.loop-own_write in
-    let g = c.started.ensures in
+    let g = c.started-last.ensures in
     let k = left_end z.held z.n z.e.now z.own.now l.own_write-index (omega arith) ∙ sym (ap frame_words g) in
     (subst (λ (x : Frame). frame_ok x.offices 64 x ≡ true) (sym g) c.requires.1, omega (arith, ap length k, l.invariant.0, c.requires.2))
 
@@ -45,7 +45,7 @@ unfolding laid
 returns c = let z = c.args in
     let l = c.loop-own_write in
     let put = c.put_frame.ensures in
-    let k = left_end z.held z.n z.e.now z.own.now l.own_write-index (omega arith) ∙ sym (ap frame_words c.started.ensures) in (
+    let k = left_end z.held z.n z.e.now z.own.now l.own_write-index (omega arith) ∙ sym (ap frame_words c.started-last.ensures) in (
       omega (arith, put.0, ap length k, l.invariant.0),
       put.1 ∙ ap (sets l.out l.at) (sym k) ∙ l.invariant.1 ∙ sets_front z.out.now (all_frames z.held z.n z.own.now z.e.now) c.requires.2,
     )
