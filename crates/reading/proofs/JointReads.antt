@@ -2,7 +2,7 @@
 use Rattle.std.proofs.Common.{Err, None, Ok, Option, Result, Some}
 use Rattle.std.specs.List.{list_all}
 use Rattle.std.specs.Result.{IsErrAnd, result_unwrap_or}
-use Prim.Native.Nat.{ℕ, zero, suc, ◌+◌, ◌*◌, ◌^◌, ◌<◌, ◌≤◌}
+use Prim.Native.Nat.{ℕ, zero, suc, ◌+◌, ◌*◌, ◌<◌, ◌≤◌}
 use mathlib.Core.Path.{◌≡◌, refl, sym, ap, ap₂, ◌∙◌, subst}
 use mathlib.Core.Bool.{Bool, true, false, cond}
 use mathlib.Core.List.{List, [], ◌∷◌, ◌++◌, append_assoc, append-nil, map}
@@ -10,13 +10,13 @@ use mathlib.Core.Logic.{⊎_elim}
 use native.Mathlib.Omega.{arith}
 use native.Mathlib.Numerals.{add-one}
 use lib.Dec.{leb, ltb, eqb}
-use lib.ListN.{length, get_or, set, length-append}
-use lib.Seq.{sets, get_or-set_same, get_or-set_other}
+use lib.ListN.{length, get_or, set, take, length-append}
+use lib.Seq.{sets, get_or-set_same, get_or-set_other, get_or-take}
 use borrow.Author.Tests.{leb-true}
 use Rattle.causal.specs.Tests.{both}
 use Rattle.causal.specs.Codes.{check, or_else}
 use Rattle.causal.specs.Lists.{part}
-use Rattle.causal.specs.Sets.{IdSet, subset_of}
+use Rattle.causal.specs.Sets.{subset_of}
 use Rattle.causal.proofs.Codes.{check_none, or_both}
 use Rattle.causal.proofs.Equal.{and_both}
 use Rattle.causal.proofs.Lists.{sets_append, sets_front}
@@ -31,11 +31,7 @@ use Rattle.frame.specs.Sessions.{Content, content_of, session_ok}
 use Rattle.frame.proofs.Entries.{entry_facts}
 use Rattle.store.specs.Offices.{Office, entry_at, office_of, store_words, sound_store, reveal, current, Found, better, best_own, consider}
 use Rattle.store.specs.Current.{InSlots, current_at, found_at}
-use Rattle.store.specs.Reveal.{revealed}
-use Rattle.store.specs.declared.reveal.Revealed.{Revealed}
-use Rattle.store.proofs.Changes.{revealed_visible}
 use Rattle.store.proofs.Rules.{rules_of}
-use Rattle.store.proofs.SoundChanges.{reveal_store, reveal_held, reveal_ids, reveal_current}
 use Rattle.office.specs.Calls.{answer_words, given, handed, handed_all, joint_code, joint_on, plots_ok, read_all, read_joint, three_words, worded}
 use Rattle.office.specs.Answers.{session_if, noted_in, noted_all_in, read_joint_session}
 use Rattle.office.specs.Decide.{start_code, noted_seen, seen_of, with_seen}
@@ -43,9 +39,9 @@ use Rattle.office.specs.Promises.{JointPromise}
 use Rattle.office.specs.Steps.{own_at}
 use Rattle.office.specs.declared.note.Seen.{Seen}
 use Rattle.frame.proofs.Refusals.{number_some}
-use Rattle.office.proofs.Notes.{current_slots, few_own, noted_with, start_facts, with_own}
+use Rattle.office.proofs.Notes.{few_own, noted_with, start_facts, with_own}
 use Rattle.office.proofs.Shape.{own_kept}
-use Rattle.reading.specs.Readings.{joint_refusal, found_among, handed_among, Named, NamedIn, OwnNamed, PlacesTo, words_to, seen_to}
+use Rattle.reading.specs.Readings.{joint_refusal, found_among, handed_among, Named, NamedIn, OwnNamed, PlacesTo, Shows, words_to, seen_to}
 use Rattle.reading.proofs.Readings.{Res, read_result, result_code}
 
 -- ---- plots in range
@@ -62,6 +58,10 @@ pub places_more : (ws v plots : List ℕ) (places : List (Option ℕ)) (i : ℕ)
 places_more ws v plots places i k l h e j m =
     ⊎_elim (λ (a : j < i). get_or-set_other places i j k None (λ (q : j ≡ i). omega arith) ∙ h j a)
     (λ (a : j ≡ i). subst (λ (x : ℕ). get_or (set places i k) x None ≡ current_at ws v (get_or plots x 0)) (sym a) (get_or-set_same places i k None l ∙ e)) (split j i (omega arith))
+
+-- of a longer row the first places, one for each plot
+pub places_front : (ws v plots : List ℕ) (places : List (Option ℕ)) → PlacesTo ws v plots (length plots) places → PlacesTo ws v plots (length plots) (take (length plots) places)
+places_front ws v plots places h j l = get_or-take (length plots) places j None l ∙ h j l
 
 -- ---- all plots, with what stands on each
 
@@ -224,38 +224,26 @@ starts ws s plots room h =
       held = (check_none (subset_of s.read (part ws 3 8)) 12 0 (omega arith) d.1).0;
     }
 
--- what a joint reading that is not refused has found out: the visible set to be, and what is current on each plot then
-pub record Sighted (ws read plots visible : List ℕ) (places : List (Option ℕ)) : Type 0 where
-  pub shown : visible ≡ (reveal (office_of ws) read).visible
+-- what a joint reading that is not refused has found out: what is current on each plot
+pub record Sighted (ws read plots : List ℕ) (places : List (Option ℕ)) : Type 0 where
   pub found : (j : ℕ) → j < length plots → found_among ws places j ≡ current (reveal (office_of ws) read) (get_or plots j 0)
   pub reach : (j : ℕ) → j < length plots → InSlots (length ws) (get_or places j None)
 
-module _ (ws : List ℕ) (words : (i : ℕ) → get_or ws i 0 < 2 ^ 32) (sound : sound_store ws ≡ true) (seeds : List ℕ) (w : IdSet seeds) (h : subset_of seeds (part ws 3 8) ≡ true) where
-  pub sighted : (r : Revealed) (e : r ≡ revealed (λ k. ((office_of ws).entry k).deps) (get_or ws 0 0) (part ws 11 8) seeds) (plots : List ℕ) (places : List (Option ℕ))
-      → PlacesTo ws r.visible plots (length plots) places → Sighted ws seeds plots r.visible places
-  unfolding found_among
-  sighted r e plots places p =
-      record {
-        shown = revealed_visible ws seeds r e;
-        found = λ j l. ap (found_at ws) (p j l) ∙ sym (reveal_current ws words sound seeds w h r e (get_or plots j 0));
-        reach =
-            λ j l.
-            subst (InSlots (length ws)) (sym (p j l))
-            (current_slots ws r.visible (get_or plots j 0) sound (reveal_ids ws words sound seeds w h r e).eight (reveal_held ws words sound seeds w h r e));
-      }
-
-  pub show_sighted : (plots v : List ℕ) (places : List (Option ℕ)) → Sighted ws seeds plots v places → sets ws 11 v ≡ store_words ws (reveal (office_of ws) seeds)
-  show_sighted plots v places D =
-      let r = revealed (λ k. ((office_of ws).entry k).deps) (get_or ws 0 0) (part ws 11 8) seeds in
-      ap (sets ws 11) (D.shown ∙ sym (revealed_visible ws seeds r refl)) ∙ reveal_store ws words sound seeds w h r refl
+pub sighted : (ws read plots visible : List ℕ) (places : List (Option ℕ)) → Shows ws read visible → PlacesTo ws visible plots (length plots) places → Sighted ws read plots places
+unfolding found_among
+sighted ws read plots visible places S p =
+    record {
+      found = λ j l. ap (found_at ws) (p j l) ∙ sym (S.found (get_or plots j 0));
+      reach = λ j l. subst (InSlots (length ws)) (sym (p j l)) (S.place (get_or plots j 0));
+    }
 
 module _ (ws : List ℕ) (s : Session) (plots : List ℕ) where
   abbrev O : Office
   O = reveal (office_of ws) s.read
 
-  pub stands_own : (v : List ℕ) (places : List (Option ℕ)) → Sighted ws s.read plots v places → Stands (handed O (content_of s)) (handed_among ws (content_of s).own plots places) plots
+  pub stands_own : (places : List (Option ℕ)) → Sighted ws s.read plots places → Stands (handed O (content_of s)) (handed_among ws (content_of s).own plots places) plots
   unfolding handed handed_among content_of
-  stands_own v places L j l = ap (λ (f : Found). best_own (get_or plots j 0) f (content_of s).own) (L.found j l)
+  stands_own places L j l = ap (λ (f : Found). best_own (get_or plots j 0) f (content_of s).own) (L.found j l)
 
   module _ (row : List ℕ) where
     abbrev R : Res
@@ -286,11 +274,11 @@ module _ (ws : List ℕ) (s : Session) (plots : List ℕ) where
             )
 
     -- g: what is handed back on each plot
-    pub joint_accepted : (v : List ℕ) (places : List (Option ℕ)) (g : ℕ → Found) (seen : Seen) (left out : List ℕ) → 0 ≡ joint_refusal ws (content_of s) plots (length row)
-        → Sighted ws s.read plots v places → Stands (handed O (content_of s)) g plots → seen ≡ seen_to (found_among ws places) (length plots) (seen_of s)
+    pub joint_accepted : (places : List (Option ℕ)) (g : ℕ → Found) (seen : Seen) (left out : List ℕ) → 0 ≡ joint_refusal ws (content_of s) plots (length row)
+        → Sighted ws s.read plots places → Stands (handed O (content_of s)) g plots → seen ≡ seen_to (found_among ws places) (length plots) (seen_of s)
         → left ≡ store_words ws O → out ≡ sets row 0 (words_to g (length plots)) → JointSays (Ok seen) left out
     unfolding code_of read_joint_session session_if content_of laid
-    joint_accepted v places g seen left out z L h a b d =
+    joint_accepted places g seen left out z L h a b d =
         let r = by_result 0 z in
         let words = words_to g (length plots) in
         let n : length words ≤ length row = omega (arith, words_length g (length plots), (starts ws s plots (length row) (sym z)).room_for) in

@@ -3,17 +3,16 @@ use Rattle.std.proofs.Common.{Err, None, Ok, Result, Some}
 use Rattle.std.specs.Option.{unwrap_or}
 use Rattle.std.specs.Prelude.{is_some}
 use Rattle.std.specs.Result.{IsErrAnd}
-use Prim.Native.Nat.{ℕ, zero, suc, ◌^◌, ◌<◌, ◌≤◌}
+use Prim.Native.Nat.{ℕ, zero, suc, ◌≤◌}
 use mathlib.Core.Path.{◌≡◌, refl, sym, ap, ◌∙◌}
 use mathlib.Core.Bool.{Bool, true, false}
 use mathlib.Core.List.{List, [], ◌∷◌}
 use native.Mathlib.Omega.{arith}
 use lib.Dec.{ltb}
-use lib.ListN.{length, get_or}
-use lib.Seq.{sets}
+use lib.ListN.{get_or}
 use Rattle.causal.specs.Codes.{check, or_else}
 use Rattle.causal.specs.Lists.{part}
-use Rattle.causal.specs.Sets.{IdSet, subset_of}
+use Rattle.causal.specs.Sets.{subset_of}
 use Rattle.causal.proofs.Codes.{check_none, or_both}
 use Rattle.frame.specs.declared.refusal.Refusal.{Refusal}
 use Rattle.frame.specs.declared.session.Session.{Session}
@@ -21,16 +20,12 @@ use Rattle.frame.specs.Entries.{blank_entry}
 use Rattle.frame.specs.Refusals.{code_of, number_of}
 use Rattle.frame.specs.Sessions.{Content, content_of, session_ok}
 use Rattle.store.specs.Offices.{Office, office_of, store_words, sound_store, reveal, current, Found, best_own}
-use Rattle.store.specs.Current.{InSlots, current_at, found_at}
-use Rattle.store.specs.Reveal.{revealed}
-use Rattle.store.specs.declared.reveal.Revealed.{Revealed}
-use Rattle.store.proofs.SoundChanges.{reveal_store, reveal_held, reveal_ids, reveal_current}
 use Rattle.office.specs.Calls.{Result as Outcome, given, worded, handed, read_all, read_code, read_on, read_plot}
 use Rattle.office.specs.Answers.{any_found, entry_found, session_if, noted_in, read_plot_session}
 use Rattle.office.specs.Decide.{start_code, noted_seen, seen_of, with_seen}
 use Rattle.office.specs.Promises.{ReadPromise}
 use Rattle.frame.proofs.Refusals.{number_some}
-use Rattle.office.proofs.Notes.{current_slots, few_own, noted_with, start_facts, with_own}
+use Rattle.office.proofs.Notes.{few_own, noted_with, start_facts, with_own}
 use Rattle.reading.specs.Answers.{handed_by, seen_entry, seen_found, seen_session}
 use Rattle.reading.specs.Readings.{read_refusal}
 use Rattle.reading.specs.declared.read.PlotSeen.{PlotSeen}
@@ -86,21 +81,6 @@ reads ws s plot h =
     let b = start_facts ws (content_of s) a.0 in
     let c = check_none (ltb plot (get_or ws 2 0)) 4 (check (subset_of s.read (part ws 3 8)) 12 0) (omega arith) a.1 in
     record { sound = b.0; few = few_own (get_or ws 0 0) (get_or ws 2 0) s b.1; held = (check_none (subset_of s.read (part ws 3 8)) 12 0 (omega arith) c.1).0 }
-
--- what it finds: r is what becomes visible, k the number of what is current then
-module _ (ws : List ℕ) (words : (i : ℕ) → get_or ws i 0 < 2 ^ 32) (s : Session) (ids : IdSet s.read) (q : Reads ws s) (r : Revealed)
-    (e : r ≡ revealed (λ k. ((office_of ws).entry k).deps) (get_or ws 0 0) (part ws 11 8) s.read) where
-  pub sees_held : subset_of r.visible (part ws 3 8) ≡ true
-  sees_held = reveal_held ws words q.sound s.read ids q.held r e
-
-  pub sees_store : sets ws 11 r.visible ≡ store_words ws (reveal (office_of ws) s.read)
-  sees_store = reveal_store ws words q.sound s.read ids q.held r e
-
-  pub sees_place : (plot : ℕ) → InSlots (length ws) (current_at ws r.visible plot)
-  sees_place plot = current_slots ws r.visible plot q.sound (reveal_ids ws words q.sound s.read ids q.held r e).eight sees_held
-
-  pub sees_current : (plot : ℕ) → current (reveal (office_of ws) s.read) plot ≡ found_at ws (current_at ws r.visible plot)
-  sees_current plot = reveal_current ws words q.sound s.read ids q.held r e plot
 
 module _ (ws : List ℕ) (s : Session) (plot : ℕ) where
   abbrev R : Res

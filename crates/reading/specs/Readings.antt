@@ -1,6 +1,6 @@
 -- The readings as code goes through them: refusal numbers from the store's words, own writes one after the other, several plots.
 -- proofs/Readings.antt, proofs/JointReads.antt: they say what Calls says. Assumes nothing.
-use Rattle.std.specs.Prelude.{ℕ, zero, suc, ◌*◌, ◌<◌, ◌≤◌, ◌≡◌, List, [], ◌++◌, leb, ltb, length, get_or, None, Option, Some}
+use Rattle.std.specs.Prelude.{true, ℕ, zero, suc, ◌*◌, ◌<◌, ◌≤◌, ◌≡◌, List, [], ◌++◌, leb, ltb, length, get_or, None, Option, Some}
 use Rattle.std.proofs.lemmas.List.Edits.{sets}
 use Rattle.causal.specs.Tests.{both}
 use Rattle.causal.specs.Codes.{check, or_else}
@@ -8,7 +8,7 @@ use Rattle.causal.specs.Lists.{part}
 use Rattle.causal.specs.Sets.{subset_of}
 use Rattle.frame.specs.declared.entry.Entry.{Entry}
 use Rattle.frame.specs.Sessions.{Content}
-use Rattle.store.specs.Offices.{Found, best_own}
+use Rattle.store.specs.Offices.{Found, best_own, current, office_of, reveal, store_words}
 use Rattle.store.specs.Current.{current_at, found_at, InSlots}
 use Rattle.office.specs.Calls.{plots_ok, three_words}
 use Rattle.office.specs.Decide.{start_code, noted_seen}
@@ -25,6 +25,15 @@ joint_refusal ws s plots room =
     or_else (start_code ws s)
     (check (both (leb (length plots) 16) (plots_ok (get_or ws 2 0) plots)) 4
     (check (leb (3 * length plots) room) 8 (check (subset_of s.read (part ws 3 8)) 12 0)))
+
+-- ---- what is shown
+
+-- a visible set is that of the store with the read ids brought out: what is current on a plot then, and the store that is left
+pub record Shows (ws read visible : List ℕ) : Type 0 where
+  pub held : subset_of visible (part ws 3 8) ≡ true
+  pub left : sets ws 11 visible ≡ store_words ws (reveal (office_of ws) read)
+  pub place : (plot : ℕ) → InSlots (length ws) (current_at ws visible plot)
+  pub found : (plot : ℕ) → current (reveal (office_of ws) read) plot ≡ found_at ws (current_at ws visible plot)
 
 -- ---- the answer of a joint reading
 

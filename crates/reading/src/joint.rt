@@ -43,7 +43,8 @@ fn may_read(store: &[u32], s: &Session, plots: &[u32], room: usize) -> Result<()
 // What is current on each plot.
 fn places_of(store: &[u32], visible: [u32; 8], plots: &[u32]) -> [Option<usize>; 16]
     requires { (sound_store store.now ≡ true) × (subset_of visible (part store.now 3 8) ≡ true) × (length plots.now ≤ 16) }
-    ensures { PlacesTo store.now visible plots.now (length plots.now) result }
+    ensures found { PlacesTo store.now visible plots.now (length plots.now) result }
+    ensures sixteen { length result ≡ 16 }
 {
     let mut places = [None; 16];
     for (i, plot) in plots.iter().enumerate() {
@@ -74,7 +75,7 @@ pub fn see_joint(
     ensures { JointPromise store.old s.now plots.now answer.old (code_of result) (with_seen s.now (result_unwrap_or result (seen_of s.now))) store.new answer.new }
 {
     may_read(store, s, plots, answer.len())?;
-    let visible = store::reveal::revealed_by(store, s.read).visible;
+    let visible = crate::shown::shown_by(store, s.read);
     let places = places_of(store, visible, plots);
     let places = &places[..plots.len()];
     crate::answer::put_answers(store, own_writes(s), plots, places, answer);

@@ -5,3 +5,4 @@ mod answer;
 mod best;
 pub mod joint;
 pub mod read;
+mod shown;

@@ -45,7 +45,7 @@ pub fn see_plot(store: &mut [u32], s: &Session, plot: u32) -> Result<PlotSeen, R
     ensures { ReadPromise store.old s.now plot (code_of result) (seen_found result) (seen_entry result) (seen_session s.now result) store.new }
 {
     may_read(store, s, plot)?;
-    let visible = store::reveal::revealed_by(store, s.read).visible;
+    let visible = crate::shown::shown_by(store, s.read);
     let place = store::current::current(store, visible, plot);
     let first = entry_in(store, place);
     let before = Seen {

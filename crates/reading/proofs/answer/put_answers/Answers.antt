@@ -51,8 +51,7 @@ loop-plot-preserved c = let ws = c.args.store.now in
     let three = three_length (g i) in
     let fits : at + 3 ≤ length l = omega (arith, c.loop-plot.invariant.0, c.loop-plot.invariant.1, c.requires.3, z.0) in
     let put = stored_as l at (at + 3 - at) (three_words (g i)) c.copy_from_slice.new.self words (omega (arith, three)) (omega (arith, three)) in
-    let turn = words_more g c.args.answer.now l (sets l (3 * i) (three_words (g i))) i c.loop-plot.invariant.2 refl in
-    (
+    let turn = words_more g c.args.answer.now l (sets l (3 * i) (three_words (g i))) i c.loop-plot.invariant.2 refl in (
       ap length put ∙ length-sets l at (three_words (g i)) ∙ c.loop-plot.invariant.0,
       omega (arith, n, c.loop-plot.invariant.1),
       put ∙ ap (λ (j : ℕ). sets l j (three_words (g i))) c.loop-plot.invariant.1 ∙ turn ∙ ap (λ (j : ℕ). sets c.args.answer.now 0 (words_to g j)) (sym n),
