@@ -1,5 +1,6 @@
 -- What `receive` answers and leaves, from what its parts do. Assumes nothing.
 use Rattle.std.proofs.Common.{Err, None, Ok, Option, Result, Some}
+use Rattle.std.specs.Option.{ok_or}
 use Rattle.std.specs.Result.{IsErrAnd}
 use Rattle.store.proofs.Rules.{laid as Laid-of}
 use Prim.Native.Nat.{ℕ, zero, suc, ◌+◌, ◌^◌, ◌<◌, ◌≤◌}
@@ -23,6 +24,7 @@ use Rattle.frame.specs.Entries.{id_of}
 use Rattle.frame.specs.Frames.{ring_ok, frame_ok, frame_words, frame_of, accepts}
 use Rattle.frame.specs.Refusals.{Reply, number_of, reply_of}
 use Rattle.frame.specs.declared.refusal.Refusal.{Refusal}
+use Rattle.frame.specs.declared.refusal.Refusal.TheVariants.{Format}
 use Rattle.frame.specs.Tokens.{rows_of}
 use Rattle.frame.specs.Calls.{laid, frame_in}
 use Rattle.frame.proofs.Entries.{frame_facts, facts_ring}
@@ -205,6 +207,14 @@ module _ (ws fr out : List ℕ) where
   pub receive_unsound : sound_store ws ≡ false → Says (record { code = 2; words = 0 }) ws out
   unfolding receive
   receive_unsound t = (rw t refl, rw t refl, rw t refl)
+
+  -- the exit of a `?` that stands for no frame
+  pub answered_format : (r : Result ℕ Refusal) (o : Option Frame) (x : Refusal) → IsErrAnd r (λ y. y ≡ x) → Err x ≡ ok_or o Format → o ≡ None
+      → Says (record { code = 9; words = 0 }) ws out → Says (reply_of r) ws out
+  unfolding reply_of number_of
+  answered_format (Ok n) o x p e q S = absurd p
+  answered_format (Err y) (Some f) x p e q S = absurd (cc)
+  answered_format (Err y) None x p e q S = let h : y ≡ Format = cc in rw h S
 
   -- a sound store has settings that a frame may be read for
   pub ring : sound_store ws ≡ true → ring_ok (get_or ws 0 0) (get_or ws 2 0) ≡ true

@@ -25,7 +25,7 @@ outside_is held [] = refl
 outside_is held (e ∷ es) =
     ap₂ (λ (m n : ℕ). m + n) (other (is_in held (id_of e))) (outside_is held es) ∙ sym (sum_by-cons (λ (x : Entry). cond (not (is_in held (id_of x))) 1 0) e es)
   where
-    other : (b : Bool) → cond b 0 1 ≡ cond (not b) 1 0
+    other : (b : Bool) → cond {A = ℕ} b 0 1 ≡ cond {A = ℕ} (not b) 1 0
     other true = refl
     other false = refl
 

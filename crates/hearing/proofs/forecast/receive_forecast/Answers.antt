@@ -30,14 +30,25 @@ frame_from-requires c = let z = c.args in
     ring z.store.now z.frame.now z.frame.now (sym c.is_sound.ensures ∙ c.if-not-is_sound.false)
 
 pub returns-in_err-f : goal.returns-in_err-f
-unfolding code_of number_of
 returns-in_err-f c = ?
 
 pub set_at-held-requires : goal.set_at-held-requires
 set_at-held-requires c = omega (arith, (laid c.args.store.now (sym c.is_sound.ensures ∙ c.if-not-is_sound.false)).long)
 
 pub may_take-requires : goal.may_take-requires
-may_take-requires c = ?
+may_take-requires c = let ws = c.args.store.now in
+    let fr = c.args.frame.now in
+    let t = sym c.is_sound.ensures ∙ c.if-not-is_sound.false in
+    let g = some_frame (get_or ws 0 0) (get_or ws 2 0) fr c.in_ok-f.f (sym c.in_ok-f.ensures.ok_part ∙ c.frame_from.ensures) in (
+      t,
+      c.set_at-held.ensures,
+      ap (frame_ok (get_or ws 0 0) (get_or ws 2 0)) g.1 ∙ accepted_ok (get_or ws 0 0) (get_or ws 2 0) fr g.0,
+      ap length (accepted_written (get_or ws 0 0) (get_or ws 2 0) fr g.0 ∙ ap frame_words (sym g.1)),
+    )
 
 pub returns : goal.returns
-returns c = ?
+returns c = let ws = c.args.store.now in
+    let fr = c.args.frame.now in
+    let t = sym c.is_sound.ensures ∙ c.if-not-is_sound.false in
+    let g = some_frame (get_or ws 0 0) (get_or ws 2 0) fr c.in_ok-f.f (sym c.in_ok-f.ensures.ok_part ∙ c.frame_from.ensures) in
+    λ row l. c.may_take.ensures ∙ (λ i. receive_code (office_of ws) (g.1 i) (sym l i)) ∙ receive_number ws fr row t g.0

@@ -1,7 +1,8 @@
 use Rattle.std.proofs.lemmas.Grind.{common_steps}
 use native.Mathlib.Omega.{arith}
-use mathlib.Core.Path.{◌≡◌, ap, ◌∙◌}
+use mathlib.Core.Path.{◌≡◌, refl, sym, ap, ◌∙◌}
 use Prim.Native.Nat.{ℕ}
+use mathlib.Core.Bool.{false}
 use lib.ListN.{length, get_or}
 use Rattle.causal.specs.Codes.{check}
 use Rattle.causal.specs.Lists.{part}
@@ -30,7 +31,10 @@ returns-in_err-comes_in c = err_stops c.from_residual.result _ (entry_code (offi
 
 pub returns-then-not-subset : goal.returns-then-not-subset
 unfolding receive_code code_of number_of check either office_of
-returns-then-not-subset c = ?
+returns-then-not-subset c =
+    let deps = c.args.f.now.entry.deps in
+    let h : subset_of deps (part c.args.store.now 3 8) ≡ false = sym (ap (subset_of deps) c.requires.1) ∙ sym c.subset.ensures ∙ c.if-not-subset.true in
+    or_goes 12 0 (entry_code (office_of c.args.store.now) c.args.f.now.entry) _ c.in_ok-comes_in.ensures refl (rw h refl)
 
 pub returns : goal.returns
 unfolding receive_code code_of number_of check either office_of

@@ -10,8 +10,8 @@ use Rattle.store.proofs.Rules.{laid}
 use Rattle.store.proofs.Changes.{revealed_visible}
 use Rattle.hearing.proofs.receive.reveal_id.Goals as goal
 
-pub revealed_by-visible-requires : goal.revealed_by-visible-requires
-revealed_by-visible-requires c = (c.requires.0, ap (λ (x : List ℕ). subset_of x (part c.args.store.now 3 8)) c.insert-seeds.ensures ∙ c.requires.1)
+pub revealed_by-requires : goal.revealed_by-requires
+revealed_by-requires c = (c.requires.0, ap (λ (x : List ℕ). subset_of x (part c.args.store.now 3 8)) c.insert-seeds.ensures ∙ c.requires.1)
 
 pub show-requires : goal.show-requires
 show-requires c = let q = laid c.args.store.now c.requires.0 in
@@ -19,4 +19,4 @@ show-requires c = let q = laid c.args.store.now c.requires.0 in
 
 pub returns : goal.returns
 returns c = let ws = c.args.store.now in
-    c.show.ensures ∙ ap (sets ws 11) (revealed_visible ws c.insert-seeds.result c.revealed_by-visible.result c.revealed_by-visible.ensures ∙ ap (λ (x : List ℕ). (reveal (office_of ws) x).visible) c.insert-seeds.ensures)
+    c.show.ensures ∙ ap (sets ws 11) (revealed_visible ws c.insert-seeds.result c.revealed_by.result c.revealed_by.ensures ∙ ap (λ (x : List ℕ). (reveal (office_of ws) x).visible) c.insert-seeds.ensures)
