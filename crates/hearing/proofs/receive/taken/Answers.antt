@@ -5,7 +5,7 @@ use lib.ListN.{length, get_or}
 use Rattle.frame.specs.Calls.{laid as Laid-in}
 use Rattle.frame.specs.Frames.{frame_of, frame_words}
 use Rattle.frame.specs.Refusals.{code_of, reply_of}
-use Rattle.office.proofs.Exits.{number_some}
+use Rattle.frame.proofs.Refusals.{number_some}
 use Rattle.frame.specs.Sessions.{SaneEntry}
 use Rattle.frame.specs.declared.entry.Frame.{Frame}
 use Rattle.store.specs.Offices.{office_of}
