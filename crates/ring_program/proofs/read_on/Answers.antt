@@ -43,7 +43,7 @@ loop-reached-preserved c = let L = c.loop-reached in
     let k = c.read_chunk-reached in
     let n = c.unwrap_or-n in
     let f = c.feed_all in
-    let taken : is_ok f.result ≡ true = cc in (
+    let taken : is_ok f.result ≡ true = ap is_ok c.in_ok-feed_all.was in (
       f.auto.stores ∙ L.invariant.0,
       f.auto.lines ∙ L.invariant.1,
       f.auto.out ∙ L.invariant.2,

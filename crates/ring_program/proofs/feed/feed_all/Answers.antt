@@ -39,7 +39,7 @@ pub loop-from-preserved : goal.loop-from-preserved
 loop-from-preserved c = let L = c.loop-from in
     let q = c.feed_some-from in
     let w = c.write_out in
-    let taken : is_ok w.result ≡ true = cc in (
+    let taken : is_ok w.result ≡ true = ap is_ok c.in_ok-write_out.was in (
       q.ensures.1,
       q.auto.out ∙ L.invariant.1,
       q.auto.text ∙ L.invariant.2,
