@@ -90,9 +90,8 @@ abbrev sent : List ℕ → List ℕ → List ℕ
 sent ws out =
     set (set (ws ++ drop (length ws) out) 0 (get_or ws 0 0 - 4096)) (length ws - 1) (4026531840 + (get_or ws (length ws - 1) 0 - 4096) % 268435456)
 
-pub onward_laid : (ws out : List ℕ) → ws ≡ frame_words (frame_of ws) → 1 ≤ (frame_of ws).hops → length ws ≤ length out
-    → sent ws out ≡ laid (frame_words (onward (frame_of ws))) out
-onward_laid ws out e h l = go (frame_of ws) e h
+pub onward_laid : (ws out : List ℕ) → ws ≡ frame_words (frame_of ws) → 1 ≤ (frame_of ws).hops → sent ws out ≡ laid (frame_words (onward (frame_of ws))) out
+onward_laid ws out e h = go (frame_of ws) e h
   where
     go : (f : Frame) → ws ≡ frame_words f → 1 ≤ f.hops → sent ws out ≡ laid (frame_words (onward f)) out
     go f q p =

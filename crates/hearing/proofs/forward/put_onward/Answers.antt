@@ -41,4 +41,4 @@ pub returns : goal.returns
 returns c = let fr = c.args.frame.now in
     let out = c.args.out.now in
     ap (λ (l : List ℕ). set (set (l ++ drop (length fr) out) 0 (get_or fr 0 0 - 4096)) (length fr - 1) (4026531840 + (get_or fr (length fr - 1) 0 - 4096) % 268435456)) c.copy_from_slice.ensures.after
-    ∙ onward_laid fr out c.requires.0 c.requires.1 c.requires.2
+    ∙ onward_laid fr out c.requires.0 c.requires.1
