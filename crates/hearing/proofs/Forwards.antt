@@ -4,9 +4,7 @@ use mathlib.Core.Path.{◌≡◌, refl, sym, ap, ap₂, ◌∙◌}
 use mathlib.Core.List.{List, [], ◌∷◌, ◌++◌, append_assoc}
 use native.Mathlib.Omega.{arith}
 use lib.ListN.{length, get_or, drop, set, length-append}
-use lib.Seq.{sets, set_at, take-length}
-use Rattle.causal.specs.Lists.{part}
-use Rattle.causal.proofs.Lists.{sets_front}
+use lib.Seq.{set_at}
 use Rattle.frame.specs.declared.entry.Frame.{Frame}
 use Rattle.frame.specs.Words.{sum_word, summed, total}
 use Rattle.frame.specs.Frames.{body_words, frame_of, frame_words}
@@ -69,10 +67,10 @@ module _ (ws : List ℕ) (e : ws ≡ frame_words (frame_of ws)) where
 -- ---- in the out row
 
 -- a row copied to the front of another, then its first and its last word made anew
-made_anew : (ws out xs : List ℕ) (a z b y : ℕ) → ws ≡ a ∷ (xs ++ (z ∷ [])) → length ws ≤ length out
-    → set (set (sets out 0 (part ws 0 (length ws))) 0 b) (length ws - 1) y ≡ laid (b ∷ (xs ++ (y ∷ []))) out
-unfolding laid part
-made_anew ws out xs a z b y e h =
+made_anew : (ws out xs : List ℕ) (a z b y : ℕ) → ws ≡ a ∷ (xs ++ (z ∷ []))
+    → set (set (ws ++ drop (length ws) out) 0 b) (length ws - 1) y ≡ laid (b ∷ (xs ++ (y ∷ []))) out
+unfolding laid
+made_anew ws out xs a z b y e =
     ap (λ (l : List ℕ). set (set l 0 b) (length ws - 1) y) copied
     ∙ set_at (b ∷ xs) z (drop (length ws) out) y (length ws - 1) (omega (arith, long, length-append xs (z ∷ [])))
     ∙ ap (λ (l : List ℕ). b ∷ l) (sym (append_assoc xs (y ∷ []) (drop (length ws) out)))
@@ -84,21 +82,16 @@ made_anew ws out xs a z b y e h =
     same : length ws ≡ suc (length (xs ++ (y ∷ [])))
     same = omega (arith, long, length-append xs (z ∷ []), length-append xs (y ∷ []))
 
-    copied : sets out 0 (part ws 0 (length ws)) ≡ a ∷ (xs ++ (z ∷ drop (length ws) out))
-    copied =
-        ap (sets out 0) (take-length ws)
-        ∙ sets_front out ws h
-        ∙ ap (λ (l : List ℕ). l ++ drop (length ws) out) e
-        ∙ ap (λ (l : List ℕ). a ∷ l) (append_assoc xs (z ∷ []) (drop (length ws) out))
+    copied : ws ++ drop (length ws) out ≡ a ∷ (xs ++ (z ∷ drop (length ws) out))
+    copied = ap (λ (l : List ℕ). l ++ drop (length ws) out) e ∙ ap (λ (l : List ℕ). a ∷ l) (append_assoc xs (z ∷ []) (drop (length ws) out))
 
 -- what `put_onward` leaves: the row, then its head and its check less one hop
 abbrev sent : List ℕ → List ℕ → List ℕ
 sent ws out =
-    set (set (sets out 0 (part ws 0 (length ws))) 0 (get_or ws 0 0 - 4096)) (length ws - 1) (4026531840 + (get_or ws (length ws - 1) 0 - 4096) % 268435456)
+    set (set (ws ++ drop (length ws) out) 0 (get_or ws 0 0 - 4096)) (length ws - 1) (4026531840 + (get_or ws (length ws - 1) 0 - 4096) % 268435456)
 
-pub onward_laid : (ws out : List ℕ) → ws ≡ frame_words (frame_of ws) → 1 ≤ (frame_of ws).hops → length ws ≤ length out
-    → sent ws out ≡ laid (frame_words (onward (frame_of ws))) out
-onward_laid ws out e h l = go (frame_of ws) e h
+pub onward_laid : (ws out : List ℕ) → ws ≡ frame_words (frame_of ws) → 1 ≤ (frame_of ws).hops → sent ws out ≡ laid (frame_words (onward (frame_of ws))) out
+onward_laid ws out e h = go (frame_of ws) e h
   where
     go : (f : Frame) → ws ≡ frame_words f → 1 ≤ f.hops → sent ws out ≡ laid (frame_words (onward f)) out
     go f q p =
@@ -108,7 +101,7 @@ onward_laid ws out e h l = go (frame_of ws) e h
         ∙ ap (λ (w : ℕ). 4026531840 + (w - 4096) % 268435456) (last_word f)
         ∙ check_down f p
         in
-        made_anew ws out (between f) (head f) (check f) _ _ (q ∙ parts f) l
+        made_anew ws out (between f) (head f) (check f) _ _ (q ∙ parts f)
         ∙ ap₂ (λ (x y : ℕ). laid (x ∷ (between f ++ (y ∷ []))) out) a z
         ∙ ap (λ (xs : List ℕ). laid (head (onward f) ∷ (xs ++ (check (onward f) ∷ []))) out) (between_stays f)
         ∙ ap (λ (ws : List ℕ). laid ws out) (sym (parts (onward f)))

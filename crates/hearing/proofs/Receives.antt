@@ -7,16 +7,17 @@ use Prim.Native.Nat.{ℕ, zero, suc, ◌+◌, ◌^◌, ◌<◌, ◌≤◌}
 use mathlib.Core.Path.{◌≡◌, refl, sym, ap, ap₂, ◌∙◌, subst}
 use mathlib.Core.Bool.{Bool, true, false, cond}
 use mathlib.Core.List.{List, append-nil}
+use mathlib.Core.Logic.{◌⊎◌, ⊎_elim}
 use native.Mathlib.Omega.{arith}
 use lib.Dec.{leb, eqb}
 use lib.ListN.{length, get_or}
 use lib.Seq.{sets}
-use borrow.Author.Tests.{eq-eqb, ne_eqb, leb-true}
+use borrow.Author.Tests.{eq-eqb, ne_eqb, leb-true, le-leb, lt-leb}
 use Rattle.causal.specs.Codes.{check}
 use Rattle.causal.specs.Lists.{part, zeros}
 use Rattle.causal.specs.Sets.{inserted, is_in, subset_of}
 use Rattle.causal.specs.Tests.{either}
-use Rattle.causal.proofs.Codes.{check_none, or_both}
+use Rattle.causal.proofs.Codes.{check_none, or_both, or_goes}
 use Rattle.causal.proofs.Sets.{subset_by}
 use Rattle.frame.specs.Sessions.{SaneEntry}
 use Rattle.frame.specs.declared.entry.Frame.{Frame}
@@ -38,6 +39,37 @@ use Rattle.office.specs.Calls.{stored, entry_code, onward, receive_code, hold_ne
 use Rattle.office.specs.Steps.{hold_if}
 use Rattle.office.proofs.KeepCalls.{Known, known, takes_new, kept, seed_set, seed_held}
 use Rattle.office.proofs.Slots.{settings, slot_of}
+use Rattle.hearing.proofs.Forwards.{length_onward}
+
+-- ---- the refusals after 10 and 11
+
+module _ (ws : List ℕ) (f : Frame) (room : ℕ) (none : 0 ≡ entry_code (office_of ws) f.entry) where
+  abbrev Room : Bool
+  Room = either (eqb f.hops 0) (leb (length (frame_words (onward f))) room)
+
+  pub take_missing : subset_of f.entry.deps (part ws 3 8) ≡ false → 12 ≡ receive_code (office_of ws) f room
+  unfolding receive_code check office_of
+  take_missing s = or_goes 12 0 (entry_code (office_of ws) f.entry) _ none refl (rw s refl)
+
+  last : subset_of f.entry.deps (part ws 3 8) ≡ true → (r : Bool) → Room ≡ r → check r 8 0 ≡ receive_code (office_of ws) f room
+  unfolding receive_code check office_of
+  last s r e = or_goes (check r 8 0) 0 (entry_code (office_of ws) f.entry) _ none refl (rw (s, e) refl)
+
+  pub take_room : subset_of f.entry.deps (part ws 3 8) ≡ true → (f.hops ≡ 0 → ⊥) → room < length (frame_words f) → 8 ≡ receive_code (office_of ws) f room
+  unfolding check either
+  take_room s h l =
+      let e : leb (length (frame_words (onward f))) room ≡ false = lt-leb _ room (omega (arith, length_onward f)) in
+      last s false (rw (ne_eqb f.hops 0 h, e) refl)
+
+  pub take_goes : (words : ℕ) → subset_of f.entry.deps (part ws 3 8) ≡ true → words ≡ length (frame_words f)
+      → ((f.hops ≡ 0 → ⊥) × (words ≤ room)) ⊎ (f.hops ≡ 0) → 0 ≡ receive_code (office_of ws) f room
+  unfolding check either
+  take_goes words s w =
+      ⊎_elim
+      (λ (p : (f.hops ≡ 0 → ⊥) × (words ≤ room)).
+        let e : leb (length (frame_words (onward f))) room ≡ true = le-leb _ room (omega (arith, length_onward f, p.1)) in
+        last s true (rw (ne_eqb f.hops 0 p.0, e) refl))
+      (λ (z : f.hops ≡ 0). last s true (rw (eq-eqb f.hops 0 z) refl))
 
 module _ (ws : List ℕ) (f : Frame) (out : List ℕ) where
   abbrev pub Takes : Reply → List ℕ → List ℕ → Type 0
@@ -196,6 +228,10 @@ some_frame n p fr f q = go (accepts n p fr) q
     go true q = (refl, cc)
     go false q = absurd (cc)
 
+pub no_format : (o : Option Frame) (x : Refusal) → Err x ≡ ok_or o Format → o ≡ None → x ≡ Format
+no_format (Some f) x e q = absurd (cc)
+no_format None x e q = cc
+
 -- ---- the call
 
 module _ (ws fr out : List ℕ) where
@@ -213,8 +249,7 @@ module _ (ws fr out : List ℕ) where
       → Says (record { code = 9; words = 0 }) ws out → Says (reply_of r) ws out
   unfolding reply_of number_of
   answered_format (Ok n) o x p e q S = absurd p
-  answered_format (Err y) (Some f) x p e q S = absurd (cc)
-  answered_format (Err y) None x p e q S = let h : y ≡ Format = cc in rw h S
+  answered_format (Err y) o x p e q S = let h : y ≡ Format = p ∙ no_format o x e q in rw h S
 
   -- a sound store has settings that a frame may be read for
   pub ring : sound_store ws ≡ true → ring_ok (get_or ws 0 0) (get_or ws 2 0) ≡ true

@@ -8,8 +8,9 @@ use Rattle.frame.proofs.Back.{accepted_ok, accepted_written}
 use Rattle.store.specs.Offices.{office_of}
 use Rattle.store.proofs.Rules.{laid}
 use Rattle.office.specs.Calls.{receive_code}
+use Rattle.office.proofs.Exits.{err_code}
 use Rattle.hearing.proofs.Forecasts.{receive_number}
-use Rattle.hearing.proofs.Receives.{receive_unsound, ring, receive_format, some_frame}
+use Rattle.hearing.proofs.Receives.{receive_unsound, ring, receive_format, no_format, some_frame}
 use Rattle.hearing.proofs.forecast.receive_forecast.Goals as goal
 
 pub returns-then-not-is_sound : goal.returns-then-not-is_sound
@@ -30,7 +31,13 @@ frame_from-requires c = let z = c.args in
     ring z.store.now z.frame.now z.frame.now (sym c.is_sound.ensures ∙ c.if-not-is_sound.false)
 
 pub returns-in_err-f : goal.returns-in_err-f
-returns-in_err-f c = ?
+unfolding number_of
+returns-in_err-f c = let z = c.args in
+    let e = c.in_err-f.ensures in
+    let t = sym c.is_sound.ensures ∙ c.if-not-is_sound.false in
+    let nine : number_of c.in_err-f.field-0.0 ≡ 9 = ap number_of (no_format _ _ e.value e.ok_part) in
+    λ row l. err_code c.from_residual.result _ 9 c.from_residual.ensures.1 nine
+      ∙ ap (λ (r : Reply). r.code) (receive_format z.store.now z.frame.now row t (sym e.ok_part ∙ c.frame_from.ensures)).0
 
 pub set_at-held-requires : goal.set_at-held-requires
 set_at-held-requires c = omega (arith, (laid c.args.store.now (sym c.is_sound.ensures ∙ c.if-not-is_sound.false)).long)

@@ -13,6 +13,7 @@ use Rattle.store.proofs.Rules.{laid}
 use Rattle.office.specs.Calls.{onward}
 use Rattle.hearing.proofs.Forwards.{length_onward}
 use Rattle.hearing.proofs.Receives.{answered, slot, held_new, seed_ready, taken_refused, taken_last, on_room, taken_on}
+use borrow.Author.Rules.{rules}
 use Rattle.hearing.proofs.receive.taken.Goals as goal
 
 pub set_at-held-requires : goal.set_at-held-requires
@@ -33,7 +34,7 @@ pub hold_new-requires : goal.hold_new-requires
 hold_new-requires c = let ws = c.args.store.now in
     let f = c.args.f.now in
     let out = c.args.out.now in
-    let fit : (i : ℕ) → get_or ws i 0 < 2 ^ 32 = λ i. (c.slice_known-1.given i).fits in
+    let fit : (i : ℕ) → get_or ws i 0 < 2 ^ 32 = search rules in
     let sane : SaneEntry f.entry = record { clock8 = c.requires.2; deps_set = c.requires.3 } in
     slot ws f out fit c.requires.0 c.requires.1 sane
 
@@ -42,7 +43,7 @@ unfolding code_of
 reveal_id-requires c = let ws = c.args.store.now in
     let f = c.args.f.now in
     let out = c.args.out.now in
-    let fit : (i : ℕ) → get_or ws i 0 < 2 ^ 32 = λ i. (c.slice_known-1.given i).fits in
+    let fit : (i : ℕ) → get_or ws i 0 < 2 ^ 32 = search rules in
     let sane : SaneEntry f.entry = record { clock8 = c.requires.2; deps_set = c.requires.3 } in
     let z = sym c.in_ok-may_take.ensures in
     let h = held_new ws f out fit c.requires.0 c.requires.1 sane z c.set_at-held.result _ c.set_at-held.ensures c.hold_new.ensures in
@@ -53,7 +54,7 @@ unfolding code_of reply_of
 returns-then-f-eq0 c = let ws = c.args.store.now in
     let f = c.args.f.now in
     let out = c.args.out.now in
-    let fit : (i : ℕ) → get_or ws i 0 < 2 ^ 32 = λ i. (c.slice_known-1.given i).fits in
+    let fit : (i : ℕ) → get_or ws i 0 < 2 ^ 32 = search rules in
     let sane : SaneEntry f.entry = record { clock8 = c.requires.2; deps_set = c.requires.3 } in
     let z = sym c.in_ok-may_take.ensures in
     let h = held_new ws f out fit c.requires.0 c.requires.1 sane z c.set_at-held.result _ c.set_at-held.ensures c.hold_new.ensures in
@@ -65,7 +66,7 @@ put_onward-requires c = let ws = c.args.store.now in
     let fr = c.args.frame.now in
     let f = c.args.f.now in
     let out = c.args.out.now in
-    let fit : (i : ℕ) → get_or ws i 0 < 2 ^ 32 = λ i. (c.slice_known-1.given i).fits in
+    let fit : (i : ℕ) → get_or ws i 0 < 2 ^ 32 = search rules in
     let sane : SaneEntry f.entry = record { clock8 = c.requires.2; deps_set = c.requires.3 } in
     let z = sym c.in_ok-may_take.ensures in
     let hops : f.hops ≡ (frame_of fr).hops = ap (λ (g : Frame). g.hops) c.requires.4 in
@@ -77,7 +78,7 @@ unfolding code_of reply_of
 returns c = let ws = c.args.store.now in
     let f = c.args.f.now in
     let out = c.args.out.now in
-    let fit : (i : ℕ) → get_or ws i 0 < 2 ^ 32 = λ i. (c.slice_known-1.given i).fits in
+    let fit : (i : ℕ) → get_or ws i 0 < 2 ^ 32 = search rules in
     let sane : SaneEntry f.entry = record { clock8 = c.requires.2; deps_set = c.requires.3 } in
     let z = sym c.in_ok-may_take.ensures in
     let h = held_new ws f out fit c.requires.0 c.requires.1 sane z c.set_at-held.result _ c.set_at-held.ensures c.hold_new.ensures in
