@@ -8,7 +8,8 @@ use types.Logic.{Logic}
 use seplogic.Ra.Ura.{Ura}
 use prog.Memory.{Memory}
 use prog.Routine.{Routine}
-use Rattle.std.specs.Result.{Result, result_unwrap_or}
+use Rattle.std.proofs.Common.{Result}
+use Rattle.std.specs.Result.{result_unwrap_or}
 use Rattle.frame.specs.Refusals.{code_of}
 use Rattle.frame.specs.Sessions.{fresh_content, session_of}
 use Rattle.frame.specs.declared.refusal.Refusal.{Refusal}

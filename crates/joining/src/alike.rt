@@ -30,14 +30,11 @@ fn same_entry(e: &Entry, f: &Entry) -> bool
 pub fn same_front(first: &[Entry], second: &[Entry]) -> usize
     ensures { (result ≤ length first.now) × (result ≤ length second.now) × (all_below result (λ j. both (eqb (id_of (get_or second.now j nobody)) (id_of (get_or first.now j nobody))) (same_content (get_or second.now j nobody) (get_or first.now j nobody))) ≡ true) }
 {
-    let mut front = 0;
-    for (e, f) in second.iter().zip(first) {
-        if !same_entry(e, f) {
-            return front;
-        }
-        front += 1;
-    }
-    front
+    second
+        .iter()
+        .zip(first)
+        .take_while(|(e, f)| same_entry(e, f))
+        .count()
 }
 
 // Is the id of e in the set?

@@ -18,7 +18,7 @@ set_at-visible-requires c = let r = rules_of c.args.store.now c.requires.0 in
 pub loop-k-init : goal.loop-k-init
 unfolding revealed
 loop-k-init c =
-    let start_ready : Ready (deps_in c.args.store.now) (part c.args.store.now 3 8) (part c.args.store.now 11 8) (get_or c.args.store.now 0 0) c.args.seeds = ready c.args.store.now (λ i. (c.shared_slice_known-1.given i).fits) c.requires.0 c.args.seeds (id_set c.args.seeds c.well_formed.1.0) c.requires.1 in
+    let start_ready : Ready (deps_in c.args.store.now) (part c.args.store.now 3 8) (part c.args.store.now 11 8) (get_or c.args.store.now 0 0) c.args.seeds = ready c.args.store.now (λ i. (c.type_inv.store i).fits) c.requires.0 c.args.seeds (id_set c.args.seeds c.well_formed.1.0) c.requires.1 in
     rw (c.set_at-visible.ensures, sub-zero) (start (deps_in c.args.store.now) (part c.args.store.now 3 8) (part c.args.store.now 11 8) (get_or c.args.store.now 0 0) c.args.seeds (start_ready) (id_set c.args.seeds c.well_formed.1.0), refl)
 
 pub returns-in_default : goal.returns-in_default
@@ -28,7 +28,7 @@ returns-in_default c =
 
 pub deps_at-deps-requires : goal.deps_at-deps-requires
 deps_at-deps-requires c =
-    let start_ready : Ready (deps_in c.args.store.now) (part c.args.store.now 3 8) (part c.args.store.now 11 8) (get_or c.args.store.now 0 0) c.args.seeds = ready c.args.store.now (λ i. (c.shared_slice_known-1.given i).fits) c.requires.0 c.args.seeds (id_set c.args.seeds c.well_formed.1.0) c.requires.1 in
+    let start_ready : Ready (deps_in c.args.store.now) (part c.args.store.now 3 8) (part c.args.store.now 11 8) (get_or c.args.store.now 0 0) c.args.seeds = ready c.args.store.now (λ i. (c.type_inv.store i).fits) c.requires.0 c.args.seeds (id_set c.args.seeds c.well_formed.1.0) c.requires.1 in
     let asked : c.lowest_of-next.result ≡ lowest_of (minus c.loop-k.pending c.loop-k.visible) = c.lowest_of-next.ensures ∙ ap lowest_of c.without-left.ensures in
     let found : Step (deps_in c.args.store.now) (part c.args.store.now 3 8) (part c.args.store.now 11 8) (get_or c.args.store.now 0 0) c.args.seeds c.loop-k.pending c.loop-k.visible c.loop-k.steps c.in-Some.k = step (deps_in c.args.store.now) (part c.args.store.now 3 8) (part c.args.store.now 11 8) (get_or c.args.store.now 0 0) c.args.seeds (start_ready) c.loop-k.pending c.loop-k.visible c.loop-k.steps c.in-Some.k c.loop-k.invariant.0
     (sym (asked) ∙ c.in-Some.is) in
@@ -37,7 +37,7 @@ deps_at-deps-requires c =
 
 pub overflow_add-steps : goal.overflow_add-steps
 overflow_add-steps c =
-    let start_ready : Ready (deps_in c.args.store.now) (part c.args.store.now 3 8) (part c.args.store.now 11 8) (get_or c.args.store.now 0 0) c.args.seeds = ready c.args.store.now (λ i. (c.shared_slice_known-1.given i).fits) c.requires.0 c.args.seeds (id_set c.args.seeds c.well_formed.1.0) c.requires.1 in
+    let start_ready : Ready (deps_in c.args.store.now) (part c.args.store.now 3 8) (part c.args.store.now 11 8) (get_or c.args.store.now 0 0) c.args.seeds = ready c.args.store.now (λ i. (c.type_inv.store i).fits) c.requires.0 c.args.seeds (id_set c.args.seeds c.well_formed.1.0) c.requires.1 in
     let asked : c.lowest_of-next.result ≡ lowest_of (minus c.loop-k.pending c.loop-k.visible) = c.lowest_of-next.ensures ∙ ap lowest_of c.without-left.ensures in
     let found : Step (deps_in c.args.store.now) (part c.args.store.now 3 8) (part c.args.store.now 11 8) (get_or c.args.store.now 0 0) c.args.seeds c.loop-k.pending c.loop-k.visible c.loop-k.steps c.in-Some.k = step (deps_in c.args.store.now) (part c.args.store.now 3 8) (part c.args.store.now 11 8) (get_or c.args.store.now 0 0) c.args.seeds (start_ready) c.loop-k.pending c.loop-k.visible c.loop-k.steps c.in-Some.k c.loop-k.invariant.0
     (sym (asked) ∙ c.in-Some.is) in
@@ -46,7 +46,7 @@ overflow_add-steps c =
 
 pub loop-k-smaller : goal.loop-k-smaller
 loop-k-smaller c =
-    let start_ready : Ready (deps_in c.args.store.now) (part c.args.store.now 3 8) (part c.args.store.now 11 8) (get_or c.args.store.now 0 0) c.args.seeds = ready c.args.store.now (λ i. (c.shared_slice_known-1.given i).fits) c.requires.0 c.args.seeds (id_set c.args.seeds c.well_formed.1.0) c.requires.1 in
+    let start_ready : Ready (deps_in c.args.store.now) (part c.args.store.now 3 8) (part c.args.store.now 11 8) (get_or c.args.store.now 0 0) c.args.seeds = ready c.args.store.now (λ i. (c.type_inv.store i).fits) c.requires.0 c.args.seeds (id_set c.args.seeds c.well_formed.1.0) c.requires.1 in
     let asked : c.lowest_of-next.result ≡ lowest_of (minus c.loop-k.pending c.loop-k.visible) = c.lowest_of-next.ensures ∙ ap lowest_of c.without-left.ensures in
     let found : Step (deps_in c.args.store.now) (part c.args.store.now 3 8) (part c.args.store.now 11 8) (get_or c.args.store.now 0 0) c.args.seeds c.loop-k.pending c.loop-k.visible c.loop-k.steps c.in-Some.k = step (deps_in c.args.store.now) (part c.args.store.now 3 8) (part c.args.store.now 11 8) (get_or c.args.store.now 0 0) c.args.seeds (start_ready) c.loop-k.pending c.loop-k.visible c.loop-k.steps c.in-Some.k c.loop-k.invariant.0
     (sym (asked) ∙ c.in-Some.is) in
@@ -58,7 +58,7 @@ loop-k-preserved c =
     let of_slot : deps_in c.args.store.now c.in-Some.k ≡ (entry_at c.args.store.now c.in-Some.k).deps = let i = c.loop-k.invariant.0 in
     let q = picked c.loop-k.pending c.loop-k.visible c.in-Some.k i.wp i.wv (sym (asked) ∙ c.in-Some.is) in
     ap (λ (e : Entry). e.deps) (entry_held c.args.store.now c.in-Some.k (i.held c.in-Some.k q.pending)) in
-    let start_ready : Ready (deps_in c.args.store.now) (part c.args.store.now 3 8) (part c.args.store.now 11 8) (get_or c.args.store.now 0 0) c.args.seeds = ready c.args.store.now (λ i. (c.shared_slice_known-1.given i).fits) c.requires.0 c.args.seeds (id_set c.args.seeds c.well_formed.1.0) c.requires.1 in
+    let start_ready : Ready (deps_in c.args.store.now) (part c.args.store.now 3 8) (part c.args.store.now 11 8) (get_or c.args.store.now 0 0) c.args.seeds = ready c.args.store.now (λ i. (c.type_inv.store i).fits) c.requires.0 c.args.seeds (id_set c.args.seeds c.well_formed.1.0) c.requires.1 in
     let found : Step (deps_in c.args.store.now) (part c.args.store.now 3 8) (part c.args.store.now 11 8) (get_or c.args.store.now 0 0) c.args.seeds c.loop-k.pending c.loop-k.visible c.loop-k.steps c.in-Some.k = step (deps_in c.args.store.now) (part c.args.store.now 3 8) (part c.args.store.now 11 8) (get_or c.args.store.now 0 0) c.args.seeds (start_ready) c.loop-k.pending c.loop-k.visible c.loop-k.steps c.in-Some.k c.loop-k.invariant.0
     (sym (asked) ∙ c.in-Some.is) in
     let st = c.args.store.now in

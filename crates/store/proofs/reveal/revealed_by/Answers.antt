@@ -17,7 +17,7 @@ unfolding revealed
 returns-then-subset c = let ws = c.args.store.now in
     let seeds = c.args.seeds in
     let ids = id_set seeds c.well_formed.1.0 in
-    let shown = (ready ws (λ i. (c.shared_slice_known-1.given i).fits) c.requires.0 seeds ids c.requires.1).visible_set in
+    let shown = (ready ws (λ i. (c.type_inv.store i).fits) c.requires.0 seeds ids c.requires.1).visible_set in
     let all : subset_of seeds (part ws 11 8) ≡ true = ap (subset_of seeds) (sym c.set_at-visible.ensures) ∙ sym c.subset.ensures ∙ c.if-subset.true in
     let none = step_end (32 * get_or ws 0 0) (deps_in ws) seeds (part ws 11 8) 0 (all_shown seeds (part ws 11 8) ids shown all) in
     ap (λ (l : List ℕ). record { visible = l; steps = 0 }) c.set_at-visible.ensures ∙ sym none
