@@ -1,11 +1,6 @@
 -- A truth value as C has it. Assumes nothing.
 use Rattle.std.specs.Prelude.{ℕ, suc, zero, Bool, false, true}
 
--- 1 for true
-unfoldable pub flag_of : Bool → ℕ
-flag_of true = 1
-flag_of false = 0
-
 -- what a number says of which a promise says that it is 0 or 1
 unfoldable pub is_set : ℕ → Bool
 is_set zero = false

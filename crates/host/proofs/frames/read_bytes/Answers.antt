@@ -25,4 +25,4 @@ read_words-requires c = (omega arith, omega arith)
 
 pub returns : goal.returns
 returns c = let z = c.args in
-    bytes_words z.offices z.plots z.bytes.now (sym c.ring_ok.ensures ∙ not-false _ c.if-not-ring_ok.false-raw) c.if-count-ne0.false c.read_words.result c.read_words.ensures
+    bytes_words z.offices z.plots z.bytes.now (sym c.ring_ok.ensures ∙ not-false _ c.if-not-ring_ok.false-raw) c.if-count-ne0.false _ c.read_words.ensures
