@@ -1,11 +1,10 @@
 -- Held slots asked all at once: the turns of the checks, where gathered deps lie, and that together they are the rules of each slot.
 -- Assumes nothing.
-use Rattle.std.proofs.Common.{◌≡◌, ℕ, zero, suc, ◌+◌, ◌-◌, ◌*◌, ◌/◌, ◌%◌, ◌^◌, ◌<◌, ◌≤◌, Bool, true, false, cond, not, eqb, ltb, List, length, get_or, sym, refl, ap, ◌∙◌, ap₂, ⊎_elim, add-zero, add-suc, add-one, arith, ltb-true, lt-ltb, eq-eqb, eqb-true}
-use borrow.Author.Tests.{not-true, not-false}
+use Rattle.std.proofs.Common.{◌≡◌, ℕ, zero, suc, ◌+◌, ◌-◌, ◌*◌, ◌/◌, ◌%◌, ◌^◌, ◌<◌, ◌≤◌, Bool, true, false, cond, eqb, ltb, List, length, get_or, sym, refl, ap, ◌∙◌, ap₂, ⊎_elim, add-zero, add-suc, add-one, arith, ltb-true, lt-ltb, eq-eqb, eqb-true}
 use Rattle.causal.specs.Tests.{both, implies, all_below}
 use Rattle.causal.specs.Lists.{part, zeros}
 use Rattle.causal.specs.Sets.{bit, has, is_empty, is_in, IdSet, unite, minus, subset_of}
-use Rattle.causal.proofs.Tests.{false_true, same_test, both_assoc, both_one, both_intro, both_true, all_none, all_more, all_fails, all_at, all_ext, all_intro, implies_elim, implies_intro}
+use Rattle.causal.proofs.Tests.{same_test, both_assoc, both_one, both_intro, both_true, all_none, all_more, all_fails, all_at, all_ext, all_intro, implies_elim, implies_intro}
 use Rattle.causal.proofs.Lists.{part_at}
 use Rattle.causal.proofs.Sets.{empty_unite, has_in, has_lt, has_minus, has_zeros, in_is, in_or_out, is_in_lem, is_out, out_is, ids_unite, ids_zeros, subset_by, subset_within, unite_subset}
 use Rattle.causal.proofs.Walk.{Passed, Next, fold_next, fold_end, has_word}

@@ -1,5 +1,5 @@
 -- The current entry by its id: the turns of the search for it, and that it is the entry that the rules call current. Assumes nothing.
-use Rattle.std.proofs.Common.{◌≡◌, ℕ, zero, suc, ◌+◌, ◌*◌, ◌<◌, ◌≤◌, Bool, true, false, cond, eqb, ◌⊎◌, List, get_or, sym, refl, ap, ◌∙◌, ap₂, inl, inr, ⊎_elim, add-zero, add-suc, add-one, arith, eq-eqb, ne_eqb, None, Option, Some}
+use Rattle.std.proofs.Common.{◌≡◌, ℕ, zero, suc, ◌+◌, ◌*◌, ◌<◌, ◌≤◌, Bool, true, false, cond, eqb, ◌⊎◌, List, get_or, sym, refl, ap, ◌∙◌, ap₂, inl, inr, ⊎_elim, add-zero, add-suc, add-one, arith, None, Option, Some}
 use Rattle.causal.specs.Tests.{both}
 use Rattle.causal.specs.Sets.{bit, has, is_in}
 use Rattle.causal.proofs.Sets.{in_is}

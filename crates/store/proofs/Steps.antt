@@ -1,8 +1,6 @@
 -- The walk over the first words of a set, and over the set bits of one, as the iterators take them. Assumes nothing.
-use Rattle.std.proofs.Common.{◌≡◌, ℕ, ◌-◌, ◌<◌, ◌≤◌, List, length, get_or, take, Some, ◌∙◌, arith}
+use Rattle.std.proofs.Common.{◌≡◌, ℕ, ◌<◌, ◌≤◌, List, length, get_or, take, Some, arith}
 use Rattle.std.proofs.lemmas.List.{get_or-take, length-take}
-use lib.Bits.{bit_and}
-use lib.Count.{count_trailing_zeros}
 use Rattle.causal.proofs.Walk.{Passed, Next, next}
 use Rattle.store.specs.Bits.{TakesLowest}
 

@@ -1,4 +1,4 @@
-use Rattle.std.proofs.Common.{◌≡◌, true, Bool, eqb, get_or, rules, sym, ap, ◌∙◌, arith}
+use Rattle.std.proofs.Common.{◌≡◌, Bool, eqb, get_or, rules, sym, ap, ◌∙◌, arith}
 use borrow.Author.Tests.{tests}
 use Rattle.std.specs.List.{zip, prefix_len}
 use Rattle.std.proofs.lemmas.Iterator.{YieldsList-from_slice, YieldsList-from_zip}

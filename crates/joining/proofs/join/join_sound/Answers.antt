@@ -1,6 +1,6 @@
-use Rattle.std.proofs.Common.{◌≡◌, ◌≤◌, length, refl, sym, ap, ◌∙◌, arith}
+use Rattle.std.proofs.Common.{length, refl, sym, ap, ◌∙◌, arith}
 use Rattle.frame.specs.Refusals.{code_of, number_of}
-use Rattle.frame.specs.Sessions.{content_of, filled, ids_of}
+use Rattle.frame.specs.Sessions.{filled, ids_of}
 use Rattle.frame.proofs.OwnTurns.{count_is}
 use Rattle.joining.proofs.Codes as C
 use Rattle.joining.proofs.Front as F

@@ -1,11 +1,11 @@
-use Rattle.std.proofs.Common.{◌≡◌, ℕ, ◌*◌, ◌<◌, List, length, get_or, sym, ap, ◌∙◌, arith}
+use Rattle.std.proofs.Common.{◌≡◌, ℕ, ◌*◌, ◌<◌, length, get_or, ap, ◌∙◌, arith}
 use Rattle.causal.specs.Lists.{part}
 use Rattle.causal.proofs.Lists.{part_length}
 use Rattle.store.proofs.Rules.{rules_of, reach_word}
 use Rattle.store.proofs.Steps.{front_at, front_end, front_in, front_all}
 use Rattle.store.proofs.Joins.{tops_next, tops_none, clock_is}
 use Rattle.store.proofs.Ready.{entry_visible}
-use Rattle.store.specs.Tops.{tops_to, tops_in}
+use Rattle.store.specs.Tops.{tops_to}
 use Rattle.store.proofs.clock.office_clock.Goals as goal
 
 pub loop-i-init : goal.loop-i-init

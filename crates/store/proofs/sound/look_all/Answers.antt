@@ -1,4 +1,3 @@
-use Rattle.std.proofs.Common.{◌≡◌, ◌<◌, arith}
 use Rattle.causal.proofs.Array.{id_set}
 use Rattle.frame.specs.Entries.{clock_ok, under_ok}
 use Rattle.store.proofs.Deps.{words_none, words_more, words_fail, words_done, looks_as}
