@@ -67,8 +67,8 @@ module _ (ws : List ℕ) (f : Frame) (room : ℕ) (none : 0 ≡ entry_code (offi
   take_goes words s w =
       ⊎_elim
       (λ (p : (f.hops ≡ 0 → ⊥) × (words ≤ room)).
-        let e : leb (length (frame_words (onward f))) room ≡ true = le-leb _ room (omega (arith, length_onward f, p.1)) in
-        last s true (rw (ne_eqb f.hops 0 p.0, e) refl))
+      let e : leb (length (frame_words (onward f))) room ≡ true = le-leb _ room (omega (arith, length_onward f, p.1)) in
+      last s true (rw (ne_eqb f.hops 0 p.0, e) refl))
       (λ (z : f.hops ≡ 0). last s true (rw (eq-eqb f.hops 0 z) refl))
 
 module _ (ws : List ℕ) (f : Frame) (out : List ℕ) where

@@ -37,7 +37,7 @@ returns-in_err-f c = let z = c.args in
     let t = sym c.is_sound.ensures ∙ c.if-not-is_sound.false in
     let nine : number_of c.in_err-f.field-0.0 ≡ 9 = ap number_of (no_format _ _ e.value e.ok_part) in
     λ row l. err_code c.from_residual.result _ 9 c.from_residual.ensures.1 nine
-      ∙ ap (λ (r : Reply). r.code) (receive_format z.store.now z.frame.now row t (sym e.ok_part ∙ c.frame_from.ensures)).0
+    ∙ ap (λ (r : Reply). r.code) (receive_format z.store.now z.frame.now row t (sym e.ok_part ∙ c.frame_from.ensures)).0
 
 pub set_at-held-requires : goal.set_at-held-requires
 set_at-held-requires c = omega (arith, (laid c.args.store.now (sym c.is_sound.ensures ∙ c.if-not-is_sound.false)).long)

@@ -8,7 +8,6 @@ use Rattle.frame.specs.Refusals.{code_of, reply_of}
 use Rattle.frame.proofs.Refusals.{number_some}
 use Rattle.frame.specs.Sessions.{SaneEntry}
 use Rattle.frame.specs.declared.entry.Frame.{Frame}
-use Rattle.store.specs.Offices.{office_of}
 use Rattle.store.proofs.Rules.{laid}
 use Rattle.office.specs.Calls.{onward}
 use Rattle.hearing.proofs.Forwards.{length_onward}
