@@ -30,6 +30,7 @@ pub fn put_answers(
     requires { Answerable store.now own.now plots.now places.now answer.old }
     ensures { answer.new ≡ answers_in store.now own.now plots.now places.now answer.old }
 {
+    // at is counted: of chunks_exact_mut a proof knows the length alone.
     let mut at = 0;
     for (plot, place) in plots.iter().zip(places) {
         let found = best_own(own, *plot, entry_in(store, *place));
