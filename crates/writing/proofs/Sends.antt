@@ -1,29 +1,26 @@
 -- The frames of a write in the out row: one behind the other, each in the rest of the row lent to the frame writer. Assumes nothing.
-use Prim.Native.Nat.{ℕ, zero, suc, ◌+◌, ◌-◌, ◌*◌, ◌<◌, ◌≤◌}
-use mathlib.Core.Path.{◌≡◌, refl, sym, ap, ◌∙◌, subst}
+use Prim.Native.Nat.{ℕ, ◌+◌, ◌-◌, ◌*◌, ◌<◌, ◌≤◌}
+use mathlib.Core.Path.{◌≡◌, sym, ap, ◌∙◌, subst}
 use mathlib.Core.Bool.{Bool, true, false, cond}
 use mathlib.Core.List.{List, [], ◌∷◌, ◌++◌, map, append_assoc, append-nil}
 use Rattle.std.proofs.Math.ListN.{drop_of_length-le}
 use Rattle.std.proofs.lemmas.List.{drop_more}
-use native.Mathlib.Nat.{zero-add, add-zero, le_refl}
+use native.Mathlib.Nat.{add-zero}
 use native.Mathlib.Omega.{arith}
 use lib.ListN.{length, get_or, drop, length-append}
 use lib.Seq.{sets}
-use Rattle.causal.specs.Lists.{tab}
 use Rattle.causal.specs.Sets.{is_in}
-use Rattle.causal.proofs.Lists.{sets_append, sets_front, tab_more}
+use Rattle.causal.proofs.Lists.{sets_append}
 use Rattle.frame.specs.declared.entry.Entry.{Entry}
 use Rattle.frame.specs.declared.entry.Frame.{Frame}
 use Rattle.frame.specs.Entries.{id_of}
 use Rattle.frame.specs.Frames.{framed, frame_ok, frame_words}
 use Rattle.frame.specs.Tokens.{rows_of}
-use Rattle.frame.specs.Calls.{laid}
 use Rattle.frame.specs.Sessions.{leave_out}
 use Rattle.frame.proofs.Frames.{length_frame}
 use Rattle.frame.proofs.Tokens.{reads_le}
 use Rattle.store.specs.Offices.{Office}
 use Rattle.office.specs.Calls.{missing}
-use Rattle.office.specs.Steps.{own_at, own_to}
 use Rattle.writing.specs.Writes.{started, frame_if, frames_in, all_frames}
 
 -- ---- one own write

@@ -15,7 +15,7 @@ use Rattle.causal.specs.Lists.{part, zeros}
 use Rattle.causal.specs.Sets.{Within, has, subset_of}
 use Rattle.causal.proofs.Codes.{check_none, or_both, or_none, or_some}
 use Rattle.causal.proofs.Lists.{sum_le}
-use Rattle.causal.proofs.Sets.{has_lt, is_in_lem, subset_within}
+use Rattle.causal.proofs.Sets.{has_lt, subset_within}
 use Rattle.frame.specs.declared.entry.Entry.{Entry}
 use Rattle.frame.specs.declared.session.Session.{Session}
 use Rattle.frame.specs.Entries.{blank_entry, id_of, entry_ok}
@@ -25,8 +25,7 @@ use Rattle.frame.specs.declared.refusal.Refusal.{Refusal}
 use Rattle.frame.specs.Sessions.{SaneContent, content_of, ids_of, session_ok}
 use Rattle.frame.specs.Tokens.{rows_of}
 use Rattle.frame.specs.Calls.{laid}
-use Rattle.frame.proofs.Entries.{RingFacts, entry_facts, facts_frame, frame_wider}
-use Rattle.frame.proofs.Ids.{id_range}
+use Rattle.frame.proofs.Entries.{RingFacts, facts_frame, frame_wider}
 use Rattle.frame.proofs.OwnTurns.{count_is}
 use Rattle.frame.proofs.Sessions.{session_facts}
 use Rattle.store.specs.Offices.{Office, need, slot_at, office_of, store_words, sound_store, made}

@@ -79,8 +79,7 @@ pub fn may_write(store: &[u32], s: &Session, plot: u32, value: u32) -> Result<()
 // What the type of a session says of it: behind a reference, a proof does not know that. Nothing is done.
 fn known(s: Session)
     ensures { s.count ≤ 16 → SaneContent (content_of s) }
-{
-}
+{}
 
 // From the clock, the read ids and the ids of own writes of a session.
 fn entry_by(store: &[u32], s: &Session, plot: u32, value: u32) -> Entry

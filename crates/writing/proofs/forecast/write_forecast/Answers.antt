@@ -1,5 +1,5 @@
 use native.Mathlib.Omega.{arith}
-use mathlib.Core.Path.{sym, ap, ◌∙◌}
+use mathlib.Core.Path.{sym, ap}
 use lib.ListN.{length}
 use Rattle.frame.specs.Refusals.{code_of}
 use Rattle.store.proofs.Rules.{laid}

@@ -1,9 +1,8 @@
 use Prim.Native.Nat.{ℕ, ◌^◌, ◌<◌}
 use native.Mathlib.Omega.{arith}
-use mathlib.Core.Path.{◌≡◌, refl, sym, ap, ◌∙◌}
+use mathlib.Core.Path.{refl, sym, ap, ◌∙◌}
 use lib.ListN.{length, get_or}
 use Rattle.frame.specs.Refusals.{code_of, number_of}
-use Rattle.frame.specs.Sessions.{content_of}
 use Rattle.frame.specs.declared.refusal.Refusal.TheVariants.{Room}
 use Rattle.office.specs.Answers.{extended_by}
 use Rattle.store.proofs.Rules.{laid}
