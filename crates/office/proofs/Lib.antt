@@ -11,7 +11,6 @@ pub mod KeptSession
 pub mod Kept
 pub mod Exits
 pub mod Notes
-pub mod OwnCodes
 pub mod Shape
 pub mod Slots
 pub mod Holds

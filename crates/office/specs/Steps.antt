@@ -1,6 +1,5 @@
 -- Own writes in a row of entries, and to hold entries that are new, on words. proofs/Holds.antt: it is what Calls says. Assumes nothing.
 use Rattle.std.specs.Prelude.{ℕ, ◌+◌, ◌<◌, ◌≤◌, Bool, true, false, List, [], ◌∷◌, get_or, length}
-use Rattle.causal.specs.Lists.{tab}
 use Rattle.causal.specs.Sets.{is_in}
 use Rattle.frame.specs.declared.entry.Entry.{Entry}
 use Rattle.frame.specs.Entries.{id_of}
@@ -11,9 +10,6 @@ use Rattle.store.specs.Slots.{hold_words}
 -- the first own writes of a row
 abbrev pub own_at : List Entry → ℕ → Entry
 own_at own i = get_or own i nobody
-
-abbrev pub own_to : List Entry → ℕ → List Entry
-own_to own count = tab count (λ i. get_or own i nobody)
 
 -- ---- the holds
 
