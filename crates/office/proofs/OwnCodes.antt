@@ -1,19 +1,11 @@
 -- Refusals 10 and 11: each number is one of the paper's. Assumes nothing.
 use Prim.Native.Nat.{ℕ, zero, suc, ◌≤◌}
-use mathlib.Core.Path.{◌≡◌, refl, sym, ap, ◌∙◌}
 use mathlib.Core.Bool.{Bool, true, false}
-use mathlib.Core.List.{List, [], ◌∷◌, ◌++◌}
+use mathlib.Core.List.{List, [], ◌∷◌}
 use native.Mathlib.Omega.{arith}
-use lib.Dec.{eqb}
-use lib.ListN.{get_or}
-use borrow.Author.Tests.{eq-eqb, ne_eqb}
-use Rattle.causal.specs.Tests.{implies}
-use Rattle.causal.specs.Codes.{check, or_else, first_code}
-use Rattle.causal.specs.Lists.{part, tab}
-use Rattle.causal.specs.Sets.{is_in}
+use Rattle.causal.specs.Codes.{check, or_else}
 use Rattle.frame.specs.declared.entry.Entry.{Entry}
-use Rattle.frame.specs.Entries.{id_of, same_content}
-use Rattle.store.specs.Offices.{Office, entry_at, office_of}
+use Rattle.store.specs.Offices.{Office}
 use Rattle.office.specs.Calls.{entry_code, own_code}
 
 -- ---- every number is one of the paper's
