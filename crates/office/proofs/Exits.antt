@@ -3,7 +3,6 @@ use Rattle.std.proofs.Common.{Err, Ok, Result}
 use Rattle.std.specs.Result.{IsErrAnd}
 use Prim.Native.Nat.{ℕ}
 use mathlib.Core.Path.{◌≡◌, refl, sym, ◌∙◌}
-use native.Mathlib.Omega.{arith}
 use Rattle.causal.specs.Codes.{or_else}
 use Rattle.causal.proofs.Codes.{or_stops}
 use Rattle.frame.specs.Refusals.{code_of, number_of}

@@ -1,20 +1,16 @@
 -- The holds of a write and of a receive, on words: they leave the words of the office that Calls says. Assumes nothing.
-use Prim.Native.Nat.{ℕ, zero, suc, ◌+◌, ◌<◌, ◌≤◌}
-use mathlib.Core.Path.{◌≡◌, refl, sym, ap, ◌∙◌}
+use Prim.Native.Nat.{ℕ, ◌≤◌}
+use mathlib.Core.Path.{◌≡◌, refl, ap, ◌∙◌}
 use mathlib.Core.Bool.{Bool, true, false, cond}
-use mathlib.Core.List.{List, Memᴰ, [], ◌∷◌, ◌++◌}
-use native.Mathlib.Omega.{arith}
+use mathlib.Core.List.{List, Memᴰ, [], ◌∷◌}
 use lib.ListN.{length}
-use Rattle.causal.specs.Lists.{tab}
 use Rattle.causal.specs.Sets.{IdSet, Within, inserted, is_in}
 use Rattle.causal.proofs.Sets.{in_is, out_is}
-use Rattle.causal.proofs.Lists.{tab_more}
 use Rattle.frame.specs.declared.entry.Entry.{Entry}
 use Rattle.frame.specs.Entries.{id_of}
 use Rattle.frame.specs.Sessions.{SaneEntry, leave_out, own_ok}
 use Rattle.frame.proofs.Sessions.{OwnFacts, own_facts}
 use Rattle.store.specs.Offices.{Office, need, store_words, hold}
-use Rattle.store.specs.Slots.{hold_words}
 use Rattle.store.proofs.Keep.{Sound}
 use Rattle.store.proofs.Changes.{hold_words_lem}
 use Rattle.office.specs.Calls.{missing, hold_all}

@@ -1,6 +1,6 @@
 -- What the answers of a reading of one plot say: is an entry handed back, and which, a fixed blank where none is; and the session as it is left, on a
 -- refusal as it came. Assumes nothing.
-use Rattle.std.specs.Prelude.{ℕ, Bool, false, is_some, None, Option, Result, Ok, Err}
+use Rattle.std.specs.Prelude.{Bool, is_some, None, Option, Result, Ok, Err}
 use Rattle.std.specs.Option.{unwrap_or}
 use Rattle.frame.specs.declared.entry.Entry.{Entry}
 use Rattle.frame.specs.declared.refusal.Refusal.{Refusal}

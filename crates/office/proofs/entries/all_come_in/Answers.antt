@@ -1,5 +1,4 @@
 use mathlib.Core.Path.{◌∙◌, refl, sym}
-use lib.ListN.{drop}
 use Rattle.std.proofs.lemmas.List.{at_drop_all, at_drop_more}
 use Rattle.causal.proofs.Codes.{or_goes}
 use Rattle.frame.specs.Refusals.{code_of}

@@ -1,8 +1,8 @@
 use Rattle.std.proofs.Common.{None}
-use Prim.Native.Nat.{ℕ, ◌+◌, ◌-◌, ◌*◌, ◌<◌, ◌≤◌}
+use Prim.Native.Nat.{ℕ, ◌+◌, ◌-◌, ◌*◌, ◌≤◌}
 use mathlib.Core.List.{[], ◌++◌, ◌∷◌}
 use mathlib.Core.Path.{◌≡◌, refl, ap, ap₂, sym, subst, ◌∙◌}
-use lib.ListN.{length, get_or, length-append}
+use lib.ListN.{length, length-append}
 use lib.Seq.{sets, length-sets}
 use native.Mathlib.Omega.{arith}
 use Rattle.std.proofs.lemmas.Slice.Zip.{zip_turn}
@@ -27,7 +27,7 @@ three_words-requires c = let ws = c.args.store.now in
     in
     let slot = subst (InSlots (length ws)) (sym (z.3 None)) (c.requires.4 i z.1) in
     let first = subst NamedIn (sym c.entry_in.ensures) (found_named ws (length ws) c.in-Some.place.now slot) in
-    subst NamedIn (sym c.best_own-found.ensures) (best_named c.in-Some.plot.now c.entry_in.result c.args.own.now first c.requires.0)
+    subst NamedIn (sym c.best_own-found.ensures) (best_named _ c.entry_in.result c.args.own.now first c.requires.0)
 
 pub loop-plot-preserved : goal.loop-plot-preserved
 unfolding handed_among found_among

@@ -1,5 +1,4 @@
-use mathlib.Core.Path.{◌∙◌, ap, sym}
-use mathlib.Core.Bool.{Bool}
+use mathlib.Core.Path.{◌∙◌}
 use lib.Dec.{ltb}
 use lib.ListN.{length}
 use borrow.Author.Tests.{le-leb, lt-leb}

@@ -1,8 +1,8 @@
-use Rattle.std.proofs.Common.{None, length-take-le}
+use Rattle.std.proofs.Common.{length-take-le}
 use native.Mathlib.Omega.{arith}
 use Prim.Native.Nat.{ℕ, ◌≤◌}
 use mathlib.Core.List.{List}
-use mathlib.Core.Path.{◌≡◌, ap, subst, sym, ◌∙◌}
+use mathlib.Core.Path.{ap, subst, sym, ◌∙◌}
 use lib.ListN.{length, take}
 use lib.Seq.{sets}
 use Rattle.frame.specs.declared.entry.Entry.{Entry}

@@ -1,6 +1,5 @@
-use mathlib.Core.Path.{ap, sym, ◌∙◌}
+use mathlib.Core.Path.{◌∙◌}
 use Rattle.std.proofs.lemmas.Result.{err_from_is_err_and}
-use Rattle.frame.specs.declared.session.Session.{Session}
 use Rattle.frame.specs.Refusals.{code_of}
 use Rattle.reading.specs.Answers.{handed_by, seen_session, session_by}
 use Rattle.reading.proofs.read.read_plot.Goals as goal
