@@ -6,7 +6,9 @@ ghost use Rattle.host.specs.Flags.{is_set};
 use crate::answer::{
     PlotAnswer, SessionAnswer, SettingsAnswer, WordsAnswer, WroteAnswer, session_answer,
 };
-use crate::in_place::{PlotFound, burial_lent_read_joint, burial_lent_read_plot, burial_lent_write};
+use crate::in_place::{
+    PlotFound, burial_lent_read_joint, burial_lent_read_plot, burial_lent_write,
+};
 use frame::refusal::code_of;
 use frame::session::{Session, blank_session};
 use office::settings::NO_SETTINGS;

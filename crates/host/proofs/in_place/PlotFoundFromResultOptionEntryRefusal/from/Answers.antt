@@ -15,8 +15,8 @@ flag_says false n e = rw e refl
 
 pub returns : goal.returns
 returns c = let d = c.unwrap_or-entry.ensures in (
-      flag_low _ _ c.from.ensures,
-      c.code_of-refusal.ensures,
-      flag_says _ _ c.from.ensures ∙ c.is_some.ensures ∙ ap is_some d,
-      c.unwrap_or.ensures ∙ ap₂ unwrap_or d c.blank_entry.ensures,
-    )
+  flag_low _ _ c.from.ensures,
+  c.code_of-refusal.ensures,
+  flag_says _ _ c.from.ensures ∙ c.is_some.ensures ∙ ap is_some d,
+  c.unwrap_or.ensures ∙ ap₂ unwrap_or d c.blank_entry.ensures,
+)
