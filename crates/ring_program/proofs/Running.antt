@@ -95,7 +95,3 @@ module _ (r₀ : Progress) (stores₀ lines₀ : List ℕ) (r : Progress) (store
         counted = omega (arith, R.counted, same);
         ends = λ g S e. let X = R.leads g S e in closes ending g q text stores' lines' text' z (C _ _ X.shows X.pending);
       }
-
-  -- more bytes came than are counted
-  pub too_long : r.left < 4096 → (text' : List ℕ) → Reads r₀ stores₀ lines₀ (Err TooLong) r stores lines text'
-  too_long few text' = record { bytes = bs; counted = R.counted; ends = λ g S e. (R.wrote, R.leads g S e, few) }

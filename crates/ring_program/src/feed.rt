@@ -86,6 +86,7 @@ pub fn feed_some(
     ensures { (from < result) × (result ≤ length bytes.now) × (stage.new.at ≤ length text.old) × (stage.new.wrote ≡ true) × ((g : Scene) (l : List ℕ) → Shows g (desk_of stage.old) stores.old lines.old → stage.old.pending ≡ pending_of l → Follows (fed g l (part bytes.now from (result - from))) stage.old.at text.old stage.new stores.new lines.new text.new) }
 {
     let mut i = from;
+    // A while: take says where the next line begins.
     while i < bytes.len() {
         if text.len() - stage.at < 40 {
             return i;
@@ -130,6 +131,7 @@ pub fn feed_all(
         × ((next : ℕ) × (next ≤ length bytes.now) × (IsOk result → next ≡ length bytes.now) × ((g : Scene) (l : List ℕ) → Shows g (desk_of stage.old) stores.old lines.old → stage.old.pending ≡ pending_of l → Leads (fed g l (part bytes.now 0 next)) stage.new stores.new lines.new)) }
 {
     let mut from = 0;
+    // A while: feed_some says how far it came.
     while from < bytes.len() {
         from = feed_some(
             &mut *stage,
