@@ -13,7 +13,12 @@ pub const LOW: u32 = 0x1000_0000;
 pub fn kind_is(want: u32, w: u32) -> bool
     ensures { result ≡ kind_is want w }
 {
-    matches!(want, 1 | 3..=6 | 8 | 15) && w / LOW == want
+    let kind = w / LOW;
+    match kind {
+        1 | 3..=6 | 8 | 15 => kind == want,
+        0 | 2 | 7 | 9..=14 => false,
+        _ => false,
+    }
 }
 
 // The sum of the payloads, modulo 2^28: the kinds are multiples of 2^28 and fall away with what wraps.
@@ -64,7 +69,8 @@ fn put_run(first: u32, count: usize, out: &mut [u32], at: usize) -> u32
     put_words(count, |i| first + i as u32, out, at)
 }
 
-// The words of the ids in word j of a set, lowest first, from at on. One at a time: no iterator gives the bits that are set.
+// The words of the ids in word j of a set, lowest first, from at on. One at a time: std has no iterator over the bits that are
+// set, and store::bits::Bits stands above this crate.
 fn put_each(j: usize, w: u32, out: &mut [u32], at: usize) -> Put
     requires { (j < 8) × (at + length (id_words_in j w 32) ≤ length out.old) }
     ensures { (result.to ≡ at + length (id_words_in j w 32)) × (result.sum % 268435456 ≡ total (id_words_in j w 32) % 268435456) × (out.new ≡ sets out.old at (id_words_in j w 32)) }
