@@ -115,6 +115,26 @@ sets_front o vs h = sets-eq vs o 0 (omega arith) ∙ rw zero-add refl
 pub take_front : (o vs : List ℕ) (n : ℕ) → n ≡ length vs → length vs ≤ length o → take n (sets o 0 vs) ≡ vs
 take_front o vs n e h = rw (e, sets_front o vs h) (take-append_seam vs (drop (length vs) o))
 
+-- ---- words copied one by one
+
+pub copy_none : (to from : List ℕ) (a b : ℕ) → to ≡ sets to b (part from a 0)
+unfolding part
+copy_none to from a b = refl
+
+part_none : (ws : List ℕ) (a : ℕ) → part ws a 0 ≡ []
+unfolding part
+part_none ws a = refl
+
+part_more : (ws : List ℕ) (a n : ℕ) → a + n < length ws → part ws a (n + 1) ≡ part ws a n ++ (get_or ws (a + n) 0 ∷ [])
+part_more ws a n h = part_add ws a n 1 ∙ ap (λ (l : List ℕ). part ws a n ++ l) (part_cons ws (a + n) 0 h ∙ ap (λ (l : List ℕ). get_or ws (a + n) 0 ∷ l) (part_none ws (suc (a + n))))
+
+pub copy_more : (to from : List ℕ) (a b n : ℕ) → a + n < length from → set (sets to b (part from a n)) (b + n) (get_or from (a + n) 0) ≡ sets to b (part from a (n + 1))
+copy_more to from a b n h =
+    sym
+    (ap (sets to b) (part_more from a n h)
+    ∙ sets_append to b (part from a n) (get_or from (a + n) 0 ∷ [])
+    ∙ ap (λ (x : ℕ). set (sets to b (part from a n)) (b + x) (get_or from (a + n) 0)) (part_length from a n (omega arith)))
+
 -- ---- a table
 
 module _ {A : Type 0} where

@@ -1,13 +1,15 @@
 -- Laws of rank: a strict order, total on clocks of one length. Assumes nothing.
-use Prim.Native.Nat.{ℕ, ◌+◌, ◌<◌}
+use Prim.Native.Nat.{ℕ, suc, ◌+◌, ◌<◌, ◌≤◌}
 use mathlib.Core.Path.{◌≡◌, refl, sym, ap, ◌∙◌}
-use mathlib.Core.Bool.{Bool, true, false}
+use mathlib.Core.Bool.{Bool, true, false, cond}
 use mathlib.Core.Logic.{◌⊎◌, inl, inr, ⊎_elim}
 use mathlib.Core.List.{List, [], ◌∷◌, ◌++◌}
 use native.Mathlib.Omega.{arith}
+use native.Mathlib.Numerals.{add-one}
 use lib.Dec.{ltb}
 use borrow.Author.Tests.{ltb-true, ltb-false, lt-ltb, le-ltb, eq-eqb, ne_eqb}
-use lib.ListN.{length, length-append}
+use lib.ListN.{length, get_or, drop, length-append, drop_of_length-le}
+use lib.Seq.{drop-cons}
 use Rattle.std.specs.Ordering.{nat_cmp, ordering_then, is_gt}
 use Rattle.std.specs.declared.cmp.Ordering.TheVariants.{Less, Equal, Greater}
 use Rattle.std.specs.Cmp.Lexicographic.{slice_cmp}
@@ -116,7 +118,34 @@ above_total c d o p l f g =
     let ll : length (rank_of c o) ≡ length (rank_of d p) = length-append c (o ∷ []) ∙ ap (λ (n : ℕ). n + 1) l ∙ sym (length-append d (p ∷ [])) in
     snoc_eq c d o p (higher_total (rank_of c o) (rank_of d p) ll f g)
 
--- ---- `c.cmp(&d).then(o.cmp(&p)).is_gt()`
+-- ---- a comparison from the front, place by place
+
+module _ (c d : List ℕ) (o p j : ℕ) where
+  abbrev Left : Bool
+  Left = higher (rank_of (drop j c) o) (rank_of (drop j d) p)
+
+  pub rank_same : j < length c → j < length d → get_or c j 0 ≡ get_or d j 0 → Left ≡ higher (rank_of (drop (j + 1) c) o) (rank_of (drop (j + 1) d) p)
+  rank_same h k e = rw (add-one, drop-cons c j 0 h, drop-cons d j 0 k) (higher_same (get_or c j 0) (get_or d j 0) _ _ e)
+
+  pub rank_differs : j < length c → j < length d → (get_or c j 0 ≡ get_or d j 0 → ⊥) → ltb (get_or d j 0) (get_or c j 0) ≡ Left
+  rank_differs h k n = rw (drop-cons c j 0 h, drop-cons d j 0 k) (go (order (get_or c j 0) (get_or d j 0)))
+    where
+      go : Order (get_or c j 0) (get_or d j 0)
+          → ltb (get_or d j 0) (get_or c j 0) ≡ higher (get_or c j 0 ∷ rank_of (drop (suc j) c) o) (get_or d j 0 ∷ rank_of (drop (suc j) d) p)
+      go (less a) = le-ltb (get_or d j 0) (get_or c j 0) (omega arith) ∙ sym (higher_less _ _ _ _ a)
+      go (same a) = absurd (n a)
+      go (more a) = lt-ltb _ _ a ∙ sym (higher_more _ _ _ _ a)
+
+  pub rank_end : length c ≤ j → length d ≤ j → ltb p o ≡ Left
+  unfolding higher
+  rank_end h k = rw (drop_of_length-le c {i = j} h, drop_of_length-le d {i = j} k) (go (ltb p o) refl (ltb o p) refl)
+    where
+      go : (a : Bool) → ltb p o ≡ a → (b : Bool) → ltb o p ≡ b → a ≡ cond a true (cond b false false)
+      go true e b f = refl
+      go false e true f = refl
+      go false e false f = refl
+
+-- ---- std's `c.cmp(&d).then(o.cmp(&p)).is_gt()` says the same
 
 nat_less : (x y : ℕ) → x < y → nat_cmp x y ≡ Less
 nat_less x y h = rw (lt-ltb x y h)

@@ -1,6 +1,6 @@
 -- Laws of sets of ids, by membership. Assumes nothing.
 use mathlib.Core.Path.{◌≡◌, refl, sym, ap, ◌∙◌}
-use mathlib.Core.Bool.{Bool, true, false}
+use mathlib.Core.Bool.{Bool, true, false, cond}
 use mathlib.Core.List.{List, [], ◌∷◌}
 use Prim.Native.Nat.{ℕ, zero, suc, ◌+◌, ◌-◌, ◌*◌, ◌/◌, ◌%◌, ◌^◌, ◌≤◌, ◌<◌, max}
 use mathlib.Core.Logic.{◌⊎◌, inl, inr, ⊎_elim}
@@ -137,6 +137,37 @@ ids_inserted s k w = record { eight = length-set s (k / 32) v ∙ w.eight; fits 
     fit i = ⊎_elim (here i) (λ n. rw (get_or-set_other s (k / 32) i v 0 n) (w.fits i)) (eq_or_ne i (k / 32))
 
 -- ---- a member more, place by place
+
+-- eight words, each with what a test of its place gives it
+pub insert_eight : (s : List ℕ) (k w : ℕ) → length s ≡ 8 → k < 256 → w ≡ 2 ^ (k % 32) → (a b c d e f g h : ℕ)
+    → a ≡ cond (eqb (k / 32) 0) w 0 → b ≡ cond (eqb (k / 32) 1) w 0 → c ≡ cond (eqb (k / 32) 2) w 0 → d ≡ cond (eqb (k / 32) 3) w 0
+    → e ≡ cond (eqb (k / 32) 4) w 0 → f ≡ cond (eqb (k / 32) 5) w 0 → g ≡ cond (eqb (k / 32) 6) w 0 → h ≡ cond (eqb (k / 32) 7) w 0
+    → unite s (a ∷ b ∷ c ∷ d ∷ e ∷ f ∷ g ∷ h ∷ []) ≡ inserted s k
+unfolding unite inserted
+insert_eight s k w l m q a b c d e f g h ea eb ec ed ee ef eg eh = ext_get_or 0 (zip8 bit_or s more) (inserted s k) (sym (length-set s (k / 32) _ ∙ l)) word
+  where
+    more : List ℕ
+    more = a ∷ b ∷ c ∷ d ∷ e ∷ f ∷ g ∷ h ∷ []
+
+    at : (j : ℕ) → j < 8 → get_or more j 0 ≡ cond (eqb (k / 32) j) w 0
+    at zero r = ea
+    at (suc zero) r = eb
+    at (suc (suc zero)) r = ec
+    at (suc (suc (suc zero))) r = ed
+    at (suc (suc (suc (suc zero)))) r = ee
+    at (suc (suc (suc (suc (suc zero))))) r = ef
+    at (suc (suc (suc (suc (suc (suc zero)))))) r = eg
+    at (suc (suc (suc (suc (suc (suc (suc zero))))))) r = eh
+    at (suc (suc (suc (suc (suc (suc (suc (suc j)))))))) r = omega arith
+
+    word : (j : ℕ) → j < 8 → get_or (zip8 bit_or s more) j 0 ≡ get_or (inserted s k) j 0
+    word j r = zip8_at bit_or s more j r ∙ ap (bit_or (get_or s j 0)) (at j r) ∙ ⊎_elim here there (eq_or_ne (k / 32) j)
+      where
+        here : k / 32 ≡ j → bit_or (get_or s j 0) (cond (eqb (k / 32) j) w 0) ≡ get_or (inserted s k) j 0
+        here n = rw (← n) (rw (eq-eqb (k / 32) (k / 32) refl, q) (sym (get_or-set_same s (k / 32) _ 0 (omega arith))))
+
+        there : (k / 32 ≡ j → ⊥) → bit_or (get_or s j 0) (cond (eqb (k / 32) j) w 0) ≡ get_or (inserted s k) j 0
+        there n = rw (ne_eqb (k / 32) j n, get_or-set_other s (k / 32) j _ 0 (λ (x : j ≡ k / 32). n (sym x))) (or_zero_r (get_or s j 0))
 
 -- word i, as the code has it
 pub insert_at : (s : List ℕ) (k : ℕ) → IdSet s → k < 256 → (i : ℕ) → i < 8
@@ -293,6 +324,20 @@ subset_complete a b x y f = all_intro (word_in a b) 8 word
         omega (arith, bit_or_lem (get_or a i 0) (get_or b i 0) j)))
 
 -- ---- eight words at once
+
+module _ (s : List ℕ) where
+  abbrev OrTo : ℕ → ℕ
+  OrTo zero = get_or s 0 0
+  OrTo (suc i) = bit_or (OrTo i) (get_or s (suc i) 0)
+
+  or_to : (i : ℕ) → eqb (OrTo i) 0 ≡ all_below (suc i) (λ j. eqb (get_or s j 0) 0)
+  unfolding all_below both
+  or_to zero = refl
+  or_to (suc i) = or_is_zero (OrTo i) (get_or s (suc i) 0) ∙ ap (λ (t : Bool). both t (eqb (get_or s (suc i) 0) 0)) (or_to i)
+
+  pub or_eight : eqb (bit_or (bit_or (bit_or (bit_or (bit_or (bit_or (bit_or (get_or s 0 0) (get_or s 1 0)) (get_or s 2 0)) (get_or s 3 0)) (get_or s 4 0)) (get_or s 5 0)) (get_or s 6 0)) (get_or s 7 0)) 0 ≡ is_empty s
+  unfolding is_empty
+  or_eight = or_to 7
 
 -- `set == [0; 8]`
 pub zero_words : (s : List ℕ) → length s ≡ 8 → eq_words s zeros ≡ is_empty s

@@ -6,5 +6,10 @@ ghost use Rattle.causal.specs.Rank.{ranks_above};
 pub fn outranks(c: [u32; 8], o: u32, d: [u32; 8], p: u32) -> bool
     ensures { result ≡ ranks_above c o d p }
 {
-    c.cmp(&d).then(o.cmp(&p)).is_gt()
+    for (x, y) in c.iter().zip(&d) {
+        if x != y {
+            return x > y;
+        }
+    }
+    o > p
 }

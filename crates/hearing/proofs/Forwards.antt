@@ -4,7 +4,9 @@ use mathlib.Core.Path.{◌≡◌, refl, sym, ap, ap₂, ◌∙◌}
 use mathlib.Core.List.{List, [], ◌∷◌, ◌++◌, append_assoc}
 use native.Mathlib.Omega.{arith}
 use lib.ListN.{length, get_or, drop, set, length-append}
-use lib.Seq.{set_at}
+use lib.Seq.{sets, set_at, take-length}
+use Rattle.causal.specs.Lists.{part}
+use Rattle.causal.proofs.Lists.{sets_front}
 use Rattle.frame.specs.declared.entry.Frame.{Frame}
 use Rattle.frame.specs.Words.{sum_word, summed, total}
 use Rattle.frame.specs.Frames.{body_words, frame_of, frame_words}
@@ -85,15 +87,15 @@ made_anew ws out xs a z b y e =
     copied : ws ++ drop (length ws) out ≡ a ∷ (xs ++ (z ∷ drop (length ws) out))
     copied = ap (λ (l : List ℕ). l ++ drop (length ws) out) e ∙ ap (λ (l : List ℕ). a ∷ l) (append_assoc xs (z ∷ []) (drop (length ws) out))
 
--- what `put_onward` leaves: the row, then its head and its check less one hop
-abbrev sent : List ℕ → List ℕ → List ℕ
-sent ws out =
-    set (set (ws ++ drop (length ws) out) 0 (get_or ws 0 0 - 4096)) (length ws - 1) (4026531840 + (get_or ws (length ws - 1) 0 - 4096) % 268435456)
+-- a row with its head and its check less one hop: ws is what they were
+abbrev less_one : List ℕ → List ℕ → List ℕ
+less_one ws row = set (set row 0 (get_or ws 0 0 - 4096)) (length ws - 1) (4026531840 + (get_or ws (length ws - 1) 0 - 4096) % 268435456)
 
-pub onward_laid : (ws out : List ℕ) → ws ≡ frame_words (frame_of ws) → 1 ≤ (frame_of ws).hops → sent ws out ≡ laid (frame_words (onward (frame_of ws))) out
-onward_laid ws out e h = go (frame_of ws) e h
+pub onward_front : (ws out : List ℕ) → ws ≡ frame_words (frame_of ws) → 1 ≤ (frame_of ws).hops
+    → less_one ws (ws ++ drop (length ws) out) ≡ laid (frame_words (onward (frame_of ws))) out
+onward_front ws out e h = go (frame_of ws) e h
   where
-    go : (f : Frame) → ws ≡ frame_words f → 1 ≤ f.hops → sent ws out ≡ laid (frame_words (onward f)) out
+    go : (f : Frame) → ws ≡ frame_words f → 1 ≤ f.hops → less_one ws (ws ++ drop (length ws) out) ≡ laid (frame_words (onward f)) out
     go f q p =
         let a : get_or ws 0 0 - 4096 ≡ head (onward f) = ap (λ (l : List ℕ). get_or l 0 0 - 4096) q ∙ ap (λ (w : ℕ). w - 4096) (first f) ∙ (head_down f p).1 in
         let z : 4026531840 + (get_or ws (length ws - 1) 0 - 4096) % 268435456 ≡ check (onward f) =
@@ -105,3 +107,16 @@ onward_laid ws out e h = go (frame_of ws) e h
         ∙ ap₂ (λ (x y : ℕ). laid (x ∷ (between f ++ (y ∷ []))) out) a z
         ∙ ap (λ (xs : List ℕ). laid (head (onward f) ∷ (xs ++ (check (onward f) ∷ []))) out) (between_stays f)
         ∙ ap (λ (ws : List ℕ). laid ws out) (sym (parts (onward f)))
+
+-- the row copied word by word
+copied_front : (ws out : List ℕ) → length ws ≤ length out → sets out 0 (part ws 0 (length ws)) ≡ ws ++ drop (length ws) out
+unfolding part
+copied_front ws out h = ap (sets out 0) (take-length ws) ∙ sets_front out ws h
+
+-- what `put_onward` leaves: the row, then its head and its check less one hop
+abbrev sent : List ℕ → List ℕ → List ℕ
+sent ws out = less_one ws (sets out 0 (part ws 0 (length ws)))
+
+pub onward_laid : (ws out : List ℕ) → ws ≡ frame_words (frame_of ws) → 1 ≤ (frame_of ws).hops → length ws ≤ length out
+    → sent ws out ≡ laid (frame_words (onward (frame_of ws))) out
+onward_laid ws out e h l = ap (less_one ws) (copied_front ws out l) ∙ onward_front ws out e h

@@ -13,21 +13,22 @@ use lib.Dec.{leb, eqb}
 use lib.ListN.{length, get_or}
 use lib.Seq.{sets}
 use borrow.Author.Tests.{eq-eqb, ne_eqb, leb-true, le-leb, lt-leb}
-use Rattle.causal.specs.Codes.{check}
+use Rattle.causal.specs.Codes.{check, or_else}
 use Rattle.causal.specs.Lists.{part, zeros}
 use Rattle.causal.specs.Sets.{inserted, is_in, subset_of}
 use Rattle.causal.specs.Tests.{either}
 use Rattle.causal.proofs.Codes.{check_none, or_both, or_goes}
 use Rattle.causal.proofs.Sets.{subset_by}
 use Rattle.frame.specs.Sessions.{SaneEntry}
+use Rattle.frame.specs.declared.entry.Entry.{Entry}
 use Rattle.frame.specs.declared.entry.Frame.{Frame}
 use Rattle.frame.specs.Entries.{id_of}
-use Rattle.frame.specs.Frames.{ring_ok, frame_ok, frame_words, frame_of, accepts}
+use Rattle.frame.specs.Frames.{ring_ok, frame_ok, frame_words, frame_of, accepts, blank_frame}
 use Rattle.frame.specs.Refusals.{Reply, number_of, reply_of}
 use Rattle.frame.specs.declared.refusal.Refusal.{Refusal}
 use Rattle.frame.specs.declared.refusal.Refusal.TheVariants.{Format}
 use Rattle.frame.specs.Tokens.{rows_of}
-use Rattle.frame.specs.Calls.{laid, frame_in}
+use Rattle.frame.specs.Calls.{laid, frame_in, read_frame_code, frame_if, read_frame}
 use Rattle.frame.proofs.Entries.{frame_facts, facts_ring}
 use Rattle.store.specs.Offices.{Office, need, slot_at, office_of, store_words, sound_store, reveal, hold}
 use Rattle.store.specs.Slots.{hold_words}
@@ -40,6 +41,28 @@ use Rattle.office.specs.Steps.{hold_if}
 use Rattle.office.proofs.KeepCalls.{Known, known, takes_new, kept, seed_set, seed_held}
 use Rattle.office.proofs.Slots.{settings, slot_of}
 use Rattle.hearing.proofs.Forwards.{length_onward}
+
+-- ---- the number of a refusal
+
+check_le : (A : Bool) (k B : ℕ) → k ≤ 12 → B ≤ 12 → check A k B ≤ 12
+unfolding check
+check_le true k B h l = l
+check_le false k B h l = h
+
+or_le : (a b : ℕ) → a ≤ 12 → b ≤ 12 → or_else a b ≤ 12
+unfolding or_else
+or_le zero b h l = l
+or_le (suc a) b h l = h
+
+entry_le : (O : Office) (e : Entry) → entry_code O e ≤ 12
+unfolding entry_code
+entry_le O e = check_le _ 10 _ (omega arith) (check_le _ 11 0 (omega arith) (omega arith))
+
+-- its number is one of the paper's
+pub receive_le : (O : Office) (f : Frame) (room : ℕ) → receive_code O f room ≤ 12
+unfolding receive_code
+receive_le O f room =
+    or_le _ _ (entry_le O f.entry) (check_le _ 12 _ (omega arith) (check_le _ 8 0 (omega arith) (omega arith)))
 
 -- ---- the refusals after 10 and 11
 
@@ -258,6 +281,28 @@ module _ (ws fr out : List ℕ) where
   pub receive_format : sound_store ws ≡ true → None ≡ frame_in (get_or ws 0 0) (get_or ws 2 0) fr → Says (record { code = 9; words = 0 }) ws out
   unfolding receive office_of
   receive_format t q = let a = no_frame (get_or ws 0 0) (get_or ws 2 0) fr q in (rw (t, a) refl, rw (t, a) refl, rw (t, a) refl)
+
+  -- the frame that `read_frame` gives, where it is no blank
+  module _ (t : sound_store ws ≡ true) (f : Frame) (q : f ≡ read_frame (get_or ws 0 0) (get_or ws 2 0) fr) where
+    code_none : (f.offices ≡ 0 → ⊥) → read_frame_code (get_or ws 0 0) (get_or ws 2 0) fr ≡ 0
+    unfolding read_frame frame_if
+    code_none n = go (read_frame_code (get_or ws 0 0) (get_or ws 2 0) fr) refl
+      where
+        go : (k : ℕ) → read_frame_code (get_or ws 0 0) (get_or ws 2 0) fr ≡ k → k ≡ 0
+        go zero e = refl
+        go (suc k) e =
+            let blank : f ≡ blank_frame = q ∙ ap (λ (x : ℕ). frame_if x fr) e in
+            absurd (n (ap (λ (x : Frame). x.offices) blank))
+
+    pub read_accepted : (f.offices ≡ 0 → ⊥) → accepts (get_or ws 0 0) (get_or ws 2 0) fr ≡ true
+    unfolding read_frame_code
+    read_accepted n =
+        let a = check_none (ring_ok (get_or ws 0 0) (get_or ws 2 0)) 1 _ (omega arith) (code_none n) in
+        (check_none (accepts (get_or ws 0 0) (get_or ws 2 0) fr) 9 0 (omega arith) a.1).0
+
+    pub read_frame_lem : (f.offices ≡ 0 → ⊥) → f ≡ frame_of fr
+    unfolding read_frame frame_if
+    read_frame_lem n = q ∙ rw (code_none n) refl
 
   pub receive_taken : (f : Frame) (r : Reply) (z y : List ℕ) → sound_store ws ≡ true → accepts (get_or ws 0 0) (get_or ws 2 0) fr ≡ true → f ≡ frame_of fr
       → Takes ws f out r z y → Says r z y

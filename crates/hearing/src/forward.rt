@@ -13,7 +13,7 @@ pub fn put_onward(frame: &[u32], out: &mut [u32])
     ensures { out.new ≡ laid (frame_words (onward (frame_of frame.now))) out.old }
 {
     let end = frame.len() - 1;
-    out[..frame.len()].copy_from_slice(frame);
+    causal::row::copy_words(frame, 0, &mut *out, 0, frame.len());
     out[0] = frame[0] - ONE_HOP;
     out[end] = 0xF000_0000 + (frame[end] - ONE_HOP) % 0x1000_0000;
 }

@@ -13,10 +13,11 @@ use Rattle.std.proofs.Common.{take_all}
 use Rattle.std.proofs.lemmas.List.{take-append-drop}
 use Rattle.std.specs.Bool.{MatchBool}
 use Rattle.std.specs.List.{AllWithin, HoldsAt}
+use Rattle.causal.specs.Lists.{tab}
 use Rattle.causal.specs.Sets.{is_in}
 use Rattle.causal.specs.Tests.{all_below, both}
 use Rattle.causal.proofs.Sets.{is_in_lem}
-use Rattle.causal.proofs.Tests.{all_fails, all_front, all_intro, both_assoc, both_intro, both_true, false_true, implies_elim, implies_intro, same_test}
+use Rattle.causal.proofs.Tests.{all_fails, all_front, all_intro, both_assoc, both_intro, both_one, both_true, false_true, implies_elim, implies_intro, same_test}
 use Rattle.frame.specs.Entries.{id_of, same_content}
 use Rattle.frame.specs.Sessions.{ids_of, nobody}
 use Rattle.frame.specs.declared.entry.Entry.{Entry}
@@ -36,6 +37,16 @@ module _ (t : Entry → Bool) where
   unfolding each
   each_by [] h = refl
   each_by (x ∷ es) h = both_intro _ _ (h x (Memᴰ.head refl)) (each_by es (λ e m. h e (Memᴰ.tail m)))
+
+  each_snoc : (es : List Entry) (e : Entry) → each t (es ++ (e ∷ [])) ≡ both (each t es) (t e)
+  unfolding each both
+  each_snoc [] e = both_one (t e)
+  each_snoc (x ∷ es) e = ap (both (t x)) (each_snoc es e) ∙ sym (both_assoc (t x) (each t es) (t e))
+
+  pub each_below : (f : ℕ → Entry) (m : ℕ) → each t (tab m f) ≡ all_below m (λ i. t (f i))
+  unfolding each tab all_below
+  each_below f zero = refl
+  each_below f (suc m) = each_snoc (tab m f) (f m) ∙ ap (λ (b : Bool). both b (t (f m))) (each_below f m)
 
   each_append : (es fs : List Entry) → each t (es ++ fs) ≡ both (each t es) (each t fs)
   unfolding each both

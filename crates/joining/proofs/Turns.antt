@@ -1,17 +1,23 @@
--- Rows of own writes: blanks behind them, and what one more changes of those that are left, of how many they are, and of the row that has them.
--- Assumes nothing.
+-- Rows of own writes: blanks behind them, and what one more changes of those that are left, of how many they are, and of the row that has them;
+-- eight words compared place by place. Assumes nothing.
 use Prim.Native.Nat.{ℕ, suc, zero, ◌+◌, ◌-◌, ◌<◌, ◌≤◌}
 use mathlib.Core.Bool.{Bool, cond, false, true}
 use mathlib.Core.List.{List, [], ◌++◌, ◌∷◌, append_assoc, append-nil}
 use mathlib.Core.Path.{◌∙◌, ◌≡◌, ap, refl, sym}
 use native.Mathlib.Omega.{arith}
+use lib.Dec.{eqb}
 use lib.ListN.{drop, get_or, length, length-append, length-take, replicate, set, take}
 use borrow.Rule.Slice.PartMut.{put_mid}
 use Rattle.std.proofs.lemmas.List.{get_or-drop, get_or-take, take_more}
+use Rattle.causal.specs.Lists.{eq_words, tab}
+use Rattle.causal.specs.Tests.{all_below, both}
+use Rattle.causal.proofs.Lists.{tab_length, tab_more}
+use Rattle.causal.proofs.Tests.{all_front}
 use Rattle.frame.specs.Entries.{blank_entry}
 use Rattle.frame.specs.Sessions.{filled, leave_out, nobody}
 use Rattle.frame.specs.declared.entry.Entry.{Entry}
 use Rattle.frame.proofs.LeaveOut.{left_few}
+use Rattle.frame.proofs.OwnTurns.{owns_back, owns_of}
 use Rattle.frame.proofs.TokenTurns.{fill_next}
 
 -- ---- entries, copied into a row of blanks
@@ -52,8 +58,8 @@ module _ (t : Entry → Bool) where
     left_more : (i : ℕ) → i < length es → t (get_or es i nobody) ≡ false → Left (i + 1) ≡ Left i ++ (get_or es i nobody ∷ [])
     left_more i l h = ap (leave_out t) (first_more i l) ∙ left_snoc (take i es) (get_or es i nobody) ∙ rw h
 
-    pub left_below : (i : ℕ) → length (Left i) ≤ length es
-    left_below i = omega (arith, left_few t (take i es), length-take i es)
+    pub left_below : (i : ℕ) → (length (Left i) ≤ i) × (length (Left i) ≤ length es)
+    left_below i = (omega (arith, left_few t (take i es), length-take i es), omega (arith, left_few t (take i es), length-take i es))
 
     -- entry i, e, and the first j, which is one more; the row that has fs in front, where they are 16 at most: the next place is set, or nothing changes
     module _ (i j : ℕ) (l : i < length es) (step : j ≡ i + 1) (e : Entry) (is : e ≡ get_or es i nobody)
@@ -84,3 +90,29 @@ module _ (t : Entry → Bool) where
 -- what stands at a place behind the first m
 pub at_behind : (es : List Entry) (m k i : ℕ) → i < length (take k (drop m es)) → get_or (take k (drop m es)) i nobody ≡ get_or es (m + i) nobody
 at_behind es m k i h = get_or-take k (drop m es) i nobody (omega (arith, length-take k (drop m es))) ∙ get_or-drop m es i nobody
+
+-- the row of the first i
+pub row_turn : (f : ℕ → Entry) (i : ℕ) (row : List Entry) → i < 16 → row ≡ filled (tab i f) → set row i (f i) ≡ filled (tab (i + 1) f)
+row_turn f i row l e =
+    ap (λ (z : List Entry). set z i (f i)) e
+    ∙ ap (λ (j : ℕ). set (filled (tab i f)) j (f i)) (sym (tab_length i f))
+    ∙ fill_next (tab i f) (f i) (omega (arith, tab_length i f))
+    ∙ ap filled (sym (tab_more i f))
+
+-- what stands in front of it again
+pub row_back : (f : ℕ → Entry) (n : ℕ) (row : List Entry) → row ≡ filled (tab n f) → tab n (owns_of row) ≡ tab n f
+row_back f n row e =
+    ap (λ (r : List Entry). tab n (owns_of r)) e ∙ ap (λ (k : ℕ). tab k (owns_of (filled (tab n f)))) (sym (tab_length n f)) ∙ owns_back (tab n f)
+
+-- ---- eight words
+
+words_below : (a b : List ℕ) → length a ≡ length b → all_below (length a) (λ i. eqb (get_or a i 0) (get_or b i 0)) ≡ eq_words a b
+unfolding eq_words all_below
+words_below [] [] h = refl
+words_below [] (y ∷ b) h = absurd (omega arith)
+words_below (x ∷ a) [] h = absurd (omega arith)
+words_below (x ∷ a) (y ∷ b) h =
+    all_front (λ i. eqb (get_or (x ∷ a) i 0) (get_or (y ∷ b) i 0)) (length a) ∙ ap (both (eqb x y)) (words_below a b (omega arith))
+
+pub eight_below : (a b : List ℕ) → length a ≡ 8 → length b ≡ 8 → all_below 8 (λ i. eqb (get_or a i 0) (get_or b i 0)) ≡ eq_words a b
+eight_below a b p q = ap (λ (m : ℕ). all_below m (λ i. eqb (get_or a i 0) (get_or b i 0))) (sym p) ∙ words_below a b (p ∙ sym q)

@@ -1,8 +1,8 @@
 use native.Mathlib.Omega.{arith}
 use Prim.Native.Nat.{ℕ, ◌+◌, ◌-◌, ◌%◌, ◌<◌, ◌≤◌}
 use mathlib.Core.Path.{ap, ◌∙◌}
-use mathlib.Core.List.{List, ◌++◌}
-use lib.ListN.{length, get_or, drop, set, length-set, length-append}
+use mathlib.Core.List.{List}
+use lib.ListN.{length, get_or, set, length-set}
 use Rattle.hearing.proofs.Forwards.{long, head_large, check_large, onward_laid}
 use borrow.Author.Rules.{rules}
 use Rattle.hearing.proofs.forward.put_onward.Goals as goal
@@ -35,10 +35,10 @@ overflow_sub-out-2 c = let fr = c.args.frame.now in
 pub bounds-out-end : goal.bounds-out-end
 bounds-out-end c = let fr = c.args.frame.now in
     let l = long fr c.requires.0 in
-    simp (length-set, length-append) (omega (arith, l, ap length c.copy_from_slice.ensures.after))
+    simp length-set (omega (arith, l, c.requires.2, c.copy_words.auto.to))
 
 pub returns : goal.returns
 returns c = let fr = c.args.frame.now in
     let out = c.args.out.now in
-    ap (λ (l : List ℕ). set (set (l ++ drop (length fr) out) 0 (get_or fr 0 0 - 4096)) (length fr - 1) (4026531840 + (get_or fr (length fr - 1) 0 - 4096) % 268435456)) c.copy_from_slice.ensures.after
-    ∙ onward_laid fr out c.requires.0 c.requires.1
+    ap (λ (l : List ℕ). set (set l 0 (get_or fr 0 0 - 4096)) (length fr - 1) (4026531840 + (get_or fr (length fr - 1) 0 - 4096) % 268435456)) c.copy_words.ensures
+    ∙ onward_laid fr out c.requires.0 c.requires.1 c.requires.2

@@ -10,7 +10,7 @@ use Rattle.joining.proofs.join.both_own.Goals as goal
 use Rattle.joining.proofs.join.both_own.Goals.{then-not-among, else-not-among, then-count-lt16, else-count-lt16}
 
 pub overflow_add-count : goal.overflow_add-count
-overflow_add-count c = omega (arith, T.left_below (λ e. is_in c.args.ids (id_of e)) c.args.second.now (c.args.front + c.loop-e.e-index), c.loop-e.invariant.0, c.requires)
+overflow_add-count c = omega (arith, (T.left_below (λ e. is_in c.args.ids (id_of e)) c.args.second.now (c.args.front + c.loop-e.e-index)).1, c.loop-e.invariant.0, c.requires)
 
 pub loop-e-preserved : goal.loop-e-preserved
 loop-e-preserved c =
