@@ -4,11 +4,11 @@ use mathlib.Core.List.{foldl-append}
 use lib.ListN.{get_or-append, drop_of_length-le}
 use lib.Seq.{take-suc}
 use lib.Bits.{bit_or}
-use Rattle.causal.proofs.Sets.{empty_unite, subset_left, zero_at}
+use Rattle.causal.proofs.Sets.{zero_at}
 use Rattle.causal.proofs.Tests.{both_one, both_assoc, both_false, both_true, all_at}
 use Rattle.causal.specs.Tests.{both, all_below}
 use Rattle.causal.specs.Lists.{tab, zeros}
-use Rattle.causal.specs.Sets.{is_empty, is_in, unite, minus, inserted, subset_of, word_in}
+use Rattle.causal.specs.Sets.{is_in, unite, inserted, subset_of, word_in}
 use Rattle.causal.proofs.Bits.{or_is_zero}
 use Rattle.causal.proofs.Lists.{tab_length, tab_at, tab_more, zip8_at}
 use Rattle.frame.specs.declared.entry.Entry.{Entry}
@@ -139,6 +139,10 @@ head_ids n offices count clock read h = (both_true (clock_ok n clock) _ (both_tr
 pub none_ok : (n p : ℕ) (read : List ℕ) (f : ℕ → Entry) (m : ℕ) → m ≡ 0 → true ≡ own_ok n p read zeros (tab m f)
 unfolding own_ok tab
 none_ok n p read f m e = rw e refl
+
+-- a session that carries nothing is sound where all but its own writes is
+pub bare_ok : (n p : ℕ) (s : Session) → head_ok n s.offices s.count s.clock s.read ≡ true → s.count ≡ 0 → session_ok n p (content_of s) ≡ true
+bare_ok n p s h e = sym (head_then n p s true h (none_ok n p s.read (owns_of s.own) s.count e))
 
 -- the entries in the row of sixteen that has them
 pub owns_back : (es : List Entry) → tab (length es) (owns_of (filled es)) ≡ es

@@ -38,6 +38,11 @@ shape_facts n ws e =
     let c = both_true (eqb (offices_in ws) n) _ b.1 in
     record { ring = eqb-true (offices_in ws) n c.0; exact = eqb-true (length ws) (n + count_in ws + 4) c.1 }
 
+pub clock_in_range : (n : ℕ) (ws : List ℕ) (f : Frame) → Shape n ws → clock_ok n (clock_from ws 3 n) ≡ true → f ≡ frame_of ws → clock_ok n f.entry.clock ≡ true
+unfolding frame_of
+clock_in_range n ws f s c e =
+    ap (λ (g : Frame). clock_ok n g.entry.clock) e ∙ ap (λ (m : ℕ). clock_ok n (clock_from ws 3 m)) s.ring ∙ c
+
 -- the clock words are of their kind and in range just where the kinds are right and the clock is
 clock_low : (ws : List ℕ) (i n : ℕ) → n ≤ 8 → all_below n (λ j. leb (pay_at ws (i + j)) 32) ≡ clock_ok n (clock_from ws i n)
 unfolding clock_ok clock_place_ok
@@ -122,6 +127,81 @@ module _ (n p : ℕ) (ws : List ℕ) where
   ids_refused r s k e =
       let a : ascends n 0 (part ws (3 + n) (count_in ws)) ≡ false = ap (ascends n 0) (sym (ids_are (shape_facts n ws s))) ∙ e in
       refused r (rw (s, (both_true (kinds_ok n ws) _ k).0, a) refl)
+
+  -- ---- the same, by the refusal number of the call
+
+  pub frame_at_lem : Shape n ws → (deps : List ℕ) → deps ≡ ids_from (part ws (3 + n) (count_in ws)) → frame_at n ws deps ≡ frame_of ws
+  unfolding frame_at frame_of
+  frame_at_lem s deps d =
+      let o = sym s.ring in
+      let e : deps ≡ ids_from (part ws (3 + offices_in ws) (count_in ws)) = d ∙ ap (λ (m : ℕ). ids_from (part ws (3 + m) (count_in ws))) o in
+      λ i.
+      record {
+        offices = o i;
+        hops = (frame_of ws).hops;
+        entry =
+            record {
+              office = (frame_of ws).entry.office;
+              serial = (frame_of ws).entry.serial;
+              plot = (frame_of ws).entry.plot;
+              value = (frame_of ws).entry.value;
+              clock = ap (clock_from ws 3) o i;
+              deps = e i;
+            };
+      }
+
+  pub told : ring_ok n p ≡ true → (f : Frame) → f ≡ read_frame n p ws
+      → (f.offices ≡ 0 → 9 ≡ read_frame_code n p ws) × ((f.offices ≡ 0 → ⊥) → 0 ≡ read_frame_code n p ws)
+  unfolding read_frame_code read_frame frame_if check accepts
+  told r f q = go (accepts n p ws) refl
+    where
+      go : (b : Bool) → accepts n p ws ≡ b → (f.offices ≡ 0 → 9 ≡ read_frame_code n p ws) × ((f.offices ≡ 0 → ⊥) → 0 ≡ read_frame_code n p ws)
+      go true e =
+          let c : read_frame_code n p ws ≡ 0 = rw (r, e) refl in
+          let i : f ≡ frame_of ws = q ∙ ap (λ (k : ℕ). frame_if k ws) c in
+          let o = frame_facts n p (frame_of ws) (both_true (frame_ok n p (frame_of ws)) _ e).0 in
+          let m : f.offices ≡ n = ap (λ (x : Frame). x.offices) i ∙ o.ring in
+          (λ (z : f.offices ≡ 0). absurd (omega (arith, m, o.low)), λ z. sym c)
+      go false e =
+          let c : read_frame_code n p ws ≡ 9 = rw (r, e) refl in
+          let i : f ≡ blank_frame = q ∙ ap (λ (k : ℕ). frame_if k ws) c in
+          (λ z. sym c, λ z. absurd (z (ap (λ (x : Frame). x.offices) i)))
+
+  pub settings_refused : ring_ok n p ≡ false → read_frame_code n p ws ≡ 1
+  unfolding read_frame_code check
+  settings_refused e = rw e refl
+
+  not_checked : ring_ok n p ≡ true → checked n p ws ≡ false → read_frame_code n p ws ≡ 9
+  unfolding read_frame_code check
+  not_checked r e =
+      let f = ring_facts n p r in
+      rw (r, ← checks_accept n p ws f.low f.high, e) refl
+
+  pub shape_nine : ring_ok n p ≡ true → shape_ok n ws ≡ false → read_frame_code n p ws ≡ 9
+  unfolding checked both
+  shape_nine r e = not_checked r (rw e refl)
+
+  kinds_nine : ring_ok n p ≡ true → shape_ok n ws ≡ true → kinds_ok n ws ≡ false → read_frame_code n p ws ≡ 9
+  unfolding checked both
+  kinds_nine r s e = not_checked r (rw (s, e) refl)
+
+  pub ids_nine : ring_ok n p ≡ true → shape_ok n ws ≡ true → kinds_ok n ws ≡ true → ascends n 0 (part ws (3 + n) (count_in ws)) ≡ false → read_frame_code n p ws ≡ 9
+  unfolding checked both
+  ids_nine r s k e = not_checked r (rw (s, k, e) refl)
+
+  pub content_refused : ring_ok n p ≡ true → shape_ok n ws ≡ true → kinds_ok n ws ≡ true → ascends n 0 (part ws (3 + n) (count_in ws)) ≡ true → Rest ≡ false
+      → read_frame_code n p ws ≡ 9
+  unfolding checked both
+  content_refused r s k a e = not_checked r (rw (s, k, a) e)
+
+  pub clock_nine : ring_ok n p ≡ true → shape_ok n ws ≡ true → both (kinds_ok n ws) (clock_ok n (clock_from ws 3 n)) ≡ false → read_frame_code n p ws ≡ 9
+  unfolding both
+  clock_nine r s e = go (kinds_ok n ws) (ascends n 0 (part ws (3 + n) (count_in ws))) refl refl e
+    where
+      go : (k a : Bool) → kinds_ok n ws ≡ k → ascends n 0 (part ws (3 + n) (count_in ws)) ≡ a → both k (clock_ok n (clock_from ws 3 n)) ≡ false → read_frame_code n p ws ≡ 9
+      go false a x y z = kinds_nine r s x
+      go true false x y z = ids_nine r s x y
+      go true true x y z = content_refused r s x y (no_rest (shape_facts n ws s) z)
 
   -- ---- and otherwise
 

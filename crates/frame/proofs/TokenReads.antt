@@ -1,11 +1,11 @@
 -- What the reader of a token answers, by its steps. Assumes nothing.
-use Rattle.std.proofs.Common.{◌≡◌, ℕ, suc, ◌+◌, ◌-◌, Bool, true, false, cond, eqb, List, [], length, take, drop, sym, refl, ap, ◌∙◌, arith, None, ok_or, Option, replicate, Result, Some, take_at}
+use Rattle.std.proofs.Common.{◌≡◌, ℕ, ◌+◌, ◌-◌, Bool, true, false, cond, List, length, take, drop, sym, refl, ap, ◌∙◌, arith, None, ok_or, Option, replicate, Result, Some, ◌++◌, take_at, eqb, length-drop}
 use Rattle.std.specs.Result.{result_unwrap_or}
-use Rattle.std.proofs.lemmas.Option.{cond_some}
+use Rattle.std.proofs.lemmas.List.{drop-replicate}
 use Rattle.causal.specs.Tests.{both}
 use Rattle.causal.specs.Codes.{check}
-use Rattle.causal.specs.Lists.{part, tab, zeros}
-use Rattle.causal.proofs.Tests.{both_true, both_intro, both_one, same_test, not_so, false_true}
+use Rattle.causal.specs.Lists.{part, zeros}
+use Rattle.causal.proofs.Tests.{both_true, both_intro, same_test, not_so, false_true, both_one}
 use Rattle.frame.specs.declared.entry.Entry.{Entry}
 use Rattle.frame.specs.declared.session.Session.{Session}
 use Rattle.frame.specs.Words.{clock_from, ids_from}
@@ -19,37 +19,44 @@ use Rattle.frame.specs.Entries.{blank_entry, clock_ok}
 use Rattle.frame.specs.Refusals.{code_of, number_of}
 use Rattle.frame.specs.declared.refusal.Refusal.{Refusal}
 use Rattle.frame.specs.declared.refusal.Refusal.TheVariants.{Format}
-use Rattle.frame.proofs.Reading.{none_is}
 use Rattle.frame.proofs.Ascents.{ids_range}
 use Rattle.frame.proofs.Sessions.{session_facts, facts_session}
-use Rattle.frame.proofs.TokenTurns.{Carried, own_count, lent_rest}
+use Rattle.frame.proofs.TokenTurns.{own_count, lent_rest}
 use Rattle.frame.proofs.TokenChecks.{Shape, shape_facts, facts_shape, Checked, checked_facts, facts_checked, token_checks_accept}
 
 -- ---- the own frames of a row
-
--- the first of a row of sixteen
-taken_back : (k : ℕ) (es : List Entry) → length es ≡ k → take k (filled es) ≡ es
-unfolding filled
-taken_back k es e = take_at es (replicate (16 - length es) blank_entry) k e
 
 module _ (k n p : ℕ) (clock read ws : List ℕ) where
   abbrev Laden : Option Session
   Laden = cond (carried_ok k n p read ws) (Some (session_of (record { offices = n; clock = clock; read = read; own = own_from k n ws }))) None
 
-  pub laden_none : None ≡ Carried k n p ws → None ≡ Laden
+  pub laden_none : own_frames_ok k n p ws ≡ false → None ≡ Laden
   unfolding carried_ok both
-  laden_none e = rw (none_is (own_frames_ok k n p ws) (filled (own_from k n ws)) e) refl
+  laden_none e = rw e refl
 
-  pub laden_some : (own : List Entry) → Some own ≡ Carried k n p ws → (b : Bool) → b ≡ own_ok n p read zeros (take k own)
+  -- the session whose own writes were read into the first of sixteen blanks
+  pub laden_some : own_frames_ok k n p ws ≡ true → (blank : Entry) → blank ≡ blank_entry → (own : List Entry) → own ≡ own_from k n ws ++ drop k (replicate 16 blank)
+      → (b : Bool) → b ≡ own_ok n p read zeros (take k own)
       → cond b (Some (record { offices = n; clock = clock; read = read; count = k; own = own })) None ≡ Laden
-  unfolding carried_ok session_of both
-  laden_some own e b q =
+  unfolding carried_ok session_of filled both
+  laden_some f blank z own e b q =
       let es : List Entry = own_from k n ws in
-      let s = cond_some (own_frames_ok k n p ws) (filled es) own (sym e) in
       let m : length es ≡ k = own_count k n ws in
-      let t : take k own ≡ es = ap (take k) (sym s.1) ∙ taken_back k es m in
-      let c : b ≡ both (own_frames_ok k n p ws) (own_ok n p read zeros es) = rw s.0 (q ∙ ap (own_ok n p read zeros) t) in
-      λ i. cond (c i) (Some (record { offices = n; clock = clock; read = read; count = sym m i; own = sym s.1 i })) None
+      let t : take k own ≡ es = ap (take k) e ∙ take_at es (drop k (replicate 16 blank)) k m in
+      let c : b ≡ both (own_frames_ok k n p ws) (own_ok n p read zeros es) = rw f (q ∙ ap (own_ok n p read zeros) t) in
+      let blanks : drop k (replicate 16 blank) ≡ replicate (16 - length es) blank_entry =
+      ap (λ (x : Entry). drop k (replicate 16 x)) z ∙ drop-replicate k 16 blank_entry ∙ ap (λ (j : ℕ). replicate (16 - j) blank_entry) (sym m)
+      in
+      let own_is : own ≡ es ++ replicate (16 - length es) blank_entry = e ∙ ap (λ (r : List Entry). es ++ r) blanks in
+      λ i. cond (c i) (Some (record { offices = n; clock = clock; read = read; count = sym m i; own = own_is i })) None
+
+  -- the same where none is carried: of the own frames the check alone is asked
+  pub laden_bare : k ≡ 0 → (blank : Entry) → blank ≡ blank_entry → (b : Bool) → b ≡ eqb (length ws) 1
+      → cond b (Some (record { offices = n; clock = clock; read = read; count = k; own = replicate 16 blank })) None ≡ Laden
+  unfolding carried_ok own_frames_ok own_from own_ok session_of filled both
+  laden_bare e blank z b q =
+      let c : b ≡ both (eqb (length ws) 1) true = q ∙ sym (both_one (eqb (length ws) 1)) in
+      rw e (λ i. cond (c i) (Some (record { offices = n; clock = clock; read = read; count = 0; own = replicate 16 (z i) })) None)
 
 module _ (n p : ℕ) (ws : List ℕ) where
   -- ---- the fields
@@ -160,6 +167,23 @@ module _ (n p : ℕ) (ws : List ℕ) where
   unfolding both
   clock_refused r s e = refused r (checks_left s ∙ rw e refl)
 
+  -- ---- the same, by the refusal number of the call
+
+  pub settings_refused : ring_ok n p ≡ false → read_token_code n p ws ≡ 1
+  unfolding read_token_code check
+  settings_refused e = rw e refl
+
+  not_checked : ring_ok n p ≡ true → token_checked n p ws ≡ false → read_token_code n p ws ≡ 9
+  unfolding read_token_code check
+  not_checked r e = rw (r, ← token_checks_accept n p ws r, e) refl
+
+  pub start_nine : ring_ok n p ≡ true → start_ok n ws ≡ false → read_token_code n p ws ≡ 9
+  start_nine r e = not_checked r (not_so (token_checked n p ws) (λ t. false_true (sym e ∙ to_start (checked_facts n p ws t))))
+
+  pub clock_nine : ring_ok n p ≡ true → start_ok n ws ≡ true → clock_ok n (clock_from ws 1 n) ≡ false → read_token_code n p ws ≡ 9
+  unfolding both
+  clock_nine r s e = not_checked r (checks_left s ∙ rw e refl)
+
   -- ---- and otherwise: what is said of the rest is what is answered
 
   pub laden_answer : ring_ok n p ≡ true → start_ok n ws ≡ true → clock_ok n (clock_from ws 1 n) ≡ true → (clock read vs : List ℕ)
@@ -173,6 +197,15 @@ module _ (n p : ℕ) (ws : List ℕ) where
       in
       let said = content_of clock read vs x read_is rest_is ∙ content_at_lem (start_shape t) in
       λ i. cond (asked i) (Some (session_of (said i))) None
+
+  -- .. where none is carried, too
+  pub bare_answer : ring_ok n p ≡ true → start_ok n ws ≡ true → clock_ok n (clock_from ws 1 n) ≡ true → (clock read : List ℕ)
+      → clock ≡ clock_from ws 1 n → read ≡ ids_from Between → token_owns ws ≡ 0 → (blank : Entry) → blank ≡ blank_entry
+      → (b : Bool) → b ≡ eqb (length ws - (1 + n + token_reads ws)) 1
+      → cond b (Some (record { offices = n; clock = clock; read = read; count = token_owns ws; own = replicate 16 blank })) None ≡ session_in n p ws
+  bare_answer r t k clock read x y e blank z b q =
+      laden_bare (token_owns ws) n p clock read Rest e blank z b (q ∙ ap (λ (j : ℕ). eqb j 1) (sym (length-drop (1 + n + token_reads ws) ws)))
+      ∙ laden_answer r t k clock read Rest x y (sym owns_behind)
 
   -- ---- the answer of the call
 

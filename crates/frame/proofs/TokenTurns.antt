@@ -1,6 +1,6 @@
 -- What the writer's steps make of a token, and what each turn of the reader's loop over own frames does. Assumes nothing.
-use Rattle.std.proofs.Common.{◌≡◌, ℕ, zero, suc, ◌+◌, ◌-◌, ◌*◌, ◌<◌, ◌≤◌, Bool, true, false, eqb, leb, List, [], ◌∷◌, ◌++◌, length, get_or, take, drop, set, replicate, sym, refl, ap, ◌∙◌, append_assoc, append-nil, le_refl, zero-add, add-one, arith, length-append, length-drop, take_all, drop-drop, le-leb, leb-true, cond, length-set, length-take-le, None, Option, Some, sum_by, take-append-drop}
-use Rattle.std.proofs.lemmas.List.{drop-replicate, take_more, take_more_set}
+use Rattle.std.proofs.Common.{◌≡◌, ℕ, zero, suc, ◌+◌, ◌-◌, ◌*◌, ◌<◌, ◌≤◌, Bool, true, false, eqb, leb, List, [], ◌∷◌, ◌++◌, length, get_or, take, drop, set, replicate, sym, refl, ap, ◌∙◌, append_assoc, append-nil, le_refl, add-one, arith, length-append, length-drop, take_all, drop-drop, le-leb, leb-true, cond, length-set, None, Option, Some, sum_by, take-append-drop}
+use Rattle.std.proofs.lemmas.List.{take_more, take_more_set}
 use Rattle.std.proofs.lemmas.Option.{cond_some}
 use Rattle.std.proofs.lemmas.List.Sums.{sum_by-cons}
 use mathlib.Core.List.{Memᴰ}
@@ -282,10 +282,6 @@ next_of (suc i) (y ∷ es) x rest e =
     let r = next_of i es x rest e in
     record { before = ap (λ (l : List Entry). y ∷ l) r.before; behind = r.behind; place = ap suc r.place }
 
--- what is answered of k own frames, and blanks behind them
-abbrev pub Carried : ℕ → ℕ → ℕ → List ℕ → Option (List Entry)
-Carried k n p ws = cond (own_frames_ok k n p ws) (Some (filled (own_from k n ws))) None
-
 -- what holds of the loop over own frames before turn i, where the next frame stands at `at`
 pub record Turn (ws : List ℕ) (n p count : ℕ) (items : List Entry) (at i : ℕ) : Type 0 where
   pub few : i ≤ count
@@ -296,13 +292,13 @@ pub record Turn (ws : List ℕ) (n p count : ℕ) (items : List Entry) (at i : �
   pub done : take i items ≡ take i (own_from count n ws)
 
 module _ (ws : List ℕ) (n p count : ℕ) where
-  pub turn_first : (blank : Entry) → count ≤ 16 → Turn ws n p count (take count (replicate 16 blank)) 0 0
-  turn_first blank few =
+  pub turn_first : (items : List Entry) → length items ≡ count → Turn ws n p count items 0 0
+  turn_first items size =
       let z = sub-zero count in
       record {
         few = omega arith;
         within = omega arith;
-        size = length-take-le count (replicate 16 blank) few;
+        size = size;
         checks = ap (λ (k : ℕ). own_frames_ok k n p ws) (sym z);
         left = ap (λ (k : ℕ). own_from k n ws) (sym z);
         done = refl;
@@ -321,12 +317,12 @@ module _ (ws : List ℕ) (n p count : ℕ) where
     one : count - i ≡ suc (count - (i + 1))
     one = omega (arith, T.size)
 
-    pub turn_fails : None ≡ own_in n p (Lent at) → None ≡ Carried count n p ws
+    pub turn_fails : None ≡ own_in n p (Lent at) → false ≡ own_frames_ok count n p ws
     unfolding own_in own_frames_ok both
     turn_fails e =
         let bad : own_frame_ok n p Here ≡ false = none_is (own_frame_ok n p Here) _ (e ∙ ap (own_in n p) (lent_rest at)) in
         let out : own_frames_ok count n p ws ≡ false = T.checks ∙ ap (λ (k : ℕ). own_frames_ok k n p Here) one ∙ rw bad refl in
-        rw out refl
+        sym out
 
     module _ (x : Entry) (k : ℕ) (q : Some (x, k) ≡ own_in n p (Lent at)) where
       record Own : Type 0 where
@@ -371,18 +367,12 @@ module _ (ws : List ℕ) (n p count : ℕ) where
           }
 
   -- behind the last one stands the check
-  pub turn_last : (items : List Entry) (at i : ℕ) → Turn ws n p count items at i → length items ≤ i → (blank : Entry) → blank ≡ blank_entry
-      → (b : Bool) → b ≡ eqb (length ws - at) 1 → cond b (Some (items ++ drop count (replicate 16 blank))) None ≡ Carried count n p ws
-  unfolding own_frames_ok filled
-  turn_last items at i T l blank e b q =
+  pub turn_last : (items : List Entry) (at i : ℕ) → Turn ws n p count items at i → length items ≤ i
+      → (eqb (length ws - at) 1 ≡ own_frames_ok count n p ws) × (items ≡ own_from count n ws)
+  unfolding own_frames_ok
+  turn_last items at i T l =
       let z : count - i ≡ 0 = omega (arith, T.size) in
-      let es : List Entry = own_from count n ws in
-      let k = own_count count n ws in
-      let a : b ≡ own_frames_ok count n p ws =
-      q ∙ ap (λ (j : ℕ). eqb j 1) (sym (length-drop at ws)) ∙ sym (T.checks ∙ ap (λ (j : ℕ). own_frames_ok j n p (drop at ws)) z)
-      in
-      let own : items ≡ es = sym (take_all i items l) ∙ T.done ∙ take_all i es (omega (arith, k, T.size)) in
-      let blanks : drop count (replicate 16 blank) ≡ replicate (16 - length es) blank_entry =
-      ap (λ (x : Entry). drop count (replicate 16 x)) e ∙ drop-replicate count 16 blank_entry ∙ ap (λ (j : ℕ). replicate (16 - j) blank_entry) (sym k)
-      in
-      λ i. cond (a i) (Some (own i ++ blanks i)) None
+      let es : List Entry = own_from count n ws in (
+        ap (λ (j : ℕ). eqb j 1) (sym (length-drop at ws)) ∙ sym (T.checks ∙ ap (λ (j : ℕ). own_frames_ok j n p (drop at ws)) z),
+        sym (take_all i items l) ∙ T.done ∙ take_all i es (omega (arith, own_count count n ws, T.size)),
+      )

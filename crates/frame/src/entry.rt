@@ -68,7 +68,7 @@ pub fn clock_ok(n: usize, clock: [u32; 8]) -> bool
 fn beyond(n: usize, w: u32, j: usize) -> u32
     ensures { (result == 0) ≡ either (nat_lt j n) (w == 0) }
 {
-    if j < n { 0 } else { w }
+    w & if j < n { 0 } else { 0xFFFF_FFFF }
 }
 
 // No id of an office that the ring has not. All words at once.

@@ -113,6 +113,7 @@ pub fn frame_from(ws: &[u32], offices: u32, plots: u32) -> Option<Frame>
 }
 
 // 01: read a frame. Only the answer is made here; a hearing, whose settings are in range, reads by `frame_from`.
+#[inline(always)]
 pub fn read_frame(ws: &[u32], offices: u32, plots: u32) -> Result<Frame, Refusal>
     ensures { ReadFramePromise ws.now offices plots (code_of result) (result_unwrap_or result blank_frame) }
 {

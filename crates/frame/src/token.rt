@@ -1,11 +1,12 @@
 // Tokens (01: slips): a session as a row of words.
-ghost use Rattle.std.specs.Prelude.{◌≡◌, ℕ, ◌+◌, ◌%◌, ◌<◌, ◌≤◌, true, false, [], ◌∷◌, ◌++◌, length, get_or, take, cond, None, Some, slice_index, slice_index_or, slice_set};
+ghost use Rattle.std.specs.Prelude.{◌≡◌, ℕ, ◌+◌, ◌%◌, ◌<◌, ◌≤◌, true, false, [], ◌∷◌, ◌++◌, length, get_or, take, drop, cond, None, Some, ok_or, slice_index, slice_index_or, slice_set};
 ghost use Rattle.std.specs.Result.{result_unwrap_or};
 ghost use Rattle.std.proofs.lemmas.List.Edits.{sets};
 ghost use Rattle.causal.specs.Lists.{tab};
 ghost use Rattle.frame.specs.Entries.{ids_ok};
 ghost use Rattle.frame.specs.Words.{clock_words, id_words, total};
 ghost use Rattle.frame.specs.Refusals.{code_of, reply_of};
+ghost use Rattle.frame.specs.declared.refusal.Refusal.TheVariants.{Format};
 ghost use Rattle.frame.specs.Frames.{ring_ok, framed, frame_ok, frame_of};
 ghost use Rattle.frame.specs.Calls.{laid};
 ghost use Rattle.frame.specs.Sessions.{nobody, content_of, filled, session_of, session_ok, fresh_content};
@@ -105,20 +106,29 @@ fn fill(s: &Session, out: &mut [u32])
     crate::word::put_sum(out, end);
 }
 
-// 01: write a slip.
-pub fn write_token(s: Session, out: &mut [u32]) -> Result<usize, Refusal>
-    ensures { WriteTokenPromise s out.old (reply_of result) out.new }
+// The writing of a session that is lent. Not inlined: so the session is read where it lies, and is not copied first.
+#[inline(never)]
+fn write(s: &Session, out: &mut [u32]) -> Result<usize, Refusal>
+    ensures { WriteTokenPromise s.now out.old (reply_of result) out.new }
 {
     let n = s.offices;
-    if !crate::entry::ring_ok(n, 64) || !crate::session::session_ok(&s, n, 64) {
+    if !crate::entry::ring_ok(n, 64) || !crate::session::session_ok(s, n, 64) {
         return Err(Refusal::Content);
     }
-    let words = words_of(&s);
+    let words = words_of(s);
     if words > out.len() {
         return Err(Refusal::Room);
     }
-    fill(&s, out);
+    fill(s, out);
     Ok(words)
+}
+
+// 01: write a slip.
+#[inline(always)]
+pub fn write_token(s: Session, out: &mut [u32]) -> Result<usize, Refusal>
+    ensures { WriteTokenPromise s out.old (reply_of result) out.new }
+{
+    write(&s, out)
 }
 
 // ---- reading
@@ -160,22 +170,20 @@ fn own_from(ws: &[u32], n: u32, p: u32) -> Option<(Entry, usize)>
     Some((frame.entry, words))
 }
 
-// The own writes whose frames stand one behind the other, up to the last word, and blanks behind them.
-fn owns_from(ws: &[u32], n: u32, p: u32, count: usize) -> Option<[Entry; 16]>
+// Do the frames of so many own writes stand one behind the other, up to the last word? They are put into the first places of own.
+fn owns_from(ws: &[u32], n: u32, p: u32, count: usize, own: &mut [Entry; 16]) -> bool
     requires { (ring_ok n p ≡ true) × (count ≤ 16) }
-    ensures { result ≡ cond (own_frames_ok count n p ws.now) (Some (filled (own_from count n ws.now))) None }
+    ensures { (result ≡ own_frames_ok count n p ws.now) × (result ≡ true → own.new ≡ own_from count n ws.now ++ drop count own.old) }
 {
-    let mut own = [crate::entry::blank_entry(); 16];
     let mut at = 0;
     for place in &mut own[..count] {
-        let (e, words) = own_from(&ws[at..], n, p)?;
+        let Some((e, words)) = own_from(&ws[at..], n, p) else {
+            return false;
+        };
         *place = e;
         at += words;
     }
-    if ws.len() - at != 1 {
-        return None;
-    }
-    Some(own)
+    ws.len() - at == 1
 }
 
 // All of a row but the numbers of the clock and the own frames: the head, the kinds of the clock words, the read ids, the check.
@@ -195,6 +203,7 @@ fn start_ok(ws: &[u32], n: u32) -> bool
 }
 
 // The session whose own frames stand in ws, up to the last word.
+#[inline(always)]
 fn laden(
     ws: &[u32],
     n: u32,
@@ -202,15 +211,18 @@ fn laden(
     clock: [u32; 8],
     read: [u32; 8],
     count: usize,
-) -> Option<Session>
+) -> Result<Session, Refusal>
     requires { (ring_ok n p ≡ true) × (count ≤ 16) × (ids_ok n read ≡ true) }
-    ensures { result ≡ cond (carried_ok count n p read ws.now) (Some (session_of (record { offices = n; clock = clock; read = read; own = own_from count n ws.now }))) None }
+    ensures { result ≡ ok_or (cond (carried_ok count n p read ws.now) (Some (session_of (record { offices = n; clock = clock; read = read; own = own_from count n ws.now }))) None) Format }
 {
-    let own = owns_from(ws, n, p, count)?;
-    if !crate::session::owns_ok(n, p, read, &own[..count]) {
-        return None;
+    let mut own = [crate::entry::blank_entry(); 16];
+    if !owns_from(ws, n, p, count, &mut own) {
+        return Err(Refusal::Format);
     }
-    Some(Session {
+    if !crate::session::owns_ok(n, p, read, &own[..count]) {
+        return Err(Refusal::Format);
+    }
+    Ok(Session {
         offices: n,
         clock,
         read,
@@ -219,32 +231,46 @@ fn laden(
     })
 }
 
-// The session that a row has.
-fn session_from(ws: &[u32], offices: u32, plots: u32) -> Option<Session>
+// The session that a row has. One with no own frames is told apart, and each is made in the answer: so no row of entries is copied.
+#[inline(always)]
+fn session_from(ws: &[u32], offices: u32, plots: u32) -> Result<Session, Refusal>
     requires { ring_ok offices plots ≡ true }
-    ensures { result ≡ session_in offices plots ws.now }
+    ensures { result ≡ ok_or (session_in offices plots ws.now) Format }
 {
     if !start_ok(ws, offices) {
-        return None;
+        return Err(Refusal::Format);
     }
     let clock = crate::word::clock_from(ws, 1, offices as usize);
     if !crate::entry::clock_ok(offices as usize, clock) {
-        return None;
+        return Err(Refusal::Format);
     }
     let head = ws[0] % crate::word::LOW;
     let from = 1 + offices as usize;
     let to = from + (head % 512) as usize;
     let read = crate::word::ids_from(&ws[from..to]);
     let count = (head / 0x1_0000 % 256) as usize;
-    laden(&ws[to..], offices, plots, clock, read, count)
+    if count != 0 {
+        return laden(&ws[to..], offices, plots, clock, read, count);
+    }
+    if ws.len() - to != 1 {
+        return Err(Refusal::Format);
+    }
+    Ok(Session {
+        offices,
+        clock,
+        read,
+        count,
+        own: [crate::entry::blank_entry(); 16],
+    })
 }
 
 // 01: read a slip.
+#[inline(always)]
 pub fn read_token(ws: &[u32], offices: u32, plots: u32) -> Result<Session, Refusal>
     ensures { ReadTokenPromise ws.now offices plots (code_of result) (result_unwrap_or result (session_of (fresh_content 0))) }
 {
     if !crate::entry::ring_ok(offices, plots) {
         return Err(Refusal::Settings);
     }
-    session_from(ws, offices, plots).ok_or(Refusal::Format)
+    session_from(ws, offices, plots)
 }

@@ -14,11 +14,13 @@ pub fn kind_is(want: u32, w: u32) -> bool
     ensures { result ≡ kind_is want w }
 {
     let kind = w / LOW;
-    match kind {
-        1 | 3..=6 | 8 | 15 => kind == want,
-        0 | 2 | 7 | 9..=14 => false,
-        _ => false,
-    }
+    // Which kind is asked first: where `want` is known, nothing is left of the match.
+    kind == want
+        && match kind {
+            1 | 3..=6 | 8 | 15 => true,
+            0 | 2 | 7 | 9..=14 => false,
+            _ => false,
+        }
 }
 
 // The sum of the payloads, modulo 2^28: the kinds are multiples of 2^28 and fall away with what wraps.

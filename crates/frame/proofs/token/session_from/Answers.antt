@@ -1,4 +1,5 @@
-use Rattle.std.proofs.Common.{◌+◌, ◌≤◌, length, refl, sym, ap, ◌∙◌, arith}
+use Rattle.std.proofs.Common.{◌+◌, ◌≤◌, true, false, length, refl, sym, ap, ◌∙◌, arith, ok_or, eq-eqb, ne_eqb}
+use Rattle.frame.specs.declared.refusal.Refusal.TheVariants.{Format}
 use Rattle.frame.specs.Entries.{clock_ok, ids_ok}
 use Rattle.frame.specs.Tokens.{token_reads}
 use Rattle.frame.proofs.Entries.{ring_facts}
@@ -10,7 +11,7 @@ pub start_ok-requires : goal.start_ok-requires
 start_ok-requires c = (ring_facts c.args.offices c.args.plots c.requires).high
 
 pub returns-then-not-start_ok : goal.returns-then-not-start_ok
-returns-then-not-start_ok c = R.start_refused c.args.offices c.args.plots c.args.ws.now c.requires (sym c.if-not-start_ok.ensures)
+returns-then-not-start_ok c = ap (λ o. ok_or o Format) (R.start_refused c.args.offices c.args.plots c.args.ws.now c.requires (sym c.if-not-start_ok.ensures))
 
 pub clock_from-clock-requires : goal.clock_from-clock-requires
 clock_from-clock-requires c =
@@ -18,8 +19,9 @@ clock_from-clock-requires c =
 
 pub returns-then-not-clock_ok : goal.returns-then-not-clock_ok
 returns-then-not-clock_ok c =
-    R.clock_refused c.args.offices c.args.plots c.args.ws.now c.requires (sym c.if-not-start_ok.ensures)
-    (ap (clock_ok c.args.offices) (sym c.clock_from-clock.ensures) ∙ sym c.if-not-clock_ok.ensures)
+    ap (λ o. ok_or o Format)
+    (R.clock_refused c.args.offices c.args.plots c.args.ws.now c.requires (sym c.if-not-start_ok.ensures)
+    (ap (clock_ok c.args.offices) (sym c.clock_from-clock.ensures) ∙ sym c.if-not-clock_ok.ensures))
 
 pub bounds-ws-0 : goal.bounds-ws-0
 bounds-ws-0 c = omega (arith, (R.start_shape c.args.offices c.args.plots c.args.ws.now (sym c.if-not-start_ok.ensures)).some)
@@ -51,9 +53,27 @@ laden-requires c =
       ap (ids_ok c.args.offices) c.ids_from-read.ensures ∙ ids_range _ _ (R.start_reads c.args.offices c.args.plots c.args.ws.now start),
     )
 
+pub returns-then-count-ne0 : goal.returns-then-count-ne0
+returns-then-count-ne0 c =
+    c.laden.ensures
+    ∙ ap (λ o. ok_or o Format)
+    (R.laden_answer c.args.offices c.args.plots c.args.ws.now c.requires (sym c.if-not-start_ok.ensures)
+    (ap (clock_ok c.args.offices) (sym c.clock_from-clock.ensures) ∙ sym c.if-not-clock_ok.ensures)
+    _ _ _ c.clock_from-clock.ensures c.ids_from-read.ensures refl)
+
+pub overflow_sub-ws : goal.overflow_sub-ws
+overflow_sub-ws c = omega (arith, (R.start_shape c.args.offices c.args.plots c.args.ws.now (sym c.if-not-start_ok.ensures)).room)
+
+pub returns-then-ws-to-ne1 : goal.returns-then-ws-to-ne1
+returns-then-ws-to-ne1 c =
+    ap (λ o. ok_or o Format)
+    (R.bare_answer c.args.offices c.args.plots c.args.ws.now c.requires (sym c.if-not-start_ok.ensures)
+    (ap (clock_ok c.args.offices) (sym c.clock_from-clock.ensures) ∙ sym c.if-not-clock_ok.ensures)
+    _ _ c.clock_from-clock.ensures c.ids_from-read.ensures c.if-count-ne0.false _ refl false (sym (ne_eqb _ 1 c.if-ws-to-ne1.true)))
+
 pub returns : goal.returns
 returns c =
-    c.laden.ensures
-    ∙ R.laden_answer c.args.offices c.args.plots c.args.ws.now c.requires (sym c.if-not-start_ok.ensures)
+    ap (λ o. ok_or o Format)
+    (R.bare_answer c.args.offices c.args.plots c.args.ws.now c.requires (sym c.if-not-start_ok.ensures)
     (ap (clock_ok c.args.offices) (sym c.clock_from-clock.ensures) ∙ sym c.if-not-clock_ok.ensures)
-    _ _ _ c.clock_from-clock.ensures c.ids_from-read.ensures refl
+    _ _ c.clock_from-clock.ensures c.ids_from-read.ensures c.if-count-ne0.false _ c.blank_entry.ensures true (sym (eq-eqb _ 1 c.if-ws-to-ne1.false)))
