@@ -1,6 +1,6 @@
 -- The holds of a write and of a receive, on words: they leave the words of the office that Calls says. Assumes nothing.
 use Prim.Native.Nat.{ℕ, ◌≤◌}
-use mathlib.Core.Path.{◌≡◌, refl, ap, ◌∙◌}
+use mathlib.Core.Path.{◌≡◌, refl, sym, ap, ◌∙◌}
 use mathlib.Core.Bool.{Bool, true, false, cond}
 use mathlib.Core.List.{List, Memᴰ, [], ◌∷◌}
 use lib.ListN.{length}
@@ -17,6 +17,14 @@ use Rattle.office.specs.Calls.{missing, hold_all}
 use Rattle.office.specs.Steps.{hold_if, holds_in}
 use Rattle.office.proofs.KeepCalls.{Known}
 use Rattle.office.proofs.Along.{Along, along_held, along_takes, along_new}
+
+-- own writes that are all held leave the store as it was
+pub holds_none : (held ws : List ℕ) (es : List Entry) → ((e : Entry) → Memᴰ e es → is_in held (id_of e) ≡ true) → ws ≡ holds_in held ws es
+unfolding holds_in
+holds_none held ws [] h = refl
+holds_none held ws (e ∷ es) h =
+    holds_none held ws es (λ f m. h f (Memᴰ.tail m))
+    ∙ ap (λ (b : Bool). holds_in held (hold_if b ws e) es) (sym (h e (Memᴰ.head refl)))
 
 -- ---- own writes, on words and on contents
 

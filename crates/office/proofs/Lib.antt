@@ -11,6 +11,8 @@ pub mod KeptSession
 pub mod Kept
 pub mod Exits
 pub mod Notes
+pub mod Alone
+pub mod OwnCodes
 pub mod Shape
 pub mod Slots
 pub mod Holds

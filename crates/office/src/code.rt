@@ -11,6 +11,7 @@ use frame::refusal::Refusal;
 use frame::session::Session;
 
 // 2: store unsound. 3: session unsound for it.
+#[inline(always)]
 pub fn start(store: &[u32], s: &Session) -> Result<(), Refusal>
     ensures { code_of result ≡ start_code store.now (content_of s.now) }
 {

@@ -13,6 +13,7 @@ pub struct Seen {
 }
 
 // The clock joins that of the entry, which is read.
+#[inline(always)]
 #[tactic(auto, unfolding(store::specs::Current::found_at, crate::specs::Decide::noted_seen), using(crate::proofs::Notes::slot_id))]
 pub fn note(store: &[u32], place: Option<usize>, seen: Seen) -> Seen
     requires { InSlots (length store.now) place }

@@ -94,6 +94,13 @@ seen_all O s (q ∷ qs) g x h =
     ap (with_seen s) (seen_cons g (length qs) x) ∙ seen_all O s qs (λ j. g (suc j)) (noted_seen (g 0) x) (tail (current O) g q qs h)
     ∙ ap (noted_all_in O qs) (noted_with (g 0) s x ∙ ap (λ (f : Found). noted_in f (with_seen s x)) (h 0 (omega arith)))
 
+-- ---- no own writes
+
+pub none_own : (plot : ℕ) (f : Found) (own : List Entry) → length own ≡ 0 → f ≡ best_own plot f own
+unfolding best_own
+none_own plot f [] h = refl
+none_own plot f (e ∷ own) h = absurd (omega (arith, h))
+
 -- ---- names
 
 -- its name payload fits a word, if those of what was found in the store and of the own writes do
@@ -129,6 +136,16 @@ own_named ws s sound ok i l =
     (omega (arith, G.office_ok), G.to)
 
 -- ---- turns of the loops
+
+pub three_sets : (l : List ℕ) (at : ℕ) (xs : List ℕ) → length xs ≡ 3
+    → set (set (set l at (get_or xs 0 0)) (at + 1) (get_or xs 1 0)) (at + 2) (get_or xs 2 0) ≡ sets l at xs
+three_sets l at [] h = absurd (omega (arith, h))
+three_sets l at (a ∷ []) h = absurd (omega (arith, h))
+three_sets l at (a ∷ b ∷ []) h = absurd (omega (arith, h))
+three_sets l at (a ∷ b ∷ c ∷ []) h =
+    let two : at + 2 ≡ suc (suc at) = omega arith in
+    ap₂ (λ (i j : ℕ). set (set (set l at a) i b) j c) (add-one at) two
+three_sets l at (a ∷ b ∷ c ∷ d ∷ xs) h = absurd (omega (arith, h))
 
 pub three_length : (f : Found) → length (three_words f) ≡ 3
 unfolding three_words
@@ -171,7 +188,7 @@ module _ (ws : List ℕ) (s : Content) (plots : List ℕ) where
       go true true true true false = refl
       go true true true true true = refl
 
-  joint_small : (room : ℕ) → joint_refusal ws s plots room ≤ 12
+  pub joint_small : (room : ℕ) → joint_refusal ws s plots room ≤ 12
   unfolding joint_refusal start_code check or_else
   joint_small room =
       go (sound_store ws) (session_ok (get_or ws 0 0) (get_or ws 2 0) s) (both (leb (length plots) 16) (plots_ok (get_or ws 2 0) plots)) (leb (3 * length plots) room) (subset_of s.read (part ws 3 8))
@@ -224,15 +241,17 @@ starts ws s plots room h =
       held = (check_none (subset_of s.read (part ws 3 8)) 12 0 (omega arith) d.1).0;
     }
 
--- what a joint reading that is not refused has found out: what is current on each plot
-pub record Sighted (ws read plots : List ℕ) (places : List (Option ℕ)) : Type 0 where
+-- what a joint reading that is not refused has found out: the visible set to be, and what is current on each plot then
+pub record Sighted (ws read plots visible : List ℕ) (places : List (Option ℕ)) : Type 0 where
+  pub shown : visible ≡ (reveal (office_of ws) read).visible
   pub found : (j : ℕ) → j < length plots → found_among ws places j ≡ current (reveal (office_of ws) read) (get_or plots j 0)
   pub reach : (j : ℕ) → j < length plots → InSlots (length ws) (get_or places j None)
 
-pub sighted : (ws read plots visible : List ℕ) (places : List (Option ℕ)) → Shows ws read visible → PlacesTo ws visible plots (length plots) places → Sighted ws read plots places
+pub sighted : (ws read plots visible : List ℕ) (places : List (Option ℕ)) → Shows ws read visible → PlacesTo ws visible plots (length plots) places → Sighted ws read plots visible places
 unfolding found_among
 sighted ws read plots visible places S p =
     record {
+      shown = S.shown;
       found = λ j l. ap (found_at ws) (p j l) ∙ sym (S.found (get_or plots j 0));
       reach = λ j l. subst (InSlots (length ws)) (sym (p j l)) (S.place (get_or plots j 0));
     }
@@ -241,7 +260,7 @@ module _ (ws : List ℕ) (s : Session) (plots : List ℕ) where
   abbrev O : Office
   O = reveal (office_of ws) s.read
 
-  pub stands_own : (places : List (Option ℕ)) → Sighted ws s.read plots places → Stands (handed O (content_of s)) (handed_among ws (content_of s).own plots places) plots
+  pub stands_own : {visible : List ℕ} (places : List (Option ℕ)) → Sighted ws s.read plots visible places → Stands (handed O (content_of s)) (handed_among ws (content_of s).own plots places) plots
   unfolding handed handed_among content_of
   stands_own places L j l = ap (λ (f : Found). best_own (get_or plots j 0) f (content_of s).own) (L.found j l)
 
@@ -274,8 +293,8 @@ module _ (ws : List ℕ) (s : Session) (plots : List ℕ) where
             )
 
     -- g: what is handed back on each plot
-    pub joint_accepted : (places : List (Option ℕ)) (g : ℕ → Found) (seen : Seen) (left out : List ℕ) → 0 ≡ joint_refusal ws (content_of s) plots (length row)
-        → Sighted ws s.read plots places → Stands (handed O (content_of s)) g plots → seen ≡ seen_to (found_among ws places) (length plots) (seen_of s)
+    pub joint_accepted : {visible : List ℕ} (places : List (Option ℕ)) (g : ℕ → Found) (seen : Seen) (left out : List ℕ) → 0 ≡ joint_refusal ws (content_of s) plots (length row)
+        → Sighted ws s.read plots visible places → Stands (handed O (content_of s)) g plots → seen ≡ seen_to (found_among ws places) (length plots) (seen_of s)
         → left ≡ store_words ws O → out ≡ sets row 0 (words_to g (length plots)) → JointSays (Ok seen) left out
     unfolding code_of read_joint_session session_if content_of laid
     joint_accepted places g seen left out z L h a b d =

@@ -68,6 +68,17 @@ module _ (ws : List ℕ) (s : Content) (plot : ℕ) where
       go true true true false = refl
       go true true true true = refl
 
+  pub read_small : read_refusal ws s plot ≤ 12
+  unfolding read_refusal start_code check or_else
+  read_small = go (sound_store ws) (session_ok (get_or ws 0 0) (get_or ws 2 0) s) (ltb plot (get_or ws 2 0)) (subset_of s.read (part ws 3 8))
+    where
+      go : (a b c d : Bool) → or_else (check a 2 (check b 3 0)) (check c 4 (check d 12 0)) ≤ 12
+      go false b c d = omega arith
+      go true false c d = omega arith
+      go true true false d = omega arith
+      go true true true false = omega arith
+      go true true true true = omega arith
+
 -- what a reading that is not refused knows
 pub record Reads (ws : List ℕ) (s : Session) : Type 0 where
   pub sound : sound_store ws ≡ true

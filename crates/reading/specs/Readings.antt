@@ -30,6 +30,7 @@ joint_refusal ws s plots room =
 
 -- a visible set is that of the store with the read ids brought out: what is current on a plot then, and the store that is left
 pub record Shows (ws read visible : List ℕ) : Type 0 where
+  pub shown : visible ≡ (reveal (office_of ws) read).visible
   pub held : subset_of visible (part ws 3 8) ≡ true
   pub left : sets ws 11 visible ≡ store_words ws (reveal (office_of ws) read)
   pub place : (plot : ℕ) → InSlots (length ws) (current_at ws visible plot)

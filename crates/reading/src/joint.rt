@@ -14,7 +14,7 @@ ghost use Rattle.frame.specs.Refusals.{code_of};
 
 use frame::refusal::Refusal;
 use frame::session::{Session, own_writes};
-use office::note::{Seen, note, set_seen};
+use office::note::{Seen, note};
 
 // Up to 16 plots, each in range.
 fn plots_ok(plots: &[u32], p: u32) -> bool
@@ -24,6 +24,7 @@ fn plots_ok(plots: &[u32], p: u32) -> bool
 }
 
 // 4: too many plots, or one out of range. 8: answer too short. 12: a read id not held.
+#[inline(always)]
 fn may_read(store: &[u32], s: &Session, plots: &[u32], room: usize) -> Result<(), Refusal>
     ensures { code_of result ≡ joint_refusal store.now (content_of s.now) plots.now room }
 {
@@ -40,17 +41,15 @@ fn may_read(store: &[u32], s: &Session, plots: &[u32], room: usize) -> Result<()
     Ok(())
 }
 
-// What is current on each plot.
-fn places_of(store: &[u32], visible: [u32; 8], plots: &[u32]) -> [Option<usize>; 16]
-    requires { (sound_store store.now ≡ true) × (subset_of visible (part store.now 3 8) ≡ true) × (length plots.now ≤ 16) }
-    ensures found { PlacesTo store.now visible plots.now (length plots.now) result }
-    ensures sixteen { length result ≡ 16 }
+// What is current on each plot, into a row that is long enough.
+fn places_of(store: &[u32], visible: [u32; 8], plots: &[u32], places: &mut [Option<usize>])
+    requires { (sound_store store.now ≡ true) × (subset_of visible (part store.now 3 8) ≡ true) × (length plots.now ≤ length places.old) }
+    ensures found { PlacesTo store.now visible plots.now (length plots.now) places.new }
+    ensures long { length places.new ≡ length places.old }
 {
-    let mut places = [None; 16];
     for (i, plot) in plots.iter().enumerate() {
         places[i] = store::current::current(store, visible, *plot);
     }
-    places
 }
 
 // What is seen once what is current on each plot is noted.
@@ -76,7 +75,8 @@ pub fn see_joint(
 {
     may_read(store, s, plots, answer.len())?;
     let visible = crate::shown::shown_by(store, s.read);
-    let places = places_of(store, visible, plots);
+    let mut places = [None; 16];
+    places_of(store, visible, plots, &mut places);
     let places = &places[..plots.len()];
     crate::answer::put_answers(store, own_writes(s), plots, places, answer);
     let before = Seen {
@@ -89,6 +89,7 @@ pub fn see_joint(
 }
 
 // 01: read jointly.
+#[inline(always)]
 pub fn read_joint(
     store: &mut [u32],
     s: Session,
@@ -98,7 +99,13 @@ pub fn read_joint(
     ensures { JointPromise store.old s plots.now answer.old (code_of result) (result_unwrap_or result s) store.new answer.new }
 {
     let seen = see_joint(store, &s, plots, answer)?;
-    let mut session = s;
-    set_seen(&mut session, seen);
-    Ok(session)
+    let Seen { clock, read } = seen;
+    let own = s.own;
+    Ok(Session {
+        offices: s.offices,
+        clock,
+        read,
+        count: s.count,
+        own,
+    })
 }

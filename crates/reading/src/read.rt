@@ -6,7 +6,7 @@ ghost use Rattle.reading.specs.Readings.{read_refusal};
 ghost use Rattle.reading.specs.Answers.{found_by, entry_by, session_by, seen_found, seen_entry, seen_session};
 ghost use Rattle.office.specs.Promises.{ReadPromise};
 
-use crate::best::{best_own, entry_in};
+use crate::best::handed;
 use frame::entry::Entry;
 use frame::refusal::Refusal;
 use frame::session::{Session, own_writes};
@@ -27,6 +27,7 @@ pub struct PlotSeen {
 }
 
 // 4: plot out of range. 12: a read id not held.
+#[inline(always)]
 fn may_read(store: &[u32], s: &Session, plot: u32) -> Result<(), Refusal>
     ensures { code_of result ≡ read_refusal store.now (content_of s.now) plot }
 {
@@ -41,19 +42,19 @@ fn may_read(store: &[u32], s: &Session, plot: u32) -> Result<(), Refusal>
 }
 
 // read_plot, but for the parts of the session that a reading leaves as they were.
+#[inline(always)]
 pub fn see_plot(store: &mut [u32], s: &Session, plot: u32) -> Result<PlotSeen, Refusal>
     ensures { ReadPromise store.old s.now plot (code_of result) (seen_found result) (seen_entry result) (seen_session s.now result) store.new }
 {
     may_read(store, s, plot)?;
     let visible = crate::shown::shown_by(store, s.read);
     let place = store::current::current(store, visible, plot);
-    let first = entry_in(store, place);
     let before = Seen {
         clock: s.clock,
         read: s.read,
     };
     let seen = PlotSeen {
-        entry: best_own(own_writes(s), plot, first),
+        entry: handed(store, own_writes(s), plot, place),
         seen: note(store, place, before),
     };
     store::reveal::show(store, visible);
@@ -61,6 +62,7 @@ pub fn see_plot(store: &mut [u32], s: &Session, plot: u32) -> Result<PlotSeen, R
 }
 
 // 01: read one plot.
+#[inline(always)]
 pub fn read_plot(store: &mut [u32], s: Session, plot: u32) -> Result<PlotRead, Refusal>
     ensures { ReadPromise store.old s plot (code_of result) (found_by result) (entry_by result) (session_by s result) store.new }
 {

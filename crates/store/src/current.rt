@@ -30,8 +30,13 @@ fn weigh(store: &[u32], plot: u32, k: usize, best: Option<usize>) -> Option<usiz
         return best;
     }
     match best {
-        Some(b) if !ranks_above(store, k, b) => best,
-        _ => Some(k),
+        None => Some(k),
+        Some(b) => {
+            if ranks_above(store, k, b) {
+                return Some(k);
+            }
+            Some(b)
+        }
     }
 }
 

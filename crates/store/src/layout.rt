@@ -22,13 +22,21 @@ pub fn need_of(offices: u32) -> usize
     19 + 576 * offices as usize
 }
 
-// The eight words from `at` on.
-#[tactic(auto, unfolding(causal::specs::Lists::part))]
+// The eight words from `at` on. By `first_chunk` a test of the length would stay in the code at each use.
 pub fn set_at(store: &[u32], at: usize) -> [u32; 8]
     requires { at + 8 ≤ length store.now }
     ensures { result ≡ part store.now at 8 }
 {
-    *store[at..].first_chunk().unwrap()
+    [
+        store[at],
+        store[at + 1],
+        store[at + 2],
+        store[at + 3],
+        store[at + 4],
+        store[at + 5],
+        store[at + 6],
+        store[at + 7],
+    ]
 }
 
 // Plot, clock and deps of the entry in the slot of id k.

@@ -4,4 +4,4 @@ use Rattle.reading.specs.Readings.{PlacesTo}
 use Rattle.reading.proofs.joint.places_of.Given as goal
 
 abbrev pub invariant-loop-i : goal.invariant-loop-i
-invariant-loop-i l = (length l.places ≡ 16) × PlacesTo l.store l.visible l.plots l.i l.places
+invariant-loop-i l = (length l.places ≡ length l.initial.places) × PlacesTo l.store l.visible l.plots l.i l.places

@@ -1,4 +1,3 @@
-use mathlib.Core.Path.{◌∙◌}
 use Rattle.std.proofs.lemmas.Result.{err_from_is_err_and}
 use Rattle.frame.specs.Refusals.{code_of}
 use Rattle.office.specs.Decide.{with_seen}
@@ -9,5 +8,5 @@ unfolding code_of with_seen
 returns-in_err-seen c = let p = err_from_is_err_and c.from_residual.result c.from_residual.ensures.1 in rw (p.1, p.2) c.in_err-seen.ensures
 
 pub returns : goal.returns
-unfolding code_of
-returns c = let h = c.in_ok-seen.ensures in (h.0, c.set_seen.ensures ∙ h.1, h.2, h.3)
+unfolding code_of with_seen
+returns c = let h = c.in_ok-seen.ensures in (h.0, h.1, h.2, h.3)

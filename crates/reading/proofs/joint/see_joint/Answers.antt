@@ -25,9 +25,9 @@ unfolding code_of
 shown_by-visible-requires c = let q = starts c.args.store.now c.args.s.now c.args.plots.now (length c.args.answer.now) (sym c.in_ok-may_read.ensures) in
     (q.sound, q.held)
 
-pub places_of-places-requires : goal.places_of-places-requires
+pub places_of-requires : goal.places_of-requires
 unfolding code_of
-places_of-places-requires c = let ws = c.args.store.now in
+places_of-requires c = let ws = c.args.store.now in
     let s = c.args.s.now in
     let q = starts ws s c.args.plots.now (length c.args.answer.now) (sym c.in_ok-may_read.ensures) in
     (q.sound, c.shown_by-visible.ensures.held, q.short)
@@ -35,13 +35,13 @@ places_of-places-requires c = let ws = c.args.store.now in
 pub slice_bounds-places-end : goal.slice_bounds-places-end
 unfolding code_of
 slice_bounds-places-end c = let q = starts c.args.store.now c.args.s.now c.args.plots.now (length c.args.answer.now) (sym c.in_ok-may_read.ensures) in
-    omega (arith, q.short, c.places_of-places.ensures.sixteen)
+    omega (arith, q.short, c.places_of.ensures.long)
 
 pub slice_bounds-places-end-2 : goal.slice_bounds-places-end-2
 unfolding code_of
 slice_bounds-places-end-2 c = let q = starts c.args.store.now c.args.s.now c.args.plots.now (length c.args.answer.now) (sym c.in_ok-may_read.ensures) in
-    let n : length c.args.plots.now ≤ length c.places_of-places.result = omega (arith, q.short, c.places_of-places.ensures.sixteen) in
-    sym (length-take-le (length c.args.plots.now) c.places_of-places.result n)
+    let n : length c.args.plots.now ≤ length c.places_of.new.places = omega (arith, q.short, c.places_of.ensures.long) in
+    sym (length-take-le (length c.args.plots.now) c.places_of.new.places n)
 
 pub own_writes-requires : goal.own_writes-requires
 unfolding code_of
@@ -53,10 +53,10 @@ put_answers-requires c = let ws = c.args.store.now in
     let s = c.args.s.now in
     let plots = c.args.plots.now in
     let q = starts ws s plots (length c.args.answer.now) (sym c.in_ok-may_read.ensures) in
-    let all = c.places_of-places in
-    let n : length plots ≤ length all.result = omega (arith, q.short, all.ensures.sixteen) in
-    let long = length-take-le (length plots) all.result n in
-    let L = sighted ws s.read plots c.shown_by-visible.result (take (length plots) all.result) c.shown_by-visible.ensures (places_front ws c.shown_by-visible.result plots all.result all.ensures.found) in
+    let all = c.places_of in
+    let n : length plots ≤ length all.new.places = omega (arith, q.short, all.ensures.long) in
+    let long = length-take-le (length plots) all.new.places n in
+    let L = sighted ws s.read plots c.shown_by-visible.result (take (length plots) all.new.places) c.shown_by-visible.ensures (places_front ws c.shown_by-visible.result plots all.new.places all.ensures.found) in
     (subst OwnNamed (sym c.own_writes.ensures) q.named, q.short, long, q.room_for, λ j l. L.reach j (omega (arith, long)))
 
 pub note_all-seen-requires : goal.note_all-seen-requires
@@ -65,10 +65,10 @@ note_all-seen-requires c = let ws = c.args.store.now in
     let s = c.args.s.now in
     let plots = c.args.plots.now in
     let q = starts ws s plots (length c.args.answer.now) (sym c.in_ok-may_read.ensures) in
-    let all = c.places_of-places in
-    let n : length plots ≤ length all.result = omega (arith, q.short, all.ensures.sixteen) in
-    let long = length-take-le (length plots) all.result n in
-    let L = sighted ws s.read plots c.shown_by-visible.result (take (length plots) all.result) c.shown_by-visible.ensures (places_front ws c.shown_by-visible.result plots all.result all.ensures.found) in
+    let all = c.places_of in
+    let n : length plots ≤ length all.new.places = omega (arith, q.short, all.ensures.long) in
+    let long = length-take-le (length plots) all.new.places n in
+    let L = sighted ws s.read plots c.shown_by-visible.result (take (length plots) all.new.places) c.shown_by-visible.ensures (places_front ws c.shown_by-visible.result plots all.new.places all.ensures.found) in
     λ j l. L.reach j (omega (arith, long))
 
 pub show-requires : goal.show-requires
@@ -82,11 +82,11 @@ returns c = let ws = c.args.store.now in
     let plots = c.args.plots.now in
     let row = c.args.answer.now in
     let q = starts ws s plots (length row) (sym c.in_ok-may_read.ensures) in
-    let all = c.places_of-places in
-    let n : length plots ≤ length all.result = omega (arith, q.short, all.ensures.sixteen) in
-    let places = take (length plots) all.result in
-    let L = sighted ws s.read plots c.shown_by-visible.result places c.shown_by-visible.ensures (places_front ws c.shown_by-visible.result plots all.result all.ensures.found) in
-    let seen = c.note_all-seen.ensures ∙ ap (λ (m : ℕ). seen_to (found_among ws places) m (seen_of s)) (length-take-le (length plots) all.result n) in
+    let all = c.places_of in
+    let n : length plots ≤ length all.new.places = omega (arith, q.short, all.ensures.long) in
+    let places = take (length plots) all.new.places in
+    let L = sighted ws s.read plots c.shown_by-visible.result places c.shown_by-visible.ensures (places_front ws c.shown_by-visible.result plots all.new.places all.ensures.found) in
+    let seen = c.note_all-seen.ensures ∙ ap (λ (m : ℕ). seen_to (found_among ws places) m (seen_of s)) (length-take-le (length plots) all.new.places n) in
     let out = c.put_answers.ensures ∙ ap (λ (own : List Entry). sets row 0 (words_to (handed_among ws own plots places) (length plots))) c.own_writes.ensures in
     joint_accepted ws s plots row places (handed_among ws (content_of s).own plots places) _ _ _ c.in_ok-may_read.ensures L (stands_own ws s plots places L) seen
     (c.show.ensures ∙ c.shown_by-visible.ensures.left) out

@@ -28,8 +28,8 @@ current-place-requires c = let ws = c.args.store.now in
     let q = reads ws s c.args.plot (sym c.in_ok-may_read.ensures) in
     (q.sound, c.shown_by-visible.ensures.held)
 
-pub entry_in-first-requires : goal.entry_in-first-requires
-entry_in-first-requires c = subst (InSlots (length c.args.store.now)) (sym c.current-place.ensures) (c.shown_by-visible.ensures.place c.args.plot)
+pub handed-requires : goal.handed-requires
+handed-requires c = subst (InSlots (length c.args.store.now)) (sym c.current-place.ensures) (c.shown_by-visible.ensures.place c.args.plot)
 
 pub own_writes-requires : goal.own_writes-requires
 unfolding code_of
@@ -49,7 +49,7 @@ returns c = let ws = c.args.store.now in
     let plot = c.args.plot in
     let found = ap (found_at ws) c.current-place.ensures in
     let entry =
-    c.best_own.ensures ∙ ap₂ (λ (f : Found) (own : List Entry). best_own plot f own) (c.entry_in-first.ensures ∙ found) c.own_writes.ensures
+    c.handed.ensures ∙ ap₂ (λ (f : Found) (own : List Entry). best_own plot f own) found c.own_writes.ensures
     in
     read_accepted ws s plot (found_at ws (current_at ws c.shown_by-visible.result plot)) _ _ c.in_ok-may_read.ensures (c.shown_by-visible.ensures.found plot)
     entry (c.note.ensures ∙ ap (λ (f : Found). noted_seen f (seen_of s)) found) (c.show.ensures ∙ c.shown_by-visible.ensures.left)

@@ -1,6 +1,7 @@
 use Prim.Native.Nat.{ℕ, ◌^◌, ◌<◌}
 use lib.ListN.{get_or}
 use Rattle.causal.proofs.Array.{id_set}
+use Rattle.store.proofs.Changes.{revealed_visible}
 use Rattle.store.proofs.SoundChanges.{reveal_current, reveal_held, reveal_ids, reveal_store}
 use Rattle.office.proofs.Notes.{current_slots}
 use Rattle.reading.proofs.shown.shown_by.Goals as goal
@@ -13,6 +14,7 @@ returns c = let ws = c.args.store.now in
     let at = c.revealed_by in
     let held = reveal_held ws fit c.requires.0 read ids c.requires.1 at.result at.ensures in
     record {
+      shown = revealed_visible ws read at.result at.ensures;
       held = held;
       left = reveal_store ws fit c.requires.0 read ids c.requires.1 at.result at.ensures;
       place = λ plot. current_slots ws at.result.visible plot c.requires.0 (reveal_ids ws fit c.requires.0 read ids c.requires.1 at.result at.ensures).eight held;
