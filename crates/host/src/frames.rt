@@ -64,11 +64,16 @@ pub fn burial_check_frame(bytes: &[u8], offices: u32, plots: u32) -> u32
 pub fn burial_read_frame(words: &[u32], offices: u32, plots: u32) -> FrameAnswer
     ensures { ReadFramePromise words.now offices plots result.refusal result.frame }
 {
-    let read = read_frame(words, offices, plots);
-    FrameAnswer {
-        refusal: code_of(&read),
-        frame: read.unwrap_or(blank_frame()),
-    }
+    let frame = match read_frame(words, offices, plots) {
+        Ok(frame) => frame,
+        Err(refusal) => {
+            return FrameAnswer {
+                refusal: u32::from(refusal),
+                frame: blank_frame(),
+            };
+        }
+    };
+    FrameAnswer { refusal: 0, frame }
 }
 
 // 01: write a frame.

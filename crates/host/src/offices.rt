@@ -1,4 +1,5 @@
-// The calls of an office for a host. Sessions go in and come back by value.
+// The calls of an office for a host. Sessions go in and come back by value. A refusal is answered first, by a `return`, and what takes or gives a
+// session is compiled as a function of its own: otherwise the session is copied more often.
 ghost use Rattle.std.specs.Prelude.{◌≡◌, ◌≤◌};
 ghost use Rattle.office.specs.Promises.{FreshPromise, JointPromise, NeedPromise, OpenPromise, ReadPromise, ReceivePromise, SettingsPromise, WritePromise};
 ghost use Rattle.host.specs.Flags.{is_set};
@@ -6,12 +7,11 @@ ghost use Rattle.host.specs.Flags.{is_set};
 use crate::answer::{
     PlotAnswer, SessionAnswer, SettingsAnswer, WordsAnswer, WroteAnswer, session_answer,
 };
-use crate::in_place::{
-    PlotFound, burial_lent_read_joint, burial_lent_read_plot, burial_lent_write,
-};
+use frame::entry::blank_entry;
 use frame::refusal::code_of;
 use frame::session::{Session, blank_session};
 use office::settings::NO_SETTINGS;
+use reading::read::PlotRead;
 
 // 01: the call that gives the store's need.
 #[inline(always)]
@@ -54,26 +54,34 @@ pub fn burial_fresh_session(offices: u32) -> SessionAnswer
 }
 
 // 01: read one plot.
-#[inline(always)]
 pub fn burial_read_plot(store: &mut [u32], session: Session, plot: u32) -> PlotAnswer
     ensures { (result.found ≤ 1) × ReadPromise store.old session plot result.refusal (is_set result.found) result.entry result.session store.new }
 {
-    let mut left = session;
-    let PlotFound {
-        refusal,
-        found,
-        entry,
-    } = burial_lent_read_plot(store, &mut left, plot);
+    let read = reading::read::read_plot(store, session, plot);
+    let refusal = code_of(&read);
+    let Ok(
+        PlotRead {
+            entry,
+            session: after,
+        },
+    ) = read
+    else {
+        return PlotAnswer {
+            refusal,
+            found: 0,
+            entry: blank_entry(),
+            session,
+        };
+    };
     PlotAnswer {
         refusal,
-        found,
-        entry,
-        session: left,
+        found: u32::from(entry.is_some()),
+        entry: entry.unwrap_or(blank_entry()),
+        session: after,
     }
 }
 
 // 01: read jointly.
-#[inline(always)]
 pub fn burial_read_joint(
     store: &mut [u32],
     session: Session,
@@ -82,16 +90,22 @@ pub fn burial_read_joint(
 ) -> SessionAnswer
     ensures { JointPromise store.old session plots.now answer.old result.refusal result.session store.new answer.new }
 {
-    let mut left = session;
-    let refusal = burial_lent_read_joint(store, &mut left, plots, answer);
+    let left = match reading::joint::read_joint(store, session, plots, answer) {
+        Ok(left) => left,
+        Err(refusal) => {
+            return SessionAnswer {
+                refusal: u32::from(refusal),
+                session,
+            };
+        }
+    };
     SessionAnswer {
-        refusal,
+        refusal: 0,
         session: left,
     }
 }
 
 // 01: write.
-#[inline(always)]
 pub fn burial_write(
     store: &mut [u32],
     session: Session,
@@ -101,12 +115,20 @@ pub fn burial_write(
 ) -> WroteAnswer
     ensures { WritePromise store.old session plot value out.old (record { code = result.refusal; words = result.words }) result.session store.new out.new }
 {
-    let mut left = session;
-    let WordsAnswer { refusal, words } = burial_lent_write(store, &mut left, plot, value, out);
+    let wrote = match writing::write::write(store, session, plot, value, out) {
+        Ok(wrote) => wrote,
+        Err(refusal) => {
+            return WroteAnswer {
+                refusal: u32::from(refusal),
+                words: 0,
+                session,
+            };
+        }
+    };
     WroteAnswer {
-        refusal,
-        words,
-        session: left,
+        refusal: 0,
+        words: wrote.words,
+        session: wrote.session,
     }
 }
 

@@ -10,6 +10,7 @@ use office::note::set_seen;
 
 // 01: read one plot.
 #[tactic(auto, unfolding(frame::specs::Refusals::code_of, reading::specs::Answers::handed_by, reading::specs::Answers::seen_session))]
+#[inline(always)]
 pub fn read_plot(store: &mut [u32], s: &mut Session, plot: u32) -> Result<Option<Entry>, Refusal>
     ensures { ReadPromise store.old s.old plot (code_of result) (found_by result) (entry_by result) s.new store.new }
 {
@@ -20,6 +21,7 @@ pub fn read_plot(store: &mut [u32], s: &mut Session, plot: u32) -> Result<Option
 
 // 01: read jointly.
 #[tactic(auto, unfolding(frame::specs::Refusals::code_of))]
+#[inline(always)]
 pub fn read_joint(
     store: &mut [u32],
     s: &mut Session,
@@ -35,6 +37,7 @@ pub fn read_joint(
 
 // 01: write.
 #[tactic(auto, unfolding(frame::specs::Refusals::reply_of, writing::specs::Answers::words_by, writing::specs::Answers::entry_by, office::specs::Answers::with_made))]
+#[inline(always)]
 pub fn write(
     store: &mut [u32],
     s: &mut Session,

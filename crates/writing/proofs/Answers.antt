@@ -1,4 +1,6 @@
--- The content of the session that a write leaves is the one that Calls says. Assumes nothing.
+-- The content of the session that a write leaves is the one that Calls says; and what a write answers and makes of a session that carries nothing is
+-- right whatever stands in its row of entries. Assumes nothing.
+use Rattle.std.proofs.Common.{Err, Ok, Result}
 use Prim.Native.Nat.{ℕ, zero, suc, ◌+◌, ◌<◌}
 use mathlib.Core.Path.{◌≡◌, refl, ap, ap₂, ◌∙◌}
 use mathlib.Core.Bool.{Bool, true, false}
@@ -14,13 +16,18 @@ use Rattle.causal.proofs.Lists.{tab_more}
 use Rattle.frame.specs.declared.entry.Entry.{Entry}
 use Rattle.frame.specs.declared.entry.Frame.{Frame}
 use Rattle.frame.specs.declared.session.Session.{Session}
+use Rattle.frame.specs.declared.refusal.Refusal.{Refusal}
 use Rattle.frame.specs.Calls.{laid}
+use Rattle.frame.specs.Refusals.{Reply, number_of, reply_of}
 use Rattle.frame.specs.Sessions.{Content, content_of, nobody, session_ok}
 use Rattle.frame.specs.Tokens.{rows_of}
 use Rattle.frame.proofs.OwnTurns.{count_is}
+use Rattle.frame.proofs.Refusals.{number_some}
 use Rattle.store.specs.Offices.{Office, office_of, sound_store}
-use Rattle.office.specs.Calls.{Result, given, worded, new_entry, sent_of, hold_all, write_sends, write_code, write_on, wrote_session, write}
-use Rattle.office.specs.Answers.{session_if, extended_by, write_session}
+use Rattle.office.specs.Calls.{Result as Outcome, given, worded, new_entry, sent_of, hold_all, write_sends, write_code, write_on, wrote_session, write}
+use Rattle.office.specs.Answers.{session_if, extended_by, made_by, with_made, write_session}
+use Rattle.office.specs.Decide.{alone}
+use Rattle.office.specs.Promises.{MakePromise}
 
 tab_same : (n : ℕ) (f g : ℕ → Entry) → ((i : ℕ) → i < n → f i ≡ g i) → tab n f ≡ tab n g
 unfolding tab
@@ -46,7 +53,7 @@ content_extended s e l O plot value q =
       own = (own_extended s.own s.count e l ∙ ap (λ (y : Entry). tab s.count (λ j. get_or s.own j nobody) ++ (y ∷ [])) q) i;
     })
 
-abbrev wrote : Office → Content → ℕ → ℕ → List ℕ → Result Office Frame
+abbrev wrote : Office → Content → ℕ → ℕ → List ℕ → Outcome Office Frame
 wrote O s plot value row =
     record {
       code = 0;
@@ -80,3 +87,20 @@ write_content ws s n plot value row = go (sound_store ws) (write_code (office_of
     go true zero e = content_extended s (new_entry (office_of ws) (content_of s) plot value) (few e) (office_of ws) plot value refl
     go true (suc c) e = refl
     go false c e = refl
+
+-- ---- a session that carries nothing
+
+-- the session that is left, by the reply and the entry
+left_by : (s : Session) (c w : ℕ) (N : Entry) (r : Result ℕ Refusal) (e : Entry) → ◌≡◌ {A = Reply} (reply_of r) (record { code = c; words = w }) → e ≡ made_by c N
+    → with_made s r e ≡ session_if c s (extended_by s N)
+unfolding reply_of with_made made_by session_if
+left_by s zero w N (Ok m) e p q = ap (extended_by s) q
+left_by s (suc c) w N (Ok m) e p q = let n : 0 ≡ suc c = ap (λ (k : Reply). k.code) p in absurd (omega arith)
+left_by s zero w N (Err x) e p q = absurd (number_some x (ap (λ (k : Reply). k.code) p))
+left_by s (suc c) w N (Err x) e p q = refl
+
+-- what is right for one row of entries is so for every other
+pub made_alone : (ws : List ℕ) (n : ℕ) (clock read : List ℕ) (own own' : List Entry) (plot value : ℕ) (row : List ℕ) (r : Result ℕ Refusal) (e : Entry) (ws' row' : List ℕ)
+    → MakePromise ws (alone n clock read own) plot value row r e ws' row' → MakePromise ws (alone n clock read own') plot value row r e ws' row'
+unfolding content_of tab write_session
+made_alone ws n clock read own own' plot value row r e ws' row' h = ((h.0.0, left_by (alone n clock read own') _ _ _ r e h.0.0 h.1, h.0.2, h.0.3), h.1)

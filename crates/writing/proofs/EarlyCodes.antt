@@ -1,18 +1,19 @@
 -- The refusals of a write before the room is known, as code finds them. Assumes nothing.
-use Prim.Native.Nat.{ℕ}
+use Prim.Native.Nat.{ℕ, zero, suc, ◌≤◌}
 use mathlib.Core.Path.{◌≡◌, refl, sym, ◌∙◌}
 use mathlib.Core.Bool.{Bool, true, false}
-use mathlib.Core.List.{List}
+use mathlib.Core.List.{List, [], ◌∷◌}
 use native.Mathlib.Omega.{arith}
 use lib.Dec.{ltb, leb}
 use lib.ListN.{length, get_or}
 use Rattle.causal.specs.Codes.{check, or_else}
 use Rattle.causal.specs.Sets.{subset_of}
 use Rattle.causal.proofs.Codes.{check_none, or_some, or_stops, or_goes}
+use Rattle.frame.specs.declared.entry.Entry.{Entry}
 use Rattle.frame.specs.Sessions.{Content, session_ok}
 use Rattle.frame.specs.Tokens.{rows_of}
 use Rattle.store.specs.Offices.{Office, sound_store, made}
-use Rattle.office.specs.Calls.{own_code, write_code, write_sends}
+use Rattle.office.specs.Calls.{entry_code, own_code, write_code, write_sends}
 use Rattle.office.specs.Decide.{start_code}
 use Rattle.writing.specs.Writes.{first_codes, second_codes, early_code}
 
@@ -81,3 +82,31 @@ pub early_own : (b : Bool) (O : Office) (s : Content) (plot value x : ℕ) → c
     → second_codes O (length s.own) s.read ≡ 0 → x ≡ own_code O s.own → x ≡ check b 2 (early_code O s plot value)
 unfolding early_code check or_else
 early_own b O s plot value x z w e = let a = check_none b 2 _ (omega arith) z in rw (a.0, a.1, w) e
+
+-- ---- every number is one of the paper's
+
+check_le : (A : Bool) (k B : ℕ) → k ≤ 12 → B ≤ 12 → check A k B ≤ 12
+unfolding check
+check_le true k B h l = l
+check_le false k B h l = h
+
+or_le : (a b : ℕ) → a ≤ 12 → b ≤ 12 → or_else a b ≤ 12
+unfolding or_else
+or_le zero b h l = l
+or_le (suc a) b h l = h
+
+entry_le : (O : Office) (e : Entry) → entry_code O e ≤ 12
+unfolding entry_code
+entry_le O e = check_le _ 10 _ (omega arith) (check_le _ 11 0 (omega arith) (omega arith))
+
+own_le : (O : Office) (es : List Entry) → own_code O es ≤ 12
+unfolding own_code
+own_le O [] = omega arith
+own_le O (e ∷ es) = or_le (entry_code O e) (own_code O es) (entry_le O e) (own_le O es)
+
+pub early_le : (b : Bool) (O : Office) (s : Content) (plot value : ℕ) → check b 2 (early_code O s plot value) ≤ 12
+unfolding early_code first_codes second_codes
+early_le b O s plot value =
+    check_le b 2 _ (omega arith)
+    (or_le _ _ (check_le _ 3 _ (omega arith) (check_le _ 4 _ (omega arith) (check_le _ 5 0 (omega arith) (omega arith))))
+    (or_le _ _ (check_le _ 7 _ (omega arith) (check_le _ 6 _ (omega arith) (check_le _ 12 0 (omega arith) (omega arith)))) (own_le O s.own)))

@@ -145,6 +145,7 @@ pub fn make(
 }
 
 // 01: write.
+#[inline(always)]
 pub fn write(
     store: &mut [u32],
     s: Session,
