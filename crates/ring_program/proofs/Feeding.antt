@@ -113,12 +113,16 @@ other_line (Move i o) h k = refl
 other_line (Receive o) h k = refl
 other_line Other h k = refl
 
--- the session that a line names, put back or left as it is
+-- a session that was lent stays where it is
+pub lent : (ss : List Session) (i : ℕ) → set ss i (get_or ss i no_session) ≡ ss
+lent ss i = set-get_or ss i no_session
+
+-- the session that a line names, after it was lent: changed, or as it was
 pub put_back : (P : List Session → Type 0) (ss : List Session) (i : ℕ) (t u : Session) → t ≡ u → P (set ss i t) → P (set ss i u)
 put_back P ss i t u e p = subst (λ (x : Session). P (set ss i x)) e p
 
-pub left : (P : List Session → Type 0) (ss : List Session) (i : ℕ) (t : Session) → t ≡ get_or ss i no_session → P (set ss i t) → P ss
-left P ss i t e p = subst P (ap (set ss i) e ∙ set-get_or ss i no_session) p
+pub put_lent : (P : List Session → Type 0) (ss : List Session) (i : ℕ) (t u : Session) → t ≡ u → P (set ss i t) → P (set (set ss i (get_or ss i no_session)) i u)
+put_lent P ss i t u e p = subst (λ (x : List Session). P (set x i u)) (sym (lent ss i)) (put_back P ss i t u e p)
 
 pub none_of : {A : Type 0} (o : Option A) → ((x : A) → o ≡ Some x → ⊥) → o ≡ None
 none_of None h = refl

@@ -30,8 +30,7 @@ pub struct Stage {
     pub wrote: bool,
 }
 
-// A line played, by the session that it names, if it names one. The sessions are large: a line copies no more than the one that it names, and puts it
-// back where it has changed.
+// A line played, by the session that it names, if it names one. The sessions are large: the one that a line names is lent, and changed where it stands.
 fn play(
     stage: &mut Stage,
     line: Line,
@@ -45,22 +44,19 @@ fn play(
     match line {
         Line::Write(who, plot, value) => {
             let who = who as usize;
-            let mut s = stage.sessions[who];
-            let turn = write_line(stage.board, who, &s, plot, value, stores, lines, out);
+            let s = &stage.sessions[who];
+            let turn = write_line(stage.board, who, s, plot, value, stores, lines, out);
             stage.board = turn.board;
             if let Some(entry) = turn.entry {
-                extend(&mut s, &entry);
-                stage.sessions[who] = s;
+                extend(&mut stage.sessions[who], &entry);
             }
             turn.reply
         }
         Line::Read(who, plot) => {
             let who = who as usize;
-            let mut s = stage.sessions[who];
-            let turn = read_line(stage.board, who, &s, plot, stores);
+            let turn = read_line(stage.board, who, &stage.sessions[who], plot, stores);
             if let Some(seen) = turn.seen {
-                set_seen(&mut s, seen);
-                stage.sessions[who] = s;
+                set_seen(&mut stage.sessions[who], seen);
             }
             turn.reply
         }
@@ -93,11 +89,11 @@ pub fn feed_some(
         }
         let taken = take(stage.pending, bytes, i);
         i = taken.next;
-        stage.pending = taken.pending;
         if !taken.ended {
+            stage.pending = taken.pending;
             return i;
         }
-        let line = parse(stage.pending);
+        let line = parse(taken.pending);
         let reply = play(&mut *stage, line, &mut *stores, &mut *lines, &mut *out);
         stage.at = put_reply(reply, &mut *text, stage.at);
         stage.pending = nothing();

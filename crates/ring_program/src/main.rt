@@ -37,7 +37,7 @@ pub struct Outcome {
 
 // A proved loop has to end, and nothing says that the input does: bytes are counted down from a number that no input has.
 fn read_on(
-    stdin: Stdin,
+    mut stdin: Stdin,
     stdout: Stdout,
     reached: &mut Progress,
     stores: &mut [u32],
@@ -50,7 +50,7 @@ fn read_on(
     ensures { Reads reached.old stores.old lines.old result reached.new stores.new lines.new text.new }
 {
     while reached.left >= 4096 {
-        reached.said = read_chunk(stdin, &mut *input, &mut reached.left);
+        reached.said = read_chunk(&mut stdin, &mut *input, &mut reached.left);
         let n = reached.said.unwrap_or(0);
         if n == 0 {
             let said = reached.said;

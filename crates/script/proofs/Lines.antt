@@ -13,7 +13,7 @@ use Rattle.script.specs.declared.line.Line.TheVariants.{Write, Read, Move, Recei
 
 -- ---- the letter
 
-no_letter : (b : ℕ) (k : List ℕ) → (length k ≡ 1 → ⊥) → is b k ≡ false
+pub no_letter : (b : ℕ) (k : List ℕ) → (length k ≡ 1 → ⊥) → is b k ≡ false
 unfolding eq_words
 no_letter b [] h = refl
 no_letter b (x ∷ []) h = absurd (h refl)

@@ -8,11 +8,15 @@ use Rattle.causal.proofs.Tests.{both_true, both_false, both_intro, both_one}
 use Rattle.script.specs.Fields.{is_digit, all_digits, proper, value_of, with_digit, is_below}
 use Rattle.script.specs.Steps.{with_digit_of, below_of, number_of}
 
+pub cond_same : {A : Type 0} (t : Bool) (x y z : A) → (t ≡ true → x ≡ y) → cond t x z ≡ cond t y z
+cond_same true x y z f = f refl
+cond_same false x y z f = refl
+
 pub digit_is : (b : ℕ) → 48 ≤ b → b ≤ 57 → is_digit b ≡ true
 unfolding is_digit
 digit_is b p q = both_intro (leb 48 b) (leb b 57) (le-leb 48 b p) (le-leb b 57 q)
 
-value_grows : (v : ℕ) (f : List ℕ) → v ≤ foldl with_digit v f
+pub value_grows : (v : ℕ) (f : List ℕ) → v ≤ foldl with_digit v f
 value_grows v [] = omega arith
 value_grows v (b ∷ f) = omega (arith, value_grows (10 * v + (b - 48)) f)
 

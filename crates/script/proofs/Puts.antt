@@ -8,7 +8,7 @@ use Rattle.script.specs.Puts.{Put}
 use Rattle.script.specs.Steps.{Puts}
 use Rattle.script.specs.declared.put.Row.{Row}
 
-put_then : {row : List ℕ} {at : ℕ} {xs mid : List ℕ} {end : ℕ} {ys after : List ℕ} {stop : ℕ}
+pub put_then : {row : List ℕ} {at : ℕ} {xs mid : List ℕ} {end : ℕ} {ys after : List ℕ} {stop : ℕ}
     → Put row at xs mid end → Put mid end ys after stop → Put row at (xs ++ ys) after stop
 put_then {row} {at} {xs} {mid} {end} {ys} {after} {stop} p q =
     record {

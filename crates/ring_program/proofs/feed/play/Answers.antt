@@ -1,6 +1,7 @@
 use mathlib.Core.List.{List}
 use mathlib.Core.Path.{◌∙◌, ap, refl, sym}
 use lib.ListN.{get_or}
+use Rattle.std.specs.Prelude.{Some}
 use Rattle.frame.specs.declared.session.Session.{Session}
 use Rattle.player.specs.Desks.{desk, no_session}
 use Rattle.player.specs.Steps.{Plays, after_read, after_write}
@@ -18,8 +19,10 @@ returns-in-Some c = let a = c.args in
       refl,
       λ g S.
           rw w.is
-          (fd.put_back (λ (l : List Session). Plays a.out.now g (Write w.who w.plot w.value) (record { desk = desk l q.result.board; reply = q.result.reply }) q.new.stores q.new.lines) ss w.who _ _
-          (ap (after_write (get_or ss w.who no_session)) c.in-Some.is ∙ sym c.extend.ensures) (q.ensures.1 ss g refl S)),
+          (fd.put_lent (λ (l : List Session). Plays a.out.now g (Write w.who w.plot w.value) (record { desk = desk l q.result.board; reply = q.result.reply }) q.new.stores q.new.lines) ss w.who _ _
+          (ap (after_write (get_or ss w.who no_session)) c.in-Some.is
+          ∙ ap (λ (l : List Session). after_write (get_or l w.who no_session) (Some c.in-Some.entry)) (sym (fd.lent ss w.who))
+          ∙ sym c.extend.ensures) (q.ensures.1 ss g refl S)),
     )
 
 pub returns-in_default-entry : goal.returns-in_default-entry
@@ -32,7 +35,7 @@ returns-in_default-entry c = let a = c.args in
       refl,
       λ g S.
           rw w.is
-          (fd.left (λ (l : List Session). Plays a.out.now g (Write w.who w.plot w.value) (record { desk = desk l q.result.board; reply = q.result.reply }) q.new.stores q.new.lines) ss w.who _
+          (fd.put_back (λ (l : List Session). Plays a.out.now g (Write w.who w.plot w.value) (record { desk = desk l q.result.board; reply = q.result.reply }) q.new.stores q.new.lines) ss w.who _ _
           (ap (after_write (get_or ss w.who no_session)) (fd.none_of q.result.entry c.in_default-entry.not-Some)) (q.ensures.1 ss g refl S)),
     )
 
@@ -46,8 +49,10 @@ returns-in-Some-seen c = let a = c.args in
       refl,
       λ g S.
           rw w.is
-          (fd.put_back (λ (l : List Session). Plays a.out.now g (Read w.who w.plot) (record { desk = desk l a.stage.now.board; reply = q.result.reply }) q.new.stores a.lines.now) ss w.who _ _
-          (ap (after_read (get_or ss w.who no_session)) c.in-Some-seen.is ∙ sym c.set_seen.ensures) (q.ensures ss a.out.now a.lines.now g refl S)),
+          (fd.put_lent (λ (l : List Session). Plays a.out.now g (Read w.who w.plot) (record { desk = desk l a.stage.now.board; reply = q.result.reply }) q.new.stores a.lines.now) ss w.who _ _
+          (ap (after_read (get_or ss w.who no_session)) c.in-Some-seen.is
+          ∙ ap (λ (l : List Session). after_read (get_or l w.who no_session) (Some c.in-Some-seen.seen)) (sym (fd.lent ss w.who))
+          ∙ sym c.set_seen.ensures) (q.ensures ss a.out.now a.lines.now g refl S)),
     )
 
 pub returns-in_default-seen : goal.returns-in_default-seen
@@ -60,7 +65,7 @@ returns-in_default-seen c = let a = c.args in
       refl,
       λ g S.
           rw w.is
-          (fd.left (λ (l : List Session). Plays a.out.now g (Read w.who w.plot) (record { desk = desk l a.stage.now.board; reply = q.result.reply }) q.new.stores a.lines.now) ss w.who _
+          (fd.put_back (λ (l : List Session). Plays a.out.now g (Read w.who w.plot) (record { desk = desk l a.stage.now.board; reply = q.result.reply }) q.new.stores a.lines.now) ss w.who _ _
           (ap (after_read (get_or ss w.who no_session)) (fd.none_of q.result.seen c.in_default-seen.not-Some)) (q.ensures ss a.out.now a.lines.now g refl S)),
     )
 
